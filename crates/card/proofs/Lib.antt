@@ -1,0 +1,4 @@
+pub mod Decides
+pub mod Sums
+pub mod Yields
+pub mod Ranges

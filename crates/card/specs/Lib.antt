@@ -1,0 +1,9 @@
+pub mod Finite
+pub mod Numbers
+pub mod Bits
+pub mod Card
+pub mod Format
+pub mod Grammar
+pub mod Reading
+pub mod Writing
+pub mod Wellformed

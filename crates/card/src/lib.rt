@@ -1,0 +1,15 @@
+// Layer 1: the card's format. specs/ says what a card is, how it is read and how it is written.
+
+// Why bytes, or tables, are no card. specs/Numbers.antt gives the paper's number of each.
+pub enum FormatFault {
+    Truncated,
+    BadVersion,
+    BadSize,
+    BadParent,
+    BadType,
+    BadCount,
+    BadPlace,
+    BadTransition,
+    BadFill,
+    BadTable,
+}

@@ -1,0 +1,5 @@
+pub mod Conditions
+pub mod Numbers
+pub mod Check
+pub mod Judgement
+pub mod Output

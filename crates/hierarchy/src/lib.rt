@@ -1,0 +1,26 @@
+// Layer 2: the conditions on a card's hierarchy. specs/ says what they are, what the check answers and what the writer leaves.
+
+// Why a card is turned back: its format is at fault, or its hierarchy is. specs/Numbers.antt gives the paper's number of each.
+pub enum CardFault {
+    Format(card::FormatFault),
+    Unseen,
+    Direction,
+    Weight,
+    Repeated,
+    NoUnit,
+    NoInterface,
+    Unlike,
+}
+
+// The check's answer. Accepted: how many subnets, places and transitions. Refused: why, and at which bit.
+pub enum Answer {
+    Accepted(usize, usize, usize),
+    Refused(CardFault, usize),
+}
+
+// What comes of writing into a lent buffer. Wrote: how many bytes. Refused: why, and at which bit. Short: how many bytes it needs.
+pub enum Written {
+    Wrote(usize),
+    Refused(CardFault, usize),
+    Short(usize),
+}

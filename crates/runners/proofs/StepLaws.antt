@@ -1,0 +1,94 @@
+-- What an accepted row does: rule 50 of document 000, with nothing cut off, and every place stays covered. Assumes nothing.
+use Prim.Native.Nat.{ℕ, _+_, _-_, _*_, _≤_, _<_}
+use mathlib.Core.Path.{_≡_, refl, _∙_}
+use mathlib.Core.Logic.{_↔_, Iff·trans}
+use mathlib.Core.Bool.{Bool, true, false, cond}
+use mathlib.Core.List.{List}
+use mathlib.Core.Option.{none}
+use native.Mathlib.Omega.{arith}
+use lib.ListN.{length}
+use lib.Dec.{eqb}
+use borrow.Author.Tests.{eqb-true}
+use Rattle.card.proofs.Sums.{sum-same, sum-plus, table-at}
+use Rattle.card.proofs.Decides.{Decides, le-is, and-is, someIf-not-is, firstOf-is}
+use Rattle.card.specs.Card.{Card, draws, fills}
+use Rattle.runners.specs.State.{NetState, scale, entry, transfer, remaining, incidence, flow, owed, due, limit, covered}
+use Rattle.runners.specs.Step.{started, conflict, moves, advanced, next}
+use Rattle.runners.specs.declared.Transfer.{Transfer}
+use Rattle.runners.specs.declared.Transfer.the-variants.{Idle, Carrying}
+
+-- the place has all that is owed, and room for all that is due
+pub record Covered (f : Card) (ms : List ℕ) (xs : List Transfer) (p : ℕ) : Type 0 where
+  pub has : owed f xs p ≤ entry ms p
+  pub space : entry ms p + due f xs p ≤ limit f p
+
+pub covered-is : (f : Card) (ms : List ℕ) (xs : List Transfer) (p : ℕ) → Decides (covered f ms xs p) (Covered f ms xs p)
+unfolding covered
+covered-is f ms xs p =
+    Iff·trans (and-is _ _ _ _ (le-is (owed f xs p) (entry ms p)) (le-is (entry ms p + due f xs p) (limit f p)))
+    (λ h. record { has = h .0; space = h .1 }, λ h. (h .has, h .space))
+
+-- there is no conflict just where every place is covered with the candidates' claims
+pub conflict-is : (f : Card) (s : NetState) (row : List ℕ)
+    → (conflict f s row ≡ none) ↔ ((p : ℕ) → p < length (f .places) → Covered f (s .markings) (started f s row) p)
+unfolding conflict
+conflict-is f s row =
+    Iff·trans (firstOf-is 0 (length (f .places)) _ _ (λ p. someIf-not-is _ _ _ (covered-is f (s .markings) (started f s row) p)))
+    (λ h p l. h p (omega arith) (omega arith), λ h p a b. h p (omega arith))
+
+-- a flow of amounts that are two each is the two flows
+flow-split : (f : Card) (a b d : ℕ → ℕ) (way p : ℕ) → ((t : ℕ) → t < length (f .transitions) → a t ≡ b t + d t) → flow f a way p ≡ flow f b way p + flow f d way p
+unfolding flow
+flow-split f a b d way p h =
+    sum-same (length (f .transitions)) _ (λ t. b t * incidence f way t p + d t * incidence f way t p) (λ t l. rw (h t l) (omega arith))
+    ∙ sum-plus (length (f .transitions)) _ _
+
+-- what remains of a transfer falls by what it moves
+remaining-advanced : (f : Card) (x : Transfer) (d : ℕ) → d ≤ remaining f x → remaining f x ≡ remaining f (advanced f x d) + d
+remaining-advanced f Idle d h = omega arith
+remaining-advanced f (Carrying c) d h = go (eqb (c + d) (scale f)) refl
+  where
+    go : (b : Bool) → eqb (c + d) (scale f) ≡ b → scale f - c ≡ remaining f (cond b Idle (Carrying (c + d))) + d
+    go true e = omega (arith, eqb-true (c + d) (scale f) e)
+    go false e = omega arith
+
+module _ (f : Card) (s : NetState) (row : List ℕ) where
+  pub moves-few : (t : ℕ) → moves f s row t ≤ remaining f (transfer (started f s row) t)
+  unfolding moves
+  moves-few t = omega arith
+
+  moves-remaining : (t : ℕ) → t < length (f .transitions) → remaining f (transfer (started f s row) t) ≡ remaining f (transfer ((next f s row) .transfers) t) + moves f s row t
+  unfolding next
+  moves-remaining t l =
+      rw (table-at (length (f .transitions)) (λ u. advanced f (transfer (started f s row) u) (moves f s row u)) Idle t l)
+      (remaining-advanced f (transfer (started f s row) t) (moves f s row t) (moves-few t))
+
+  -- what was owed is what is still owed and what was lost, and what was due is what is still due and what was gained
+  owed-split : (p : ℕ) → owed f (started f s row) p ≡ owed f ((next f s row) .transfers) p + flow f (moves f s row) draws p
+  unfolding owed
+  owed-split p = flow-split f _ _ (moves f s row) draws p moves-remaining
+
+  due-split : (p : ℕ) → due f (started f s row) p ≡ due f ((next f s row) .transfers) p + flow f (moves f s row) fills p
+  unfolding due
+  due-split p = flow-split f _ _ (moves f s row) fills p moves-remaining
+
+  marking-at : (p : ℕ) → p < length (f .places)
+      → entry ((next f s row) .markings) p ≡ entry (s .markings) p + flow f (moves f s row) fills p - flow f (moves f s row) draws p
+  unfolding next
+  marking-at p l = table-at (length (f .places)) (λ q. entry (s .markings) q + flow f (moves f s row) fills q - flow f (moves f s row) draws q) 0 p l
+
+  -- RULE 50: m′ = m + d · (C⁺ - C⁻)
+  pub rule-50 : conflict f s row ≡ none → (p : ℕ) → p < length (f .places)
+      → entry ((next f s row) .markings) p + flow f (moves f s row) draws p ≡ entry (s .markings) p + flow f (moves f s row) fills p
+  rule-50 e p l =
+      let k = conflict-is f s row .0 e p l in
+      omega (arith, k .has, owed-split p, marking-at p l)
+
+  -- EVERY PLACE STAYS COVERED (`safe-step`), so no marking leaves 0 to 1000 × K
+  pub safe-step : conflict f s row ≡ none → (p : ℕ) → p < length (f .places) → Covered f ((next f s row) .markings) ((next f s row) .transfers) p
+  safe-step e p l =
+      let k = conflict-is f s row .0 e p l in
+      record {
+        has = omega (arith, k .has, owed-split p, rule-50 e p l);
+        space = omega (arith, k .space, k .has, due-split p, rule-50 e p l);
+      }

@@ -1,0 +1,23 @@
+-- Flattening ('Flattening'; document 000, Definition 7 and equations 13 and 31).
+use mathlib.Core.List.{[], _∷_, map}
+use lib.ListN.{length}
+use Rattle.card.specs.Card.{Place, Arc, Card, normal, flatPlace}
+
+abbrev pub flatPlaceRow : Place → Place
+flatPlaceRow p = record { kind = normal; capacity = p .capacity; tokens = p .tokens }
+
+abbrev pub flatArc : Card → Arc → Arc
+flatArc c a = record { direction = a .direction; subnet = 0; place = flatPlace c a; weight = a .weight }
+
+-- The flat net is a card: S 1, parent and type 0, the totals as counts, all kinds normal, arcs in order with subnet 0 and flat place, every
+-- other field as it was.
+unfoldable pub flatten : Card → Card
+flatten c =
+    record {
+      version = c .version;
+      signals = c .signals;
+      subnets = record { parent = 0; type = 0; places = length (c .places); transitions = length (c .transitions) } ∷ [];
+      places = map flatPlaceRow (c .places);
+      transitions = c .transitions;
+      arcs = map (flatArc c) (c .arcs);
+    }

@@ -1,0 +1,11 @@
+pub mod Numbers
+pub mod Flattening
+pub mod State
+pub mod Step
+pub mod Rows
+pub mod Calls
+pub mod Traces
+pub mod Visits
+pub mod Text
+pub mod Programs
+pub mod Cases

@@ -1,0 +1,58 @@
+-- A list of row calls and what comes of it ('The two runners': demand 3 is one claim about the whole list of row calls, and not one for each
+-- call).
+use Prim.Native.Nat.{ℕ, _≤_, _<_}
+use mathlib.Core.Path.{_≡_}
+use mathlib.Core.Bool.{true}
+use mathlib.Core.List.{List, [], _∷_, map}
+use lib.ListN.{length}
+use Rattle.card.specs.Finite.{All}
+use Rattle.card.specs.Card.{Card}
+use Rattle.hierarchy.specs.Judgement.{accepted, judge}
+use Rattle.runners.specs.Numbers.{RowOutcome}
+use Rattle.runners.specs.Flattening.{flatten}
+use Rattle.runners.specs.State.{NetState, entry, fresh, limit}
+use Rattle.runners.specs.Rows.{step}
+use Rattle.runners.specs.Calls.{view, freshLent, eachOnce, flatCall, subnetCall}
+use Rattle.runners.specs.declared.State.{State as Lent}
+
+-- Each reply with the state after it. Each call gets the state that the call before returned or left.
+unfoldable pub trace : {S C : Type 0} → (S → C → RowOutcome × S) → S → List C → List (RowOutcome × S)
+trace call s [] = []
+trace call s (c ∷ cs) = call s c ∷ trace call ((call s c) .1) cs
+
+-- a row, and the visiting order that the subnet runner is lent for it
+pub record Call : Type 0 where
+  pub row : List ℕ
+  pub order : List ℕ
+
+-- the two runners, and what tests 20 and 21, and then the step, give on the flat net, run on the rows alone
+abbrev pub flatTrace : (card : List ℕ) → Lent → List Call → List (RowOutcome × Lent)
+flatTrace card = trace (λ l k. flatCall card l (k .row))
+
+abbrev pub subnetTrace : (card : List ℕ) → Lent → List Call → List (RowOutcome × Lent)
+subnetTrace card = trace (λ l k. subnetCall card (k .order) l (k .row))
+
+abbrev pub netTrace : (f : Card) → NetState → List Call → List (RowOutcome × NetState)
+netTrace f = trace (λ s k. step f s (k .row))
+
+-- a reply, with the state that a lent one holds
+abbrev pub observed : RowOutcome × Lent → RowOutcome × NetState
+observed x = (x .0, view (x .1))
+
+-- every marking is 0 to 1000 × K
+abbrev pub Bounded : (f : Card) → NetState → Type 0
+Bounded f s = (p : ℕ) → p < length (f .places) → entry (s .markings) p ≤ limit f p
+
+-- At the start and after each call the replies and states of both runners are equal, and those of the paper's own step on the flat net, run
+-- from its own fresh state; and every marking is in range. A runner's first call gets its fresh state.
+pub record Agreement (card : List ℕ) (c : Card) (calls : List Call) : Type 0 where
+  pub start : view (freshLent (flatten c)) ≡ fresh (flatten c)
+  pub runners : subnetTrace card (freshLent (flatten c)) calls ≡ flatTrace card (freshLent (flatten c)) calls
+  pub net : map observed (flatTrace card (freshLent (flatten c)) calls) ≡ netTrace (flatten c) (fresh (flatten c)) calls
+  pub bounded : All (Bounded (flatten c)) (fresh (flatten c) ∷ map (λ x. x .1) (netTrace (flatten c) (fresh (flatten c)) calls))
+
+-- Demand 3: for every accepted card and every list of row calls, refused rows among them, whatever the valid visiting orders.
+abbrev pub Demand3 : Type 0
+Demand3 =
+    (card : List ℕ) (c : Card) (calls : List Call) → judge card ≡ accepted c → All (λ k. eachOnce (length (c .subnets)) (k .order) ≡ true) calls
+    → Agreement card c calls

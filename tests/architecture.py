@@ -1,0 +1,54 @@
+#!/usr/bin/env python3
+"""docs/ARCHITECTURE.md tells the truth: each name in its tables is declared in the file beside it, and each file is there."""
+
+import pathlib
+import re
+import sys
+
+root = pathlib.Path(__file__).resolve().parent.parent
+GROUP = re.compile(r"((?:`[^`]+`(?:, )?)+) in (\S+)")
+FILE = re.compile(r"^tests/\S+$")
+
+
+def path_of(place):
+    """A crate's path, as card/specs/Bits.antt, or one of the repository."""
+    return root / "crates" / place
+
+
+def declared(name, place):
+    path = path_of(place)
+    if place.endswith("/must-fail"):
+        return (path / f"{name}.edit").is_file()
+    if not path.is_file():
+        return False
+    marks = r"(?:unfoldable |abbrev |pub |record |data |fn |struct |enum )*"
+    return re.search(rf"^\s*{marks}{re.escape(name)}(?=[ :({{]|$)", path.read_text(), re.M) is not None
+
+
+def cells(text):
+    for line in text.split("\n"):
+        if line.startswith("| ") and not set(line) <= set("|- "):
+            yield line, [cell.strip() for cell in line.strip("|").split(" | ")][1:]
+
+
+def main():
+    passed, wrong = 0, []
+    for line, columns in cells((root / "docs/ARCHITECTURE.md").read_text()):
+        for column in columns:
+            for part in column.split("; "):
+                group = GROUP.match(part)
+                if group:
+                    names = re.findall(r"`([^`]+)`", group.group(1))
+                    missing = [name for name in names if not declared(name, group.group(2))]
+                    passed += len(names) - len(missing)
+                    wrong += [f"{name} is not declared in {group.group(2)}" for name in missing]
+                elif FILE.match(part):
+                    passed += (root / part).is_file()
+                    wrong += [] if (root / part).is_file() else [f"{part} is not there"]
+    for text in wrong:
+        print(text)
+    print(f"{passed} passed, {len(wrong)} failed")
+    sys.exit(1 if wrong else 0)
+
+
+main()

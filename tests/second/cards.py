@@ -1,0 +1,200 @@
+"""Random cards and rows, sound and damaged."""
+
+from net import (Arc, Card, DRAW, FILL, NORMAL, Place, Subnet, Transition, encode, encode_row,
+                 fits)
+
+# The directions that a parent may use at a place, by kind.
+PARENT_MAY = ((), (FILL,), (DRAW,), (DRAW, FILL))
+
+
+def tables(signals, *subnets, version=1):
+    """Tables from subnets (parent, type, places, transitions), transitions (signal, arcs)."""
+    card = Card(signals, [], [], [], [], version)
+    for parent, type_, places, transitions in subnets:
+        card.subnets.append(Subnet(parent, type_, len(places), len(transitions)))
+        card.places.extend(Place(*place) for place in places)
+        for signal, arcs in transitions:
+            card.transitions.append(Transition(signal, len(arcs)))
+            card.arcs.extend(Arc(*arc) for arc in arcs)
+    return card
+
+
+def change(card, table, index, **values):
+    """Tables with one row changed."""
+    changed = Card(card.signals, list(card.subnets), list(card.places), list(card.transitions),
+                   list(card.arcs), card.version)
+    rows = getattr(changed, table)
+    rows[index] = rows[index]._replace(**values)
+    return changed
+
+
+def random_transition(rng, number, ends, places, signals):
+    """An arc at the capacity-1 place 0 of its subnet, then others that are allowed."""
+    chosen = {(rng.randrange(2), number, 0)}
+    chosen.update(rng.sample(ends, rng.randint(0, min(3, len(ends)))))
+    arcs = [(*end, rng.randint(1, places[end[1]][end[2]][1])) for end in chosen]
+    rng.shuffle(arcs)
+    return (rng.randrange(signals), arcs)
+
+
+def random_card(rng, most_subnets=5, most_rows=4, most_signals=4):
+    """The tables of a random accepted card, every type 0. Place 0 of each subnet has capacity 1."""
+    subnets = rng.randint(1, most_subnets)
+    parents = [0] + [rng.randrange(number) for number in range(1, subnets)]
+    places = []
+    for number in range(subnets):
+        rows = []
+        for local in range(rng.randint(1, most_rows)):
+            capacity = 1 if local == 0 else rng.randint(1, 4)
+            kind = NORMAL if number == 0 else rng.randrange(4) if local else rng.randint(1, 3)
+            rows.append((kind, capacity, rng.randint(0, capacity)))
+        places.append(rows)
+    signals = rng.randint(1, most_signals)
+    rows = []
+    for number in range(subnets):
+        ends = [(direction, owner, local)
+                for owner in range(subnets) for local, place in enumerate(places[owner])
+                for direction in (DRAW, FILL)
+                if owner == number or owner != 0 and parents[owner] == number
+                and direction in PARENT_MAY[place[0]]]
+        transitions = [random_transition(rng, number, ends, places, signals)
+                       for _ in range(rng.randint(1, most_rows))]
+        rows.append((parents[number], 0, places[number], transitions))
+    return tables(signals, *rows)
+
+
+def twin_card(rng):
+    """The tables of an accepted card with two alike subnets of type 3, each with a child of type 5."""
+    place = (rng.randint(1, 3), 1, 0)
+    other = (rng.randrange(4), rng.randint(1, 3), 0)
+    gate = (3, 1, 0)
+    weight = rng.randint(1, other[1])
+
+    def drive(number, child):
+        arcs = [(DRAW, number, 0, 1), (FILL, number, 1, weight), (FILL, child, 0, 1)]
+        return (0, 3, [place[:2] + (rng.randrange(2),), other], [(rng.randrange(2), arcs)])
+
+    def inner(number, parent):
+        return (parent, 5, [gate], [(rng.randrange(2), [(DRAW, number, 0, 1)])])
+
+    main = (0, 0, [(NORMAL, 1, 1)], [(0, [(DRAW, 0, 0, 1)])])
+    return tables(2, main, drive(1, 3), drive(2, 4), inner(3, 1), inner(4, 2))
+
+
+def damaged(rng, card):
+    """Tables with one field changed, so that they may be refused."""
+    table = rng.choice(("header", "subnets", "places", "transitions", "arcs"))
+    if table == "header":
+        changed = change(card, "arcs", 0)
+        changed.version, changed.signals = rng.choice(((0, 1), (1, 0), (2, 1), (1, 1)))
+        return changed
+    index = rng.randrange(len(getattr(card, table)))
+    row = getattr(card, table)[index]
+    name = rng.choice(row._fields)
+    return change(card, table, index, **{name: rng.choice((0, 1, 2, 3, getattr(row, name) + 1))})
+
+
+def sealed(card):
+    """Tables whose places are all normal."""
+    for index in range(len(card.places)):
+        card = change(card, "places", index, kind=NORMAL)
+    return card
+
+
+def torn(rng, data):
+    """Bytes with a bit turned, cut short, or with a further byte."""
+    kind = rng.randrange(3)
+    if kind == 0 and data:
+        at = rng.randrange(8 * len(data))
+        turned = bytearray(data)
+        turned[at // 8] ^= 0x80 >> at % 8
+        return bytes(turned)
+    if kind == 1:
+        return data[:rng.randrange(len(data) + 1)]
+    return data + bytes([rng.choice((0, 1, 128))])
+
+
+def random_row(rng, signals):
+    return tuple(rng.choice((0, 250, 500, 1000, rng.randint(0, 1001))) for _ in range(signals))
+
+
+def random_rows(rng, signals, most):
+    """A rows file of a few rows, some of them with a nonzero fill bit or cut short."""
+    rows = [bytearray(encode_row(random_row(rng, signals))) for _ in range(rng.randint(1, most))]
+    if rng.randrange(4) == 0:
+        rows[rng.randrange(len(rows))][-1] |= 1
+    data = b"".join(rows)
+    return data[:-1] if rng.randrange(6) == 0 else data
+
+
+def any_card(rng, **sizes):
+    return twin_card(rng) if rng.randrange(4) == 0 else random_card(rng, **sizes)
+
+
+def random_bytes(rng, **sizes):
+    """The bytes of a card: sound in half of the cases, damaged in the others."""
+    card = any_card(rng, **sizes)
+    if rng.randrange(20) == 0:
+        card = sealed(card)
+    kind = rng.randrange(4)
+    if kind == 2:
+        return torn(rng, encode(card))
+    if kind == 3:
+        changed = damaged(rng, card)
+        return encode(changed if fits(changed) else card)
+    return encode(card)
+
+
+def bench_card(second=(FILL, 1, 0, 1)):
+    """Bench card A, with another second arc of subnet 0 if given."""
+    return tables(2, (0, 0, [(NORMAL, 1, 1)], [(0, [(DRAW, 0, 0, 1), second])]),
+                  (0, 0, [(1, 1, 0), (NORMAL, 2, 0)], [(1, [(DRAW, 1, 0, 1), (FILL, 1, 1, 1)])]))
+
+
+def one_subnet(signals, places, transitions):
+    return tables(signals, (0, 0, [(NORMAL, *place) for place in places],
+                            [(signal, [(direction, 0, place, weight)
+                                       for direction, place, weight in arcs])
+                             for signal, arcs in transitions]))
+
+
+def twins(first, second):
+    """Two subnets of type 3 with two children each, whose arcs to the children are ranked so."""
+    gate = [(3, 1, 0)]
+    main = (0, 0, [(NORMAL, 1, 1)], [(0, [(DRAW, 0, 0, 1)])])
+
+    def drive(ranked):
+        return (0, 3, gate, [(0, [(DRAW, child, 0, 1) for child in ranked])])
+
+    def inner(number, parent):
+        return (parent, 5, gate, [(0, [(DRAW, number, 0, 1)])])
+
+    return tables(1, main, drive(first), drive(second), inner(3, 1), inner(4, 1), inner(5, 2),
+                  inner(6, 2))
+
+
+def telling_cards():
+    """Cards with rows, each of which shows one sentence of the paper that random ones seldom reach."""
+    loop = one_subnet(2, [(3, 1), (1, 0), (1, 0)],
+                      [(0, [(DRAW, 0, 1), (FILL, 0, 1), (FILL, 1, 1)]),
+                       (1, [(DRAW, 0, 1), (FILL, 2, 1)])])
+    fillers = one_subnet(2, [(3, 0), (1, 1), (1, 1)],
+                         [(0, [(DRAW, 1, 1), (FILL, 0, 2)]), (1, [(DRAW, 2, 1), (FILL, 0, 2)])])
+    takers = one_subnet(2, [(1, 1), (1, 0), (1, 0)],
+                        [(signal, [(DRAW, 0, 1), (FILL, signal + 1, 1)]) for signal in (0, 1)])
+    one = one_subnet(1, [(1, 1), (1, 0)], [(0, [(DRAW, 0, 1), (FILL, 1, 1)])])
+    grandchild = tables(1, (0, 0, [(NORMAL, 1, 0)], [(0, [(DRAW, 0, 0, 1), (FILL, 2, 0, 1)])]),
+                        (0, 0, [(3, 1, 0)], [(0, [(DRAW, 1, 0, 1)])]),
+                        (1, 0, [(3, 1, 0)], [(0, [(DRAW, 2, 0, 1)])]))
+    return [
+        ("no second taker starts while a loop carries", loop, [(500, 0), (500, 500), (1000, 500)]),
+        ("what is due counts for a filler", fillers, [(100, 0), (100, 500), (1000, 500), (0, 900)]),
+        ("a refused row's degrees are not stored", takers, [(500, 500), (500, 0), (900, 0)]),
+        ("degrees do not add up past 1000", one, [(600,), (0,), (600,), (0,), (100,)]),
+        ("a signal at 1000 moves nothing until it falls and rises", one, [(1000,), (1000,), (0,)]),
+        ("weight up to the capacity", bench_card((FILL, 1, 0, 1)), [(1000, 1000)]),
+        ("weight past the capacity", bench_card((FILL, 1, 0, 2)), []),
+        ("the k-th children of both", twins((3, 4), (5, 6)), [(700,)]),
+        ("not the other children", twins((3, 4), (6, 5)), []),
+        ("a grandchild is not seen", grandchild, []),
+    ]
