@@ -2,3 +2,12 @@ pub mod Decides
 pub mod Sums
 pub mod Yields
 pub mod Ranges
+pub mod Walk
+pub mod Prefix
+pub mod Sound
+pub mod Extends
+pub mod Tied
+pub mod BitLaws
+pub mod Patch
+pub mod Pack
+pub mod RoundTrip

@@ -90,7 +90,7 @@ pub record TransitionArcs (signals : ℕ) (x : Transition × List Arc) : Type 0 
   pub row : TransitionRow signals (x .0)
   pub arcs : Listed ArcRow ((x .0) .arcs) (x .1)
 
-wholeTransition-yields : (signals t : ℕ) → Yields (wholeTransition signals t) (TransitionArcs signals)
+pub wholeTransition-yields : (signals t : ℕ) → Yields (wholeTransition signals t) (TransitionArcs signals)
 unfolding wholeTransition
 wholeTransition-yields signals t =
     yields-then (of (λ c. transitionAt c t) (transition signals)) _ (TransitionRow signals) (TransitionArcs signals)
@@ -228,7 +228,7 @@ pub record After (h : Header) (i : ℕ) (c : Card) : Type 0 where
   pub subnets : length (c .subnets) ≡ i
   pub rows : Rows c
 
-wholeSubnet-yields : (h : Header) (i : ℕ) (c : Card) → After h i c → Yields (wholeSubnet c) (After h (suc i))
+pub wholeSubnet-yields : (h : Header) (i : ℕ) (c : Card) → After h i c → Yields (wholeSubnet c) (After h (suc i))
 unfolding wholeSubnet
 wholeSubnet-yields h i c a =
     yields-then (of (λ (k : Card). subnetAt k s) (subnet s p t)) _ (SubnetAfter s p t) (After h (suc i)) (yields-of _ (subnet s p t) _ (subnet-yields s p t))
@@ -252,10 +252,10 @@ wholeSubnet-yields h i c a =
     t : ℕ
     t = length (c .transitions)
 
-start : Header → Card
+unfoldable pub start : Header → Card
 start h = record { version = h .version; signals = h .signals; subnets = []; places = []; transitions = []; arcs = [] }
 
-no-rows : (h : Header) → Rows (start h)
+pub no-rows : (h : Header) → Rows (start h)
 unfolding start firstPlace firstTransition firstArc sumTo
 no-rows h =
     record {
@@ -270,7 +270,14 @@ no-rows h =
       arcs = tt;
     }
 
-card-yields : Yields card Wellformed
+pub no-subnets : (h : Header) → After h 0 (start h)
+unfolding start
+no-subnets h = record { version = refl; signals = refl; subnets = refl; rows = no-rows h }
+
+pub grow-yields : (h : Header) → Yields (grow (h .subnets) wholeSubnet (start h)) (After h (0 + h .subnets))
+grow-yields h = yields-grow (h .subnets) wholeSubnet (After h) (wholeSubnet-yields h) 0 (start h) (no-subnets h)
+
+pub card-yields : Yields card Wellformed
 unfolding card start
 card-yields =
     yields-then (of headerOf header) _ HeaderRow Wellformed (yields-of headerOf header HeaderRow header-yields)
@@ -281,8 +288,7 @@ card-yields =
       someSignals = omega (arith, a .signals, row .someSignals);
       fewSignals = omega (arith, a .signals, row .fewSignals);
       rows = a .rows;
-    }) (yields-grow (h .subnets) wholeSubnet (After h) (wholeSubnet-yields h) 0 (start h)
-    (record { version = refl; signals = refl; subnets = refl; rows = no-rows h })))
+    }) (grow-yields h))
 
 -- WHAT IS READ IS WELL FORMED
 pub read-wellformed : (bytes : List ℕ) (c : Card) (end : ℕ) → readCard bytes ≡ whole c end → Wellformed c

@@ -131,3 +131,8 @@ all-at P (x ∷ xs) d h (suc i) l = all-at P xs d (h .1) i (omega arith)
 pub all-of : {A : Type 0} (P : A → Type 0) (xs : List A) (d : A) → ((i : ℕ) → i < length xs → P (getD xs i d)) → All P xs
 all-of P [] d h = tt
 all-of P (x ∷ xs) d h = (h 0 (omega arith), all-of P xs d (λ i l. h (suc i) (omega arith)))
+
+pub all-table : {A : Type 0} (P : A → Type 0) (from n : ℕ) (f : ℕ → A) → ((i : ℕ) → P (f i)) → All P (table from n f)
+unfolding table
+all-table P from zero f h = tt
+all-table P from (suc n) f h = (h from, all-table P (suc from) n f h)

@@ -53,10 +53,19 @@ module _ {U A : Type 0} where
   yields-more (done a) P Q f h = f a h
   yields-more (get w value fault next) P Q f h = λ v l e. yields-more (next v) P Q f (h v l e)
 
+  pub yields-both : (m : Format U A) (P Q : A → Type 0) → Yields m P → Yields m Q → Yields m (λ a. P a × Q a)
+  yields-both (done a) P Q h k = (h, k)
+  yields-both (get w value fault next) P Q h k = λ v l e. yields-both (next v) P Q (h v l e) (k v l e)
+
 module _ {U A B : Type 0} where
   pub yields-then : (m : Format U A) (k : A → Format U B) (P : A → Type 0) (Q : B → Type 0) → Yields m P → ((a : A) → P a → Yields (k a) Q) → Yields (m >>= k) Q
   yields-then (done a) k P Q h f = f a h
   yields-then (get w value fault next) k P Q h f = λ v l e. yields-then (next v) k P Q (h v l e) f
+
+  -- whatever the first makes
+  pub yields-skip : (m : Format U A) (k : A → Format U B) (Q : B → Type 0) → ((a : A) → Yields (k a) Q) → Yields (m >>= k) Q
+  yields-skip (done a) k Q f = f a
+  yields-skip (get w value fault next) k Q f = λ v l e. yields-skip (next v) k Q f
 
 pub yields-of : {U W A : Type 0} (part : W → U) (m : Format U A) (P : A → Type 0) → Yields m P → Yields (of part m) P
 yields-of part (done a) P h = h

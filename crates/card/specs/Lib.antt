@@ -1,6 +1,7 @@
 pub mod Finite
 pub mod Numbers
 pub mod Bits
+pub mod Fields
 pub mod Card
 pub mod Format
 pub mod Grammar

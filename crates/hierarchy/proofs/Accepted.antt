@@ -1,16 +1,20 @@
--- An accepted card is well formed and meets the conditions. Assumes nothing.
-use Prim.Native.Nat.{ℕ}
+-- A card is accepted just where it is well formed and meets the conditions. Assumes nothing.
+use Prim.Native.Nat.{ℕ, _<_}
 use mathlib.Core.Path.{_≡_, refl, subst}
 use mathlib.Core.List.{List}
 use mathlib.Core.Option.{Option, none, some}
+use mathlib.Core.Logic.{_↔_}
 use native.Mathlib.Omega.{arith}
+use lib.ListN.{getD}
 use Rattle.card.specs.Card.{Card}
 use Rattle.card.specs.Reading.{Reading, readCard}
 use Rattle.card.specs.Reading
+use Rattle.card.specs.Writing.{encode}
 use Rattle.card.proofs.Ranges.{read-wellformed}
+use Rattle.card.proofs.RoundTrip.{write-read, wellformed-reads, wellformed-tables}
 use Rattle.hierarchy.specs.Conditions.{Meets}
 use Rattle.hierarchy.specs.Check.{Found, check}
-use Rattle.hierarchy.specs.Judgement.{accepted, refused, checked, judged, judge}
+use Rattle.hierarchy.specs.Judgement.{accepted, refused, checked, judged, judge, judgeTables}
 use Rattle.hierarchy.proofs.Agree.{check-is}
 
 not-accepted : (n at : ℕ) (c : Card) → refused n at ≡ accepted c → ⊥
@@ -29,3 +33,30 @@ accepted-meets bytes c e = go (readCard bytes) refl e
     go : (x : Reading Card) → readCard bytes ≡ x → judged x ≡ accepted c → Meets c
     go (Reading.refused n at) p q = absurd (not-accepted _ _ _ q)
     go (Reading.whole d end) p q = found d end (check d) p refl q
+
+-- the card's bytes, where they are accepted
+accepted-bytes : (bytes : List ℕ) → ((k : ℕ) → getD bytes k 0 < 256) → (c : Card) → judge bytes ≡ accepted c → encode c ≡ bytes
+unfolding judge
+accepted-bytes bytes small c e = go (readCard bytes) refl e
+  where
+    found : (d : Card) (end : ℕ) (x : Option Found) → readCard bytes ≡ Reading.whole d end → checked x d ≡ accepted c → encode c ≡ bytes
+    found d end (some f) p r = absurd (not-accepted _ _ _ r)
+    found d end none p r = let s : d ≡ c = cc in subst (λ (x : Card). encode x ≡ bytes) s (write-read bytes small d end p)
+
+    go : (x : Reading Card) → readCard bytes ≡ x → judged x ≡ accepted c → encode c ≡ bytes
+    go (Reading.refused n at) p q = absurd (not-accepted _ _ _ q)
+    go (Reading.whole d end) p q = found d end (check d) p q
+
+-- A CARD THAT MEETS ALL THAT IS ASKED IS ACCEPTED, from its bytes and from its tables
+pub meets-accepted : (c : Card) → Meets c → judge (encode c) ≡ accepted c
+unfolding judge
+meets-accepted c m = rw (wellformed-reads c (m .wellformed), check-is c .1 (m .conditions))
+
+pub meets-written : (c : Card) → Meets c → judgeTables c ≡ accepted c
+unfolding judgeTables
+meets-written c m = rw (wellformed-tables c (m .wellformed), check-is c .1 (m .conditions))
+
+-- `accepted-iff`: BYTES ARE ACCEPTED JUST WHERE THEY ARE THE ENCODING OF A CARD THAT MEETS ALL THAT IS ASKED
+pub accepted-iff : (bytes : List ℕ) → ((k : ℕ) → getD bytes k 0 < 256) → (c : Card) → (judge bytes ≡ accepted c) ↔ (Meets c × (encode c ≡ bytes))
+accepted-iff bytes small c =
+    (λ e. (accepted-meets bytes c e, accepted-bytes bytes small c e), λ h. subst (λ (b : List ℕ). judge b ≡ accepted c) (h .1) (meets-accepted c (h .0)))

@@ -12,6 +12,8 @@ use Rattle.card.specs.Writing.{encode}
 use Rattle.card.specs.Wellformed.{SubnetRow, PlaceRow, ArcRow, Rows}
 use Rattle.card.proofs.Sums.{sum-owner, sum-below, sum-unique, map-length, all-map, all-of, all-at}
 use Rattle.hierarchy.specs.Conditions.{IsPlace, Sees, Weighted, Repeats, TransitionConditions, Conditions, Meets}
+use Rattle.hierarchy.specs.Judgement.{accepted, judge}
+use Rattle.hierarchy.proofs.Accepted.{accepted-meets, meets-accepted}
 use Rattle.runners.specs.Flattening.{flatPlaceRow, flatArc, flatten}
 
 -- the rows of the flat card
@@ -199,3 +201,7 @@ flat-meets c m =
       };
       conditions = flat-conditions c m;
     }
+
+-- THE FLAT CARD IS ACCEPTED
+pub flat-accepted : (card : List ℕ) (c : Card) → judge card ≡ accepted c → judge (encode (flatten c)) ≡ accepted (flatten c)
+flat-accepted card c e = meets-accepted (flatten c) (flat-meets c (accepted-meets card c e))

@@ -1,0 +1,51 @@
+-- `card::bits::window_at` meets its contract. Assumes nothing.
+use Rattle.card.specs.Fields.{window}
+use borrow.Author.Needs.{needs}
+use Rattle.card.proofs.bits.window_at.Statement.{statement}
+use Rattle.card.proofs.bits.window_at.Tie as tie
+
+byte-at-requires : tie.Need-byte-at-requires
+byte-at-requires c κs = search needs
+
+mul-result : tie.Need-mul-result
+mul-result c = search needs
+
+add-byte-at : tie.Need-add-byte-at
+add-byte-at c = search needs
+
+byte-at-requires-2 : tie.Need-byte-at-requires-2
+byte-at-requires-2 c κs = search needs
+
+mul-result-2 : tie.Need-mul-result-2
+mul-result-2 c = search needs
+
+add-byte-at-2 : tie.Need-add-byte-at-2
+add-byte-at-2 c = search needs
+
+byte-at-requires-3 : tie.Need-byte-at-requires-3
+byte-at-requires-3 c κs = search needs
+
+add-result : tie.Need-add-result
+add-result c = search needs
+
+add-result-2 : tie.Need-add-result-2
+add-result-2 c = search needs
+
+returns : tie.Need-returns
+unfolding window
+returns c = search needs
+
+pub window-at-spec : {M : Type 1} → statement M
+window-at-spec =
+    tie.close
+    (tie.spec
+    byte-at-requires
+    mul-result
+    add-byte-at
+    byte-at-requires-2
+    mul-result-2
+    add-byte-at-2
+    byte-at-requires-3
+    add-result
+    add-result-2
+    returns)
