@@ -5,6 +5,7 @@ pub mod Fields
 pub mod Card
 pub mod Format
 pub mod Grammar
+pub mod Layout
 pub mod Reading
 pub mod Writing
 pub mod Wellformed

@@ -1,6 +1,7 @@
 // Layer 1: the card's format. specs/ says what a card is, how it is read and how it is written.
 
 mod bits;
+mod layout;
 
 // Why bytes, or tables, are no card. specs/Numbers.antt gives the paper's number of each.
 pub enum FormatFault {

@@ -1,0 +1,317 @@
+// The order of a card's fields, as a machine that reader and writer share: what comes next, how wide it is, where its number leads.
+use crate::FormatFault;
+ghost use mathlib.Core.Path.{_≡_};
+ghost use Prim.Native.Nat.{_<_, _≤_};
+ghost use Rattle.card.specs.Layout.{startOf, widthOf, to, stepAt, stepOf, Sane};
+ghost use Rattle.card.specs.declared.layout.Phase.the-variants.{Version, SubnetCount, SignalCount, Parent, SubnetType, PlaceCount, TransitionCount, Kind, Capacity, Tokens, Signal, ArcCount, Weight};
+
+pub enum Phase {
+    Version,
+    SubnetCount,
+    SignalCount,
+    Parent,
+    SubnetType,
+    PlaceCount,
+    TransitionCount,
+    Kind,
+    Capacity,
+    Tokens,
+    Signal,
+    ArcCount,
+    Direction,
+    ArcSubnet,
+    ArcPlace,
+    Weight,
+}
+
+// The field that comes next, and what the fields before it say of those behind it: how many signals there are; how many subnets come
+// after this one, and its number; how many places and transitions are listed so far; how many rows of each kind come after this one;
+// the capacity of the place at hand.
+pub struct Layout {
+    pub phase: Phase,
+    pub signals: u16,
+    pub subnets: u16,
+    pub subnet: u16,
+    pub places: u16,
+    pub transitions: u16,
+    pub place_rows: u16,
+    pub transition_rows: u16,
+    pub arc_rows: u16,
+    pub capacity: u16,
+}
+
+// How many subnets, places and transitions a card lists.
+pub struct Counts {
+    pub subnets: u16,
+    pub places: u16,
+    pub transitions: u16,
+}
+
+pub enum Move {
+    More(Layout),
+    Done(Counts),
+    Bad(FormatFault),
+}
+
+pub fn start() -> Layout
+    ensures { λ r. ⌜ r ≡ startOf ⌝ }
+{
+    Layout {
+        phase: Phase::Version,
+        signals: 0,
+        subnets: 0,
+        subnet: 0,
+        places: 0,
+        transitions: 0,
+        place_rows: 0,
+        transition_rows: 0,
+        arc_rows: 0,
+        capacity: 0,
+    }
+}
+
+pub fn width(l: Layout) -> usize
+    ensures { λ r. ⌜ (r ≡ widthOf l) × (1 ≤ r) × (r ≤ 8) ⌝ }
+{
+    let p = l.phase;
+    match p {
+        Phase::Version => 4,
+        Phase::SubnetCount => 6,
+        Phase::SignalCount => 6,
+        Phase::Parent => 5,
+        Phase::SubnetType => 5,
+        Phase::PlaceCount => 8,
+        Phase::TransitionCount => 8,
+        Phase::Kind => 2,
+        Phase::Capacity => 8,
+        Phase::Tokens => 8,
+        Phase::Signal => 6,
+        Phase::ArcCount => 5,
+        Phase::Direction => 1,
+        Phase::ArcSubnet => 5,
+        Phase::ArcPlace => 8,
+        Phase::Weight => 8,
+    }
+}
+
+// The same layout at another phase.
+fn moved(l: Layout, p: Phase) -> Layout
+    ensures { λ r. ⌜ r ≡ to l p ⌝ }
+{
+    Layout {
+        phase: p,
+        signals: l.signals,
+        subnets: l.subnets,
+        subnet: l.subnet,
+        places: l.places,
+        transitions: l.transitions,
+        place_rows: l.place_rows,
+        transition_rows: l.transition_rows,
+        arc_rows: l.arc_rows,
+        capacity: l.capacity,
+    }
+}
+
+fn after_version(l: Layout, v: u16) -> Move
+    ensures { λ r. ⌜ r ≡ stepAt Version l v ⌝ }
+{
+    if v == 1 {
+        return Move::More(moved(l, Phase::SubnetCount));
+    }
+    Move::Bad(FormatFault::BadVersion)
+}
+
+fn after_subnet_count(l: Layout, v: u16) -> Move
+    ensures { λ r. ⌜ r ≡ stepAt SubnetCount l v ⌝ }
+{
+    if v < 1 {
+        return Move::Bad(FormatFault::BadSize);
+    }
+    if 32 < v {
+        return Move::Bad(FormatFault::BadSize);
+    }
+    let mut m = l;
+    m.subnets = v - 1;
+    Move::More(moved(m, Phase::SignalCount))
+}
+
+fn after_signal_count(l: Layout, v: u16) -> Move
+    ensures { λ r. ⌜ r ≡ stepAt SignalCount l v ⌝ }
+{
+    if v < 1 {
+        return Move::Bad(FormatFault::BadSize);
+    }
+    let mut m = l;
+    m.signals = v;
+    Move::More(moved(m, Phase::Parent))
+}
+
+fn after_parent(l: Layout, v: u16) -> Move
+    ensures { λ r. ⌜ r ≡ stepAt Parent l v ⌝ }
+{
+    if l.subnet == 0 {
+        if v == 0 {
+            return Move::More(moved(l, Phase::SubnetType));
+        }
+        return Move::Bad(FormatFault::BadParent);
+    }
+    if v < l.subnet {
+        return Move::More(moved(l, Phase::SubnetType));
+    }
+    Move::Bad(FormatFault::BadParent)
+}
+
+fn after_type(l: Layout, v: u16) -> Move
+    ensures { λ r. ⌜ r ≡ stepAt SubnetType l v ⌝ }
+{
+    if l.subnet == 0 {
+        if v == 0 {
+            return Move::More(moved(l, Phase::PlaceCount));
+        }
+        return Move::Bad(FormatFault::BadType);
+    }
+    Move::More(moved(l, Phase::PlaceCount))
+}
+
+fn after_place_count(l: Layout, v: u16) -> Move
+    requires { ⌜ Sane l × (v < 256) ⌝ }
+    ensures { λ r. ⌜ r ≡ stepAt PlaceCount l v ⌝ }
+{
+    if v < 1 {
+        return Move::Bad(FormatFault::BadCount);
+    }
+    if 255 < l.places + v {
+        return Move::Bad(FormatFault::BadCount);
+    }
+    let mut m = l;
+    m.places = l.places + v;
+    m.place_rows = v - 1;
+    Move::More(moved(m, Phase::TransitionCount))
+}
+
+fn after_transition_count(l: Layout, v: u16) -> Move
+    requires { ⌜ Sane l × (v < 256) ⌝ }
+    ensures { λ r. ⌜ r ≡ stepAt TransitionCount l v ⌝ }
+{
+    if v < 1 {
+        return Move::Bad(FormatFault::BadCount);
+    }
+    if 255 < l.transitions + v {
+        return Move::Bad(FormatFault::BadCount);
+    }
+    let mut m = l;
+    m.transitions = l.transitions + v;
+    m.transition_rows = v - 1;
+    Move::More(moved(m, Phase::Kind))
+}
+
+fn after_kind(l: Layout, v: u16) -> Move
+    ensures { λ r. ⌜ r ≡ stepAt Kind l v ⌝ }
+{
+    if l.subnet == 0 {
+        if v == 0 {
+            return Move::More(moved(l, Phase::Capacity));
+        }
+        return Move::Bad(FormatFault::BadPlace);
+    }
+    Move::More(moved(l, Phase::Capacity))
+}
+
+fn after_capacity(l: Layout, v: u16) -> Move
+    ensures { λ r. ⌜ r ≡ stepAt Capacity l v ⌝ }
+{
+    if v < 1 {
+        return Move::Bad(FormatFault::BadPlace);
+    }
+    let mut m = l;
+    m.capacity = v;
+    Move::More(moved(m, Phase::Tokens))
+}
+
+fn after_tokens(l: Layout, v: u16) -> Move
+    ensures { λ r. ⌜ r ≡ stepAt Tokens l v ⌝ }
+{
+    if l.capacity < v {
+        return Move::Bad(FormatFault::BadPlace);
+    }
+    if 0 < l.place_rows {
+        let mut m = l;
+        m.place_rows = l.place_rows - 1;
+        return Move::More(moved(m, Phase::Kind));
+    }
+    Move::More(moved(l, Phase::Signal))
+}
+
+fn after_signal(l: Layout, v: u16) -> Move
+    ensures { λ r. ⌜ r ≡ stepAt Signal l v ⌝ }
+{
+    if v < l.signals {
+        return Move::More(moved(l, Phase::ArcCount));
+    }
+    Move::Bad(FormatFault::BadTransition)
+}
+
+fn after_arc_count(l: Layout, v: u16) -> Move
+    ensures { λ r. ⌜ r ≡ stepAt ArcCount l v ⌝ }
+{
+    if v < 1 {
+        return Move::Bad(FormatFault::BadTransition);
+    }
+    let mut m = l;
+    m.arc_rows = v - 1;
+    Move::More(moved(m, Phase::Direction))
+}
+
+// Behind an arc comes another, or a transition, or a subnet, or nothing.
+fn after_weight(l: Layout, v: u16) -> Move
+    requires { ⌜ Sane l ⌝ }
+    ensures { λ r. ⌜ r ≡ stepAt Weight l v ⌝ }
+{
+    if 0 < l.arc_rows {
+        let mut m = l;
+        m.arc_rows = l.arc_rows - 1;
+        return Move::More(moved(m, Phase::Direction));
+    }
+    if 0 < l.transition_rows {
+        let mut m = l;
+        m.transition_rows = l.transition_rows - 1;
+        return Move::More(moved(m, Phase::Signal));
+    }
+    if 0 < l.subnets {
+        let mut m = l;
+        m.subnets = l.subnets - 1;
+        m.subnet = l.subnet + 1;
+        return Move::More(moved(m, Phase::Parent));
+    }
+    Move::Done(Counts {
+        subnets: l.subnet + 1,
+        places: l.places,
+        transitions: l.transitions,
+    })
+}
+
+// Where the number v of the next field leads.
+pub fn step(l: Layout, v: u16) -> Move
+    requires { ⌜ Sane l × (v < 256) ⌝ }
+    ensures { λ r. ⌜ r ≡ stepOf l v ⌝ }
+{
+    let p = l.phase;
+    match p {
+        Phase::Version => after_version(l, v),
+        Phase::SubnetCount => after_subnet_count(l, v),
+        Phase::SignalCount => after_signal_count(l, v),
+        Phase::Parent => after_parent(l, v),
+        Phase::SubnetType => after_type(l, v),
+        Phase::PlaceCount => after_place_count(l, v),
+        Phase::TransitionCount => after_transition_count(l, v),
+        Phase::Kind => after_kind(l, v),
+        Phase::Capacity => after_capacity(l, v),
+        Phase::Tokens => after_tokens(l, v),
+        Phase::Signal => after_signal(l, v),
+        Phase::ArcCount => after_arc_count(l, v),
+        Phase::Direction => Move::More(moved(l, Phase::ArcSubnet)),
+        Phase::ArcSubnet => Move::More(moved(l, Phase::ArcPlace)),
+        Phase::ArcPlace => Move::More(moved(l, Phase::Weight)),
+        Phase::Weight => after_weight(l, v),
+    }
+}
