@@ -11,3 +11,8 @@ pub mod BitLaws
 pub mod Patch
 pub mod Pack
 pub mod RoundTrip
+pub mod Shape
+pub mod Simulates
+pub mod Bounds
+pub mod Turn
+pub mod ReadLaws

@@ -1,6 +1,7 @@
 -- The machine that reads and writes a card field by field: which field comes next, and where its number leads. Widths and faults are the
 -- grammar's.
 use Prim.Native.Nat.{ℕ, _+_, _-_, _≤_}
+use mathlib.Core.Path.{_≡_}
 use mathlib.Core.Bool.{Bool, true, false}
 use mathlib.Core.List.{List, [], _∷_}
 use mathlib.Core.Option.{Option, none, some}
@@ -11,7 +12,6 @@ use Rattle.card.specs.declared.FormatFault.{FormatFault}
 use Rattle.card.specs.declared.layout.Phase.{Phase}
 use Rattle.card.specs.declared.layout.Phase.the-variants.{Version, SubnetCount, SignalCount, Parent, SubnetType, PlaceCount, TransitionCount, Kind, Capacity, Tokens, Signal, ArcCount, Direction, ArcSubnet, ArcPlace, Weight}
 use Rattle.card.specs.declared.layout.Layout.{Layout}
-use Rattle.card.specs.declared.layout.Counts.{Counts}
 use Rattle.card.specs.declared.layout.Move.{Move}
 use Rattle.card.specs.declared.layout.Move.the-variants.{More, Done, Bad}
 
@@ -148,8 +148,28 @@ stepAt p l v = orBad (faultAt p l v) (moveAt p l v)
 abbrev pub stepOf : Layout → (v : ℕ) → Move
 stepOf l v = stepAt (l .phase) l v
 
+-- before the subnets begin, none is counted
+abbrev pub headed : Phase → (subnet : ℕ) → Type 0
+headed Version s = s ≡ 0
+headed SubnetCount s = s ≡ 0
+headed SignalCount s = Unit {0}
+headed Parent s = Unit {0}
+headed SubnetType s = Unit {0}
+headed PlaceCount s = Unit {0}
+headed TransitionCount s = Unit {0}
+headed Kind s = Unit {0}
+headed Capacity s = Unit {0}
+headed Tokens s = Unit {0}
+headed Signal s = Unit {0}
+headed ArcCount s = Unit {0}
+headed Direction s = Unit {0}
+headed ArcSubnet s = Unit {0}
+headed ArcPlace s = Unit {0}
+headed Weight s = Unit {0}
+
 -- the numbers of a layout stay small
 pub record Sane (l : Layout) : Type 0 where
+  pub head : headed (l .phase) (l .subnet)
   pub subnet : l .subnet + l .subnets ≤ 31
   pub places : l .places ≤ 255
   pub transitions : l .transitions ≤ 255

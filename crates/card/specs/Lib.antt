@@ -8,4 +8,5 @@ pub mod Grammar
 pub mod Layout
 pub mod Reading
 pub mod Writing
+pub mod Tables
 pub mod Wellformed

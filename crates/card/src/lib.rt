@@ -2,6 +2,7 @@
 
 mod bits;
 mod layout;
+mod reader;
 
 // Why bytes, or tables, are no card. specs/Numbers.antt gives the paper's number of each.
 pub enum FormatFault {

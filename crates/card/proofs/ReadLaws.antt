@@ -1,0 +1,142 @@
+-- What the reader's loop found is what reading a card says. Assumes nothing.
+use Prim.Native.Nat.{ℕ, zero, suc, _+_, _-_, _*_, _≤_, _<_}
+use mathlib.Core.Path.{_≡_, refl, sym, ap, _∙_}
+use mathlib.Core.Logic.{_⊎_, inl, inr}
+use mathlib.Core.List.{List, _∷_, map}
+use mathlib.Core.Option.{none, some}
+use native.Mathlib.Omega.{arith}
+use native.Mathlib.Nat.{add-zero}
+use native.Mathlib.Numerals.{add-one}
+use lib.ListN.{length, getD, take, replicate, length-take, List·getD-eq-default}
+use lib.Seq.{ext-getD, getD-take}
+use lib.Dec.{eqb}
+use borrow.Author.Tests.{lt-ltb, le-ltb, eq-eqb, ne-eqb}
+use Rattle.card.specs.Numbers.{number}
+use Rattle.card.specs.Finite.{table, someIf, lowest, firstOf, _otherwise_}
+use Rattle.card.specs.Bits.{bit, bitField, bytesFor}
+use Rattle.card.specs.Card.{Card}
+use Rattle.card.specs.Format.{Format, done, get}
+use Rattle.card.specs.Grammar.{card}
+use Rattle.card.specs.Reading.{Reading, refused, whole, read, excess, readCard}
+use Rattle.card.specs.Writing.{fields}
+use Rattle.card.specs.Tables.{tableSize, numbersOf, IsRead, IsRefused}
+use Rattle.card.specs.declared.FormatFault.{FormatFault}
+use Rattle.card.specs.declared.FormatFault.the-variants.{BadFill}
+use Rattle.card.specs.declared.layout.Counts.{Counts}
+use Rattle.card.specs.declared.reader.CardRead.{CardRead}
+use Rattle.card.specs.declared.reader.ReadAnswer.the-variants.{Whole}
+use Rattle.card.proofs.Sums.{table-length, table-at}
+use Rattle.card.proofs.Yields.{not-whole}
+use Rattle.card.proofs.BitLaws.{lt-or-ge}
+use Rattle.card.proofs.Walk.{Spelt}
+use Rattle.card.proofs.Tied.{tied-card}
+use Rattle.card.proofs.Shape.{numbersIn, part, cardS, countsOf, read-shape, numbers-shape}
+
+-- bytes that spell the fields of u hold its numbers
+spelt-numbers : {U A : Type 0} (bytes : List ℕ) (m : Format U A) (u : U) (at : ℕ) → Spelt bytes at (fields m u) → numbersIn bytes m at ≡ map (λ f. f .value) (fields m u)
+unfolding fields
+spelt-numbers bytes (done a) u at s = refl
+spelt-numbers bytes (get w value fault next) u at s =
+    let e : bitField (bit bytes) at w ≡ value u = s .0 in
+    rw (e, spelt-numbers bytes (next (value u)) u (at + w) (s .1))
+
+-- the shape is refused where the card is
+part-refused : {A B : Type 0} (f : A → B) (x : Reading A) (n at : ℕ) → part f x ≡ refused n at → x ≡ refused n at
+part-refused f (refused m i) n at e = let p : m ≡ n = cc in let q : i ≡ at = cc in rw (p, q)
+part-refused f (whole a end) n at e = absurd (not-whole _ _ _ _ (sym e))
+
+pub record Found {A B : Type 0} (f : A → B) (x : Reading A) (b : B) (end : ℕ) : Type 0 where
+  pub value : A
+  pub is : x ≡ whole value end
+  pub maps : f value ≡ b
+
+part-whole : {A B : Type 0} (f : A → B) (x : Reading A) (b : B) (end : ℕ) → part f x ≡ whole b end → Found f x b end
+part-whole f (refused m i) b end e = absurd (not-whole _ _ _ _ e)
+part-whole f (whole a i) b end e = let q : i ≡ end = cc in record { value = a; is = ap (whole a) q; maps = cc }
+
+module _ (bytes : List ℕ) where
+  card-refused : (n at : ℕ) → read bytes cardS 0 ≡ refused n at → readCard bytes ≡ refused n at
+  unfolding readCard
+  card-refused n at e = rw (part-refused countsOf (read bytes card 0) n at (sym (read-shape bytes) ∙ e))
+
+  pub refused-is : (f : FormatFault) (at : ℕ) (r : CardRead) → read bytes cardS 0 ≡ refused (number f) at → IsRefused f at r → IsRead (readCard bytes) r
+  refused-is f at r e h = rw (card-refused (number f) at e) (record { answer = rw (h .answer); numbers = h .numbers })
+
+  found : (k : Counts) (end : ℕ) → read bytes cardS 0 ≡ whole k end → Found countsOf (read bytes card 0) k end
+  found k end e = part-whole countsOf (read bytes card 0) k end (sym (read-shape bytes) ∙ e)
+
+  -- something follows the card
+  pub excess-is : (k : Counts) (end i : ℕ) (r : CardRead) → read bytes cardS 0 ≡ whole k end → excess bytes end ≡ some i → IsRefused BadFill i r → IsRead (readCard bytes) r
+  unfolding readCard
+  excess-is k end i r e x h =
+      let f = found k end e in
+      rw (f .is, x) (record { answer = rw (h .answer); numbers = h .numbers })
+
+  -- the table is that of the card's numbers
+  table-is : (t : List ℕ) (n : ℕ) (c : Card) → length t ≡ 33026 → ((i : ℕ) → n ≤ i → getD t i 0 ≡ 0) → take n t ≡ numbersOf c → t ≡ table 0 tableSize (λ i. getD (numbersOf c) i 0)
+  table-is t n c long zeros e =
+      ext-getD 0 t _ (long ∙ sym (table-length 0 33026 _)) (λ i l. at i (omega (arith, long)) (lt-or-ge i n) ∙ sym (table-at 33026 (λ j. getD (numbersOf c) j 0) 0 i (omega (arith, long))))
+    where
+      at : (i : ℕ) → i < 33026 → (i < n) ⊎ (n ≤ i) → getD t i 0 ≡ getD (numbersOf c) i 0
+      at i l (inl m) = sym (getD-take n t i 0 m) ∙ ap (λ xs. getD xs i 0) e
+      at i l (inr m) = zeros i m ∙ sym (ap (λ xs. getD xs i 0) (sym e) ∙ List·getD-eq-default (take n t) 0 (omega (arith, length-take n t)))
+
+  numbers-are : (c : Card) (end : ℕ) → read bytes card 0 ≡ whole c end → numbersIn bytes card 0 ≡ numbersOf c
+  unfolding numbersOf
+  numbers-are c end r = spelt-numbers bytes card c 0 (tied-card bytes c end r .spelt)
+
+  pub whole-is : (k : Counts) (end n : ℕ) (t : List ℕ) → read bytes cardS 0 ≡ whole k end → excess bytes end ≡ none → length t ≡ 33026 → ((i : ℕ) → n ≤ i → getD t i 0 ≡ 0)
+      → take n t ≡ numbersIn bytes cardS 0 → IsRead (readCard bytes) (record { answer = Whole k; numbers = t })
+  unfolding readCard
+  whole-is k end n t e x long zeros v =
+      let f = found k end e in
+      let numbers : take n t ≡ numbersOf (f .value) = v ∙ numbers-shape bytes ∙ numbers-are (f .value) end (f .is) in
+      rw (f .is, x) (record { answer = ap (λ (y : Counts). Rattle.card.specs.Tables.ReadOutcome.whole (y .subnets) (y .places) (y .transitions)) (sym (f .maps)); numbers = table-is t n (f .value) long zeros numbers })
+
+zeros-table : (from n : ℕ) → replicate {A = ℕ} n 0 ≡ table from n (λ i. 0)
+unfolding table
+zeros-table from zero = refl
+zeros-table from (suc n) = ap (λ (xs : List ℕ). 0 ∷ xs) (zeros-table (suc from) n)
+
+pub blank-table : replicate {A = ℕ} 33026 0 ≡ table 0 tableSize (λ i. 0)
+blank-table = zeros-table 0 33026
+
+-- nothing is in excess up to bit i
+pub record Checked (bytes : List ℕ) (end i : ℕ) : Type 0 where
+  pub low : end ≤ i
+  pub high : i ≤ 8 * bytesFor end
+  pub left : lowest end (8 * bytesFor end - end) (λ j. eqb (bit bytes j) 1) ≡ lowest i (8 * bytesFor end - i) (λ j. eqb (bit bytes j) 1)
+
+module _ (bytes : List ℕ) (end : ℕ) where
+  pub checked-start : Checked bytes end end
+  checked-start = record { low = omega arith; high = omega arith; left = refl }
+
+  one-field : (i : ℕ) → bitField (bit bytes) i 1 ≡ bit bytes i
+  unfolding bitField
+  one-field i = omega (arith, ap (bit bytes) (add-zero i))
+
+  step-out : (i : ℕ) → i < 8 * bytesFor end → lowest i (8 * bytesFor end - i) (λ j. eqb (bit bytes j) 1) ≡ someIf (eqb (bit bytes i) 1) i otherwise lowest (i + 1) (8 * bytesFor end - (i + 1)) (λ j. eqb (bit bytes j) 1)
+  unfolding firstOf
+  step-out i l =
+      let q : 8 * bytesFor end - i ≡ suc (8 * bytesFor end - (i + 1)) = omega arith in
+      rw (q, add-one)
+
+  pub checked-more : (i v : ℕ) → Checked bytes end i → i < 8 * bytesFor end → v ≡ bitField (bit bytes) i 1 → (v ≡ 1 → ⊥) → Checked bytes end (i + 1)
+  checked-more i v h l e n =
+      record { low = omega (arith, h .low); high = omega arith; left = h .left ∙ step-out i l ∙ rw (← one-field i, ← e, ne-eqb v 1 n) }
+
+  pub found-bit : (i v : ℕ) → Checked bytes end i → i < 8 * bytesFor end → v ≡ bitField (bit bytes) i 1 → v ≡ 1 → some i ≡ excess bytes end
+  unfolding excess
+  found-bit i v h l e n = sym (rw (h .left, step-out i l, ← one-field i, ← e, eq-eqb v 1 n))
+
+  no-bit : (i : ℕ) → Checked bytes end i → 8 * bytesFor end ≤ i → lowest end (8 * bytesFor end - end) (λ j. eqb (bit bytes j) 1) ≡ none
+  unfolding firstOf
+  no-bit i h l = let q : 8 * bytesFor end - i ≡ 0 = omega arith in h .left ∙ rw q
+
+  pub found-byte : (i : ℕ) → Checked bytes end i → 8 * bytesFor end ≤ i → bytesFor end < length bytes → some (8 * bytesFor end) ≡ excess bytes end
+  unfolding excess
+  found-byte i h l m = sym (rw (no-bit i h l, lt-ltb (bytesFor end) (length bytes) m))
+
+  pub found-nothing : (i : ℕ) → Checked bytes end i → 8 * bytesFor end ≤ i → length bytes ≤ bytesFor end → none ≡ excess bytes end
+  unfolding excess
+  found-nothing i h l m = sym (rw (no-bit i h l, le-ltb (bytesFor end) (length bytes) m))

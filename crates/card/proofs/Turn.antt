@@ -1,0 +1,178 @@
+-- A turn of the loop that reads a card, over plain values. Assumes nothing.
+use Prim.Native.Nat.{ℕ, zero, suc, _+_, _-_, _*_, _≤_, _<_}
+use mathlib.Core.Path.{_≡_, refl, sym, ap, subst, _∙_}
+use mathlib.Core.Bool.{Bool, true, false}
+use mathlib.Core.List.{List, _∷_, _++_, append-nil}
+use mathlib.Core.Option.{Option, none, some}
+use native.Mathlib.Omega.{arith}
+use native.Mathlib.Numerals.{add-one}
+use lib.ListN.{length, getD, take, set, replicate, length-set, length-replicate}
+use lib.Seq.{take-suc-set, append-snoc, getD-set-other}
+use lib.Dec.{ltb}
+use borrow.Author.Tests.{lt-ltb, le-ltb}
+use Rattle.card.specs.Numbers.{number}
+use Rattle.card.specs.Bits.{bit, bitField}
+use Rattle.card.specs.Format.{Format, done, get}
+use Rattle.card.specs.Reading.{Reading, refused, whole, read}
+use Rattle.card.specs.Layout.{widthOf, faultAt, startOf, pick, moveAt, orBad, stepOf, Sane}
+use Rattle.card.specs.declared.FormatFault.{FormatFault}
+use Rattle.card.specs.declared.FormatFault.the-variants.{Truncated}
+use Rattle.card.specs.declared.layout.Phase.{Phase}
+use Rattle.card.specs.declared.layout.Phase.the-variants.{Version, SubnetCount, SignalCount, Parent, SubnetType, PlaceCount, TransitionCount, Kind, Capacity, Tokens, Signal, ArcCount, Direction, ArcSubnet, ArcPlace, Weight}
+use Rattle.card.specs.declared.layout.Layout.{Layout}
+use Rattle.card.specs.declared.layout.Counts.{Counts}
+use Rattle.card.specs.declared.layout.Move.{Move}
+use Rattle.card.specs.declared.layout.Move.the-variants.{More, Done, Bad}
+use Rattle.card.proofs.Yields.{bit-small, field-small}
+use Rattle.card.proofs.Shape.{One, numbersIn, cardS}
+use Rattle.card.proofs.Simulates.{denote, moveF, nextOf, waits, sim, denote-start}
+use Rattle.card.proofs.Bounds.{Budget, budget-card, sane-step, sane-start}
+
+-- a number that is not at fault leads on
+abbrev Good : Move → Type 0
+Good (More m) = Unit {0}
+Good (Done k) = Unit {0}
+Good (Bad f) = ⊥
+
+good-pick : (b : Bool) (x y : Move) → Good x → Good y → Good (pick b x y)
+good-pick true x y h k = h
+good-pick false x y h k = k
+
+good-move : (p : Phase) (l : Layout) (v : ℕ) → Good (moveAt p l v)
+good-move Version l v = tt
+good-move SubnetCount l v = tt
+good-move SignalCount l v = tt
+good-move Parent l v = tt
+good-move SubnetType l v = tt
+good-move PlaceCount l v = tt
+good-move TransitionCount l v = tt
+good-move Kind l v = tt
+good-move Capacity l v = tt
+good-move Tokens l v = good-pick (ltb 0 (l .«place_rows»)) _ _ tt tt
+good-move Signal l v = tt
+good-move ArcCount l v = tt
+good-move Direction l v = tt
+good-move ArcSubnet l v = tt
+good-move ArcPlace l v = tt
+good-move Weight l v = good-pick (ltb 0 (l .«arc_rows»)) _ _ tt (good-pick (ltb 0 (l .«transition_rows»)) _ _ tt (good-pick (ltb 0 (l .subnets)) _ _ tt tt))
+
+-- what a field leads to
+abbrev Leads : Layout → ℕ → Move → Type 0
+Leads l v (More m) = (faultAt (l .phase) l v ≡ none) × (nextOf (denote l) v ≡ denote m)
+Leads l v (Done k) = (faultAt (l .phase) l v ≡ none) × (nextOf (denote l) v ≡ done k)
+Leads l v (Bad f) = faultAt (l .phase) l v ≡ some f
+
+leads : (l : Layout) (v : ℕ) (r : Move) → r ≡ stepOf l v → Leads l v r
+leads l v r e = go (faultAt (l .phase) l v) refl e
+  where
+    move : (x r : Move) → faultAt (l .phase) l v ≡ none → nextOf (denote l) v ≡ moveF x → Good x → r ≡ x → Leads l v r
+    move x (More m) p q g r = (p, q ∙ ap moveF (sym r))
+    move x (Done k) p q g r = (p, q ∙ ap moveF (sym r))
+    move x (Bad f) p q g r = absurd (subst Good (sym r) g)
+
+    go : (x : Option FormatFault) → faultAt (l .phase) l v ≡ x → r ≡ orBad x (moveAt (l .phase) l v) → Leads l v r
+    go none p q = move (moveAt (l .phase) l v) r p (sim (l .phase) l v p) (good-move (l .phase) l v) q
+    go (some f) p q = subst (Leads l v) (sym q) p
+
+zero-in : (n i : ℕ) → _≡_ {A = ℕ} (getD (replicate n 0) i 0) 0
+zero-in zero i = refl
+zero-in (suc n) zero = refl
+zero-in (suc n) (suc i) = zero-in n i
+
+module _ (bytes : List ℕ) where
+  -- reading what is left from here ends as reading all; the numbers so far stand in the table, and zeros behind them
+  pub record Left (l : Layout) (at n : ℕ) (numbers : List ℕ) : Type 0 where
+    pub answer : read bytes (denote l) at ≡ read bytes cardS 0
+    pub values : take n numbers ++ numbersIn bytes (denote l) at ≡ numbersIn bytes cardS 0
+    pub zeros : (i : ℕ) → n ≤ i → getD numbers i 0 ≡ 0
+    pub long : length numbers ≡ 33026
+    pub sane : Sane l
+    pub budget : Budget (denote l) (33026 - n)
+    pub low : at ≤ 8 * n
+    pub inside : at ≤ 8 * length bytes
+    pub few : n ≤ 33026
+
+  pub left-start : Left startOf 0 0 (replicate 33026 0)
+  left-start =
+      record {
+        answer = ap (λ (m : Format One Counts). read bytes m 0) denote-start;
+        values = ap (λ (m : Format One Counts). numbersIn bytes m 0) denote-start;
+        zeros = λ i h. zero-in 33026 i;
+        long = length-replicate {A = ℕ} 33026 0;
+        sane = sane-start;
+        budget = subst (λ (m : Format One Counts). Budget m 33026) (sym denote-start) budget-card;
+        low = omega arith;
+        inside = omega arith;
+        few = omega arith;
+      }
+
+  module _ (l : Layout) (at n : ℕ) (t : List ℕ) (w : ℕ) (h : Left l at n t) (ew : w ≡ widthOf l) where
+    wait : denote l ≡ get w (λ u. 0) (faultAt (l .phase) l) (nextOf (denote l))
+    wait = waits (l .phase) l ∙ ap (λ (k : ℕ). get k (λ u. 0) (faultAt (l .phase) l) (nextOf (denote l))) (sym ew)
+
+    -- there is room in the table
+    pub left-room : n < 33026
+    left-room = go (33026 - n) refl (subst (λ (m : Format One Counts). Budget m (33026 - n)) wait (h .budget))
+      where
+        go : (k : ℕ) → 33026 - n ≡ k → Budget (get w (λ u. 0) (faultAt (l .phase) l) (nextOf (denote l))) k → n < 33026
+        go zero e b = absurd b
+        go (suc k) e b = omega arith
+
+    waiting : read bytes (get w (λ u. 0) (faultAt (l .phase) l) (nextOf (denote l))) at ≡ read bytes cardS 0
+    waiting = ap (λ (m : Format One Counts). read bytes m at) (sym wait) ∙ h .answer
+
+    pub left-ends : 8 * length bytes < at + w → read bytes cardS 0 ≡ refused (number Truncated) at
+    unfolding read
+    left-ends g = sym waiting ∙ rw (lt-ltb (8 * length bytes) (at + w) g)
+
+    module _ (v : ℕ) (r : Move) (g : at + w ≤ 8 * length bytes) (ev : v ≡ bitField (bit bytes) at w) (er : r ≡ stepOf l v) where
+      on : (x : Option FormatFault) → faultAt (l .phase) l v ≡ x → read bytes (get w (λ u. 0) (faultAt (l .phase) l) (nextOf (denote l))) at ≡ Rattle.card.specs.Reading.unlessFault x at (read bytes (nextOf (denote l) v) (at + w))
+      unfolding read
+      on x e = rw (le-ltb (8 * length bytes) (at + w) g, ← ev, e)
+
+      pub left-bad : (f : FormatFault) → r ≡ Bad f → read bytes cardS 0 ≡ refused (number f) at
+      left-bad f e =
+          let k = subst (Leads l v) e (leads l v r er) in
+          sym waiting ∙ on (some f) k
+
+      -- one number more in the table
+      more-values : (k : Format One Counts) → nextOf (denote l) v ≡ k → take (n + 1) (set t n v) ++ numbersIn bytes k (at + w) ≡ numbersIn bytes cardS 0
+      more-values k e =
+          let a : numbersIn bytes (denote l) at ≡ v ∷ numbersIn bytes k (at + w) =
+          ap (λ (m : Format One Counts). numbersIn bytes m at) wait ∙ rw (← ev, e) in
+          rw (add-one, take-suc-set t n v (omega (arith, h .long, left-room))) (append-snoc (take n t) v (numbersIn bytes k (at + w)) ∙ ap (λ xs. take n t ++ xs) (sym a) ∙ h .values)
+
+      more-zeros : (i : ℕ) → n + 1 ≤ i → getD (set t n v) i 0 ≡ 0
+      more-zeros i m = getD-set-other t n i v 0 (λ e. omega arith) ∙ h .zeros i (omega arith)
+
+      pub left-more : (m : Layout) → r ≡ More m → w ≤ 8 → Left m (at + w) (n + 1) (set t n v)
+      left-more m e lw =
+          let k = subst (Leads l v) e (leads l v r er) in
+          record {
+            answer = ap (λ (x : Format One Counts). read bytes x (at + w)) (sym (k .1)) ∙ sym (on none (k .0)) ∙ waiting;
+            values = more-values (denote m) (k .1);
+            zeros = more-zeros;
+            long = length-set t n v ∙ h .long;
+            sane = sane-step l m v (h .sane) (sym er ∙ e);
+            budget = subst (λ (x : Format One Counts). Budget x (33026 - (n + 1))) (k .1) (spent (k .0));
+            low = omega (arith, h .low);
+            inside = g;
+            few = omega (arith, left-room);
+          }
+        where
+          spent : faultAt (l .phase) l v ≡ none → Budget (nextOf (denote l) v) (33026 - (n + 1))
+          spent e =
+              let q : 33026 - n ≡ suc (33026 - (n + 1)) = omega (arith, left-room) in
+              let b : Budget (get w (λ u. 0) (faultAt (l .phase) l) (nextOf (denote l))) (suc (33026 - (n + 1))) = rw q at (subst (λ (x : Format One Counts). Budget x (33026 - n)) wait (h .budget)) in
+              b v (rw ev (field-small (bit bytes) (bit-small bytes) at w)) e
+
+      pub left-done : (k : Counts) → r ≡ Done k → (read bytes cardS 0 ≡ whole k (at + w)) × (take (n + 1) (set t n v) ≡ numbersIn bytes cardS 0) × (length (set t n v) ≡ 33026)
+          × ((i : ℕ) → n + 1 ≤ i → getD (set t n v) i 0 ≡ 0)
+      unfolding read
+      left-done k e =
+          let x = subst (Leads l v) e (leads l v r er) in (
+            sym waiting ∙ on none (x .0) ∙ ap (λ (y : Format One Counts). read bytes y (at + w)) (x .1),
+            sym (append-nil (take (n + 1) (set t n v))) ∙ more-values (done k) (x .1),
+            length-set t n v ∙ h .long,
+            more-zeros,
+          )

@@ -1,0 +1,10 @@
+use mathlib.Core.Path.{refl}
+use Rattle.card.proofs.ReadLaws.{blank-table}
+use Rattle.card.proofs.reader.refused.Statement.{statement}
+use Rattle.card.proofs.reader.refused.Tie as tie
+
+returns : tie.Need-returns
+returns c = record { answer = refl; numbers = blank-table }
+
+pub refused-spec : {M : Type 1} → statement M
+refused-spec = tie.close (tie.spec returns)

@@ -1,0 +1,59 @@
+-- A card's numbers in one table, as the reader leaves them for the layers above.
+use Prim.Native.Nat.{ℕ}
+use mathlib.Core.Path.{_≡_}
+use mathlib.Core.List.{List, map}
+use mathlib.Core.Option.{Option, none, some}
+use lib.ListN.{length, getD}
+use Rattle.card.specs.Finite.{table}
+use Rattle.card.specs.Numbers.{number}
+use Rattle.card.specs.Card.{Card}
+use Rattle.card.specs.Grammar.{card}
+use Rattle.card.specs.Reading.{Reading}
+use Rattle.card.specs.Reading
+use Rattle.card.specs.Writing.{fields}
+use Rattle.card.specs.declared.FormatFault.{FormatFault}
+use Rattle.card.specs.declared.reader.Excess.{Excess}
+use Rattle.card.specs.declared.reader.Excess.the-variants.{Nothing, At}
+use Rattle.card.specs.declared.reader.ReadAnswer.{ReadAnswer}
+use Rattle.card.specs.declared.reader.ReadAnswer.the-variants.{Whole, Refused}
+use Rattle.card.specs.declared.reader.CardRead.{CardRead}
+
+-- the most fields of a card: 3 of the header, 4 of each of 32 subnets, 3 of each of 255 places, 2 of each of 255 transitions, 4 of each of
+-- its 31 arcs
+abbrev pub tableSize : ℕ
+tableSize = 33026
+
+-- the numbers of a card, field after field
+unfoldable pub numbersOf : Card → List ℕ
+numbersOf c = map (λ f. f .value) (fields card c)
+
+-- what the reader says: the three counts, or a number and a bit
+pub data ReadOutcome : Type 0 where
+  whole : (subnets places transitions : ℕ) → ReadOutcome
+  refused : (number bit : ℕ) → ReadOutcome
+
+abbrev pub readOutcome : ReadAnswer → ReadOutcome
+readOutcome (Whole k) = whole (k .subnets) (k .places) (k .transitions)
+readOutcome (Refused f at) = refused (number f) at
+
+abbrev pub outcomeOf : Reading Card → ReadOutcome
+outcomeOf (Reading.whole c end) = whole (length (c .subnets)) (length (c .places)) (length (c .transitions))
+outcomeOf (Reading.refused n at) = refused n at
+
+-- the table of a card that was read: its numbers, then zeros; of a refused one, zeros
+abbrev pub tableOf : Reading Card → List ℕ
+tableOf (Reading.whole c end) = table 0 tableSize (λ i. getD (numbersOf c) i 0)
+tableOf (Reading.refused n at) = table 0 tableSize (λ i. 0)
+
+pub record IsRead (x : Reading Card) (r : CardRead) : Type 0 where
+  pub answer : readOutcome (r .answer) ≡ outcomeOf x
+  pub numbers : r .numbers ≡ tableOf x
+
+-- a refusal, with an empty table
+pub record IsRefused (f : FormatFault) (at : ℕ) (r : CardRead) : Type 0 where
+  pub answer : r .answer ≡ Refused f at
+  pub numbers : r .numbers ≡ table 0 tableSize (λ i. 0)
+
+abbrev pub excessOf : Excess → Option ℕ
+excessOf Nothing = none
+excessOf (At i) = some i
