@@ -16,3 +16,4 @@ pub mod Simulates
 pub mod Bounds
 pub mod Turn
 pub mod ReadLaws
+pub mod WriteTurn

@@ -1,7 +1,7 @@
 -- A field written: its window with the field replaced, and the three bytes stored back. Assumes nothing.
-use Prim.Native.Nat.{ℕ, _+_, _-_, _*_, _/_, _%_, _^_, _≤_, _<_}
+use Prim.Native.Nat.{ℕ, zero, suc, _+_, _-_, _*_, _/_, _%_, _^_, _≤_, _<_}
 use mathlib.Core.Path.{_≡_, ap, sym, _∙_}
-use mathlib.Core.List.{List}
+use mathlib.Core.List.{List, [], _∷_}
 use mathlib.Core.Logic.{_⊎_, inl, inr, _≢_}
 use native.Mathlib.Nat.{mod-lt, le-mul-of-pos-right}
 use native.Mathlib.Omega.{arith}
@@ -98,9 +98,17 @@ module _ (bytes : List ℕ) (k y : ℕ) where
           let h : length bytes ≤ i / 8 = omega arith in
           rw (List·getD-eq-default (stored bytes k y) 0 g, List·getD-eq-default bytes 0 h)
 
+-- a byte stored among bytes
+set-small : (xs : List ℕ) (i a : ℕ) → ((k : ℕ) → getD xs k 0 < 256) → a < 256 → (k : ℕ) → getD (set xs i a) k 0 < 256
+set-small [] i a h l k = h k
+set-small (x ∷ xs) zero a h l zero = l
+set-small (x ∷ xs) zero a h l (suc k) = h (suc k)
+set-small (x ∷ xs) (suc i) a h l zero = h 0
+set-small (x ∷ xs) (suc i) a h l (suc k) = set-small xs i a (λ j. h (suc j)) l k
+
 -- the three bytes of the patched window, stored, write the field
 module _ (old : List ℕ) (at w v x y : ℕ) (h : Window old (at / 8) x) (ey : y ≡ patch x (24 - (at % 8 + w)) w v)
-    (hv : v < 2 ^ w) (hw : w ≤ 16) (fits : at + w ≤ 8 * length old) where
+    (hv : v < 2 ^ w) (hw : w ≤ 16) (fits : at + w ≤ 8 * length old) (hy : y < 2 ^ 24) where
   stored-value : bitField (bit (stored old (at / 8) y)) at w ≡ v
   stored-value =
       field-is (bit (stored old (at / 8) y)) at w v hv
@@ -124,4 +132,9 @@ module _ (old : List ℕ) (at w v x y : ℕ) (h : Window old (at / 8) x) (ey : y
       → new ≡ set second (at / 8 + 2) (y % 256) → Put old at w v new
   unfolding stored
   field-put first second new e1 e2 e3 =
-      rw (e3, e2, e1) (record { long = stored-length old (at / 8) y; value = stored-value; outside = stored-outside })
+      rw (e3, e2, e1) (record {
+        long = stored-length old (at / 8) y;
+        value = stored-value;
+        outside = stored-outside;
+        small = λ h. set-small (set (set old (at / 8) (y / 65536)) (at / 8 + 1) (y / 256 % 256)) (at / 8 + 2) (y % 256) (set-small (set old (at / 8) (y / 65536)) (at / 8 + 1) (y / 256 % 256) (set-small old (at / 8) (y / 65536) h (omega arith)) (omega arith)) (omega arith);
+      })

@@ -41,7 +41,7 @@ filled-is bytes end =
       λ h. (λ i a b. λ e. omega (arith, h .zeros i a (omega arith)), λ l. omega (arith, h .last)),
     )
 
-counted-is : (c : Card) → Decides (counted c) (Counted c)
+pub counted-is : (c : Card) → Decides (counted c) (Counted c)
 unfolding counted
 counted-is c =
     Iff·trans (and-is _ _ _ _ (and-is _ _ _ _ (eq-is (length (c .places)) (firstPlace c (length (c .subnets)))) (eq-is (length (c .transitions)) (firstTransition c (length (c .subnets)))))
@@ -63,6 +63,14 @@ read-encode c a = rw (read-spelt (encode c) card c 0 (spell-spelt (fields card c
     go (refused n at) e = refl
     go (whole d end) e = rw (close d end e)
 
+-- a walk that comes to an end makes the card itself, behind its fields
+pub walk-whole : (c d : Card) (end : ℕ) → Counted c → walk card c 0 ≡ whole d end → (d ≡ c) × (end ≡ bits (fields card c))
+walk-whole c d end k e =
+    let f = clean-walk card c 0 (walk-clean card c 0 end d e) in
+    let b : d ≡ built card c = cc in
+    let q : end ≡ 0 + bits (fields card c) = cc in
+    (b ∙ built-card c k, omega arith)
+
 -- WHAT THE WRITER TAKES IS READ BACK (`read-write`): tables that make a card make one that is read as these tables
 pub record Written (c : Card) (end : ℕ) : Type 0 where
   pub counts : Counted c
@@ -78,10 +86,7 @@ read-write c d end e = go (counted c && allFit (fields card c)) refl e
     go true p q =
         let k = and-is _ _ _ _ (counted-is c) (λ (h : allFit (fields card c) ≡ true). h, λ (h : allFit (fields card c) ≡ true). h) .0 p in
         let r = read-encode c (k .1) in
-        let w : walk card c 0 ≡ whole d end = sym r ∙ q in
-        let f = clean-walk card c 0 (walk-clean card c 0 end d w) in
-        let b : d ≡ built card c = cc in
-        let i : d ≡ c = b ∙ built-card c (k .0) in
+        let i : d ≡ c = walk-whole c d end (k .0) (sym r ∙ q) .0 in
         (i, record { counts = k .0; fit = k .1; reads = subst (λ (x : Card). readCard (encode c) ≡ whole x end) i q })
 
 -- EVERY WELL-FORMED CARD IS ONE THAT THE WRITER TAKES
@@ -107,7 +112,7 @@ read-inside bytes (get w value fault next) at end a l e =
     read-inside bytes (next (bitField (bit bytes) at w)) (at + w) end a (ltb-false (8 * length bytes) (at + w) (g .inside)) (g .rest)
 
 -- bytes that spell the same fields have the same bits there
-spelt-same : (a b : List ℕ) (at : ℕ) (fs : List Field) → Spelt a at fs → Spelt b at fs → (i : ℕ) → at ≤ i → i < at + bits fs → bit a i ≡ bit b i
+pub spelt-same : (a b : List ℕ) (at : ℕ) (fs : List Field) → Spelt a at fs → Spelt b at fs → (i : ℕ) → at ≤ i → i < at + bits fs → bit a i ≡ bit b i
 spelt-same a b at [] x y i l m = absurd (omega arith)
 spelt-same a b at (f ∷ fs) x y i l m = go (lt-or-ge i (at + f .width)) (λ h. spelt-same a b (at + f .width) fs (x .1) (y .1) i h (omega arith))
   where

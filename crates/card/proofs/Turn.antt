@@ -57,12 +57,12 @@ good-move ArcPlace l v = tt
 good-move Weight l v = good-pick (ltb 0 (l .«arc_rows»)) _ _ tt (good-pick (ltb 0 (l .«transition_rows»)) _ _ tt (good-pick (ltb 0 (l .subnets)) _ _ tt tt))
 
 -- what a field leads to
-abbrev Leads : Layout → ℕ → Move → Type 0
+abbrev pub Leads : Layout → ℕ → Move → Type 0
 Leads l v (More m) = (faultAt (l .phase) l v ≡ none) × (nextOf (denote l) v ≡ denote m)
 Leads l v (Done k) = (faultAt (l .phase) l v ≡ none) × (nextOf (denote l) v ≡ done k)
 Leads l v (Bad f) = faultAt (l .phase) l v ≡ some f
 
-leads : (l : Layout) (v : ℕ) (r : Move) → r ≡ stepOf l v → Leads l v r
+pub leads : (l : Layout) (v : ℕ) (r : Move) → r ≡ stepOf l v → Leads l v r
 leads l v r e = go (faultAt (l .phase) l v) refl e
   where
     move : (x r : Move) → faultAt (l .phase) l v ≡ none → nextOf (denote l) v ≡ moveF x → Good x → r ≡ x → Leads l v r
@@ -74,7 +74,7 @@ leads l v r e = go (faultAt (l .phase) l v) refl e
     go none p q = move (moveAt (l .phase) l v) r p (sim (l .phase) l v p) (good-move (l .phase) l v) q
     go (some f) p q = subst (Leads l v) (sym q) p
 
-zero-in : (n i : ℕ) → _≡_ {A = ℕ} (getD (replicate n 0) i 0) 0
+pub zero-in : (n i : ℕ) → _≡_ {A = ℕ} (getD (replicate n 0) i 0) 0
 zero-in zero i = refl
 zero-in (suc n) zero = refl
 zero-in (suc n) (suc i) = zero-in n i

@@ -21,8 +21,9 @@ pub record Window (bytes : List ℕ) (k x : ℕ) : Type 0 where
 unfoldable pub patch : (x low w v : ℕ) → ℕ
 patch x low w v = (x / 2 ^ low / 2 ^ w * 2 ^ w + v) * 2 ^ low + x % 2 ^ low
 
--- new is old with the field of w bits at bit at set to v: every other bit stays
+-- new is old with the field of w bits at bit at set to v: every other bit stays, and bytes stay bytes
 pub record Put (old : List ℕ) (at w v : ℕ) (new : List ℕ) : Type 0 where
   pub long : length new ≡ length old
   pub value : bitField (bit new) at w ≡ v
   pub outside : (i : ℕ) → (i < at) ⊎ (at + w ≤ i) → bit new i ≡ bit old i
+  pub small : ((k : ℕ) → getD old k 0 < 256) → (k : ℕ) → getD new k 0 < 256

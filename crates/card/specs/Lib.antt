@@ -9,4 +9,5 @@ pub mod Layout
 pub mod Reading
 pub mod Writing
 pub mod Tables
+pub mod Spelling
 pub mod Wellformed

@@ -2,6 +2,7 @@
 ghost use mathlib.Core.Path.{_≡_};
 ghost use Prim.Native.Nat.{_+_, _*_, _^_, _<_, _≤_};
 ghost use lib.ListN.{length, getD, set};
+ghost use lib.Dec.{leb};
 ghost use Rattle.card.specs.Bits.{bit, bitField};
 ghost use Rattle.card.specs.Fields.{Window, patch, Put};
 
@@ -17,6 +18,14 @@ pub fn pow2(n: usize) -> u32
     ensures { λ r. ⌜ (r ≡ 2 ^ n) × (0 < r) ⌝ }
 {
     1u32 << n
+}
+
+// Whether a number is too large for a field of width bits.
+pub fn too_wide(value: u16, width: usize) -> bool
+    requires { ⌜ width < 32 ⌝ }
+    ensures { λ r. ⌜ r ≡ leb (2 ^ width) value ⌝ }
+{
+    pow2(width) <= value as u32
 }
 
 // The three bytes from byte k on as one number.

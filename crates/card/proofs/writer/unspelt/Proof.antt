@@ -1,0 +1,10 @@
+use mathlib.Core.Path.{refl}
+use Rattle.card.proofs.ReadLaws.{blank-table}
+use Rattle.card.proofs.writer.unspelt.Statement.{statement}
+use Rattle.card.proofs.writer.unspelt.Tie as tie
+
+returns : tie.Need-returns
+returns c = record { answer = refl; bytes = blank-table }
+
+pub unspelt-spec : {M : Type 1} → statement M
+unspelt-spec = tie.close (tie.spec returns)

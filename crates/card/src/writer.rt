@@ -1,0 +1,66 @@
+// Spelling a card: its numbers, checked as the reader checks them, into bytes.
+use crate::FormatFault;
+use crate::bits::put_field;
+use crate::bits::too_wide;
+use crate::layout::Move;
+use crate::layout::start;
+use crate::layout::step;
+use crate::layout::width;
+ghost use mathlib.Core.Path.{_≡_};
+ghost use Rattle.card.specs.Card.{Card};
+ghost use Rattle.card.specs.Reading.{readCard};
+ghost use Rattle.card.specs.Writing.{encode};
+ghost use Rattle.card.specs.Spelling.{IsSpelt, Lines, IsUnspelt};
+
+// Whole: how many bytes the card has. Refused: why, and at which bit.
+pub enum SpellAnswer {
+    Whole(usize),
+    Refused(FormatFault, usize),
+}
+
+// The answer, and the card's bytes with zeros behind them.
+pub struct CardSpelt {
+    pub answer: SpellAnswer,
+    pub bytes: [u8; 33026],
+}
+
+fn unspelt(f: FormatFault, at: usize) -> CardSpelt
+    ensures { λ r. ⌜ IsUnspelt f at r ⌝ }
+{
+    CardSpelt {
+        answer: SpellAnswer::Refused(f, at),
+        bytes: [0; 33026],
+    }
+}
+
+// Spells the numbers of a card, field after field. A number that does not fit its field is not one of a card's (see Lines).
+pub fn spell_numbers(numbers: &[u16; 33026]) -> CardSpelt
+    ensures { λ r. ⌜ ((c : Card) → Lines c (now (numbers .entry)) → IsSpelt (readCard (encode c)) r) ⌝ }
+{
+    let mut bytes = [0; 33026];
+    let mut l = start();
+    let mut at = 0;
+    let mut n = 0;
+    loop {
+        let w = width(l);
+        let v = numbers[n];
+        if too_wide(v, w) {
+            return unspelt(FormatFault::BadTable, 0);
+        }
+        put_field(&mut bytes, at, w, v);
+        match step(l, v) {
+            Move::More(m) => {
+                l = m;
+                at += w;
+                n += 1;
+            }
+            Move::Done(_k) => {
+                return CardSpelt {
+                    answer: SpellAnswer::Whole((at + w + 7) / 8),
+                    bytes: bytes,
+                };
+            }
+            Move::Bad(f) => return unspelt(f, at),
+        }
+    }
+}
