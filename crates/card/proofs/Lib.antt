@@ -17,3 +17,4 @@ pub mod Bounds
 pub mod Turn
 pub mod ReadLaws
 pub mod WriteTurn
+pub mod Copy

@@ -1,9 +1,10 @@
 -- The writer's half of this layer: a card's numbers, spelt into bytes.
 use Prim.Native.Nat.{ℕ, _<_}
 use mathlib.Core.Path.{_≡_}
-use mathlib.Core.Bool.{true}
-use mathlib.Core.List.{List}
-use lib.ListN.{length, getD}
+use mathlib.Core.Bool.{true, cond}
+use mathlib.Core.List.{List, _++_}
+use lib.ListN.{length, getD, drop}
+use lib.Dec.{leb}
 use Rattle.card.specs.Finite.{table}
 use Rattle.card.specs.Numbers.{number}
 use Rattle.card.specs.Card.{Card}
@@ -49,3 +50,8 @@ pub record Lines (c : Card) (numbers : List ℕ) : Type 0 where
 pub record IsUnspelt (f : FormatFault) (at : ℕ) (r : CardSpelt) : Type 0 where
   pub answer : r .answer ≡ Refused f at
   pub bytes : r .bytes ≡ table 0 tableSize (λ k. 0)
+
+-- Bytes in a lent buffer, if they have room there: a short buffer stays as it was, and so do bytes past the card's length ('Why a call is
+-- turned back', 24 and its last sentence).
+unfoldable pub putInto : (bytes buffer : List ℕ) → List ℕ
+putInto bytes buffer = cond (leb (length bytes) (length buffer)) (bytes ++ drop (length bytes) buffer) buffer

@@ -7,10 +7,12 @@ use crate::layout::start;
 use crate::layout::step;
 use crate::layout::width;
 ghost use mathlib.Core.Path.{_≡_};
+ghost use lib.ListN.{length};
+ghost use lib.Dec.{leb};
 ghost use Rattle.card.specs.Card.{Card};
 ghost use Rattle.card.specs.Reading.{readCard};
 ghost use Rattle.card.specs.Writing.{encode};
-ghost use Rattle.card.specs.Spelling.{IsSpelt, Lines, IsUnspelt};
+ghost use Rattle.card.specs.Spelling.{IsSpelt, Lines, IsUnspelt, putInto};
 
 // Whole: how many bytes the card has. Refused: why, and at which bit.
 pub enum SpellAnswer {
@@ -63,4 +65,20 @@ pub fn spell_numbers(numbers: &[u16; 33026]) -> CardSpelt
             Move::Bad(f) => return unspelt(f, at),
         }
     }
+}
+
+// Copies a card's bytes into a lent buffer, and says whether they had room.
+pub fn put_card(card: &[u8], out: &mut [u8]) -> bool
+    ensures { λ r. ⌜ r ≡ leb (length (now (card .entry))) (length (now (out .entry))) ⌝ }
+    ensures { λ r. ⌜ now (out .exit) ≡ putInto (now (card .entry)) (now (out .entry)) ⌝ }
+{
+    if out.len() < card.len() {
+        return false;
+    }
+    let mut i = 0;
+    while i < card.len() {
+        out[i] = card[i];
+        i += 1;
+    }
+    true
 }
