@@ -57,8 +57,8 @@ fn refused(f: FormatFault, at: usize) -> CardRead
     }
 }
 
-// Reads a card. Two wrong readers that this rules out: one that takes a card with a wrong fill bit, and one that answers with the
-// tables of another card.
+// Reads a card. Two wrong readers that this rules out: one that does not look at the fill bits, and one that leaves gaps between the
+// numbers.
 pub fn read(card: &[u8]) -> CardRead
     ensures { λ r. ⌜ IsRead (readCard (now (card .entry))) r ⌝ }
 {

@@ -35,7 +35,8 @@ fn unspelt(f: FormatFault, at: usize) -> CardSpelt
     }
 }
 
-// Spells the numbers of a card, field after field. A number that does not fit its field is not one of a card's (see Lines).
+// Spells the numbers of a card, field after field. A number that does not fit its field is not one of a card's (see Lines). Two wrong
+// writers that this rules out: one that counts a byte too many, and one that refuses at the number of a field instead of its bit.
 pub fn spell_numbers(numbers: &[u16; 33026]) -> CardSpelt
     ensures { λ r. ⌜ ((c : Card) → Lines c (now (numbers .entry)) → IsSpelt (readCard (encode c)) r) ⌝ }
 {
@@ -67,7 +68,8 @@ pub fn spell_numbers(numbers: &[u16; 33026]) -> CardSpelt
     }
 }
 
-// Copies a card's bytes into a lent buffer, and says whether they had room.
+// Copies a card's bytes into a lent buffer, and says whether they had room. Two wrong copies that this rules out: one that says no once
+// it has written, and one that goes on to the end of the buffer.
 pub fn put_card(card: &[u8], out: &mut [u8]) -> bool
     ensures { λ r. ⌜ r ≡ leb (length (now (card .entry))) (length (now (out .entry))) ⌝ }
     ensures { λ r. ⌜ now (out .exit) ≡ putInto (now (card .entry)) (now (out .entry)) ⌝ }
