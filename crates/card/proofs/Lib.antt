@@ -4,6 +4,7 @@ pub mod Yields
 pub mod Ranges
 pub mod Walk
 pub mod Prefix
+pub mod EachRow
 pub mod Sound
 pub mod Extends
 pub mod Tied

@@ -1,13 +1,14 @@
 -- Reading what a format spells is walking the format with the numbers that were spelt. Assumes nothing.
 use Prim.Native.Nat.{ℕ, zero, suc, _+_, _*_, _^_, _≤_, _<_}
-use mathlib.Core.Path.{_≡_, refl, ap, _∙_}
-use mathlib.Core.Bool.{true}
+use mathlib.Core.Path.{_≡_, refl, ap, subst, _∙_}
+use mathlib.Core.Bool.{Bool, true, false}
 use mathlib.Core.List.{List, [], _∷_, _++_}
 use mathlib.Core.Option.{Option, none, some}
 use native.Mathlib.Omega.{arith}
 use native.Mathlib.Nat.{add-zero}
 use lib.ListN.{length}
-use borrow.Author.Tests.{lt-ltb, le-ltb}
+use lib.Dec.{eqb}
+use borrow.Author.Tests.{lt-ltb, le-ltb, eqb-true, eqb-false}
 use Rattle.card.specs.Finite.{table}
 use Rattle.card.specs.Bits.{bit, bitField}
 use Rattle.card.specs.Format.{Format, done, get, of, each, _>>=_}
@@ -66,6 +67,10 @@ module _ {U A B : Type 0} where
   every-then P (done a) k u h g = g
   every-then P (get w value fault next) k u h g = (h .0, every-then P (next (value u)) k u (h .1) g)
 
+  pub then-every : (P : ℕ → ℕ → Option FormatFault → Type 0) (m : Format U A) (k : A → Format U B) (u : U) → Every P (m >>= k) u → Every P m u × Every P (k (built m u)) u
+  then-every P (done a) k u h = (tt, h)
+  then-every P (get w value fault next) k u h = let r = then-every P (next (value u)) k u (h .1) in ((h .0, r .0), r .1)
+
 -- a format of a part
 module _ {U W A : Type 0} where
   pub built-of : (part : W → U) (m : Format U A) (x : W) → built (of part m) x ≡ built m (part x)
@@ -80,6 +85,10 @@ module _ {U W A : Type 0} where
   pub every-of : (P : ℕ → ℕ → Option FormatFault → Type 0) (part : W → U) (m : Format U A) (x : W) → Every P m (part x) → Every P (of part m) x
   every-of P part (done a) x h = tt
   every-of P part (get w value fault next) x h = (h .0, every-of P part (next (value (part x))) x (h .1))
+
+  pub of-every : (P : ℕ → ℕ → Option FormatFault → Type 0) (part : W → U) (m : Format U A) (x : W) → Every P (of part m) x → Every P m (part x)
+  of-every P part (done a) x h = tt
+  of-every P part (get w value fault next) x h = (h .0, of-every P part (next (value (part x))) x (h .1))
 
 -- several in turn
 pub built-each : {U A : Type 0} (from n : ℕ) (one : ℕ → Format U A) (u : U) → built (each from n one) u ≡ table from n (λ i. built (one i) u)
@@ -97,6 +106,18 @@ every-each P from zero one u h = tt
 every-each P from (suc n) one u h =
     every-then P (one from) _ u (h from (omega arith) (omega arith))
     (every-then P (each (suc from) n one) _ u (every-each P (suc from) n one u (λ i a b. h i (omega arith) (omega arith))) tt)
+
+pub each-every : {U A : Type 0} (P : ℕ → ℕ → Option FormatFault → Type 0) (from n : ℕ) (one : ℕ → Format U A) (u : U)
+    → Every P (each from n one) u → (i : ℕ) → from ≤ i → i < from + n → Every P (one i) u
+unfolding each
+each-every P from zero one u h i a b = absurd (omega arith)
+each-every P from (suc n) one u h i a b =
+    let x = then-every P (one from) _ u h in
+    go (eqb from i) refl (x .0) (λ l. each-every P (suc from) n one u (then-every P (each (suc from) n one) _ u (x .1) .0) i l (omega arith))
+  where
+    go : (t : Bool) → eqb from i ≡ t → Every P (one from) u → (suc from ≤ i → Every P (one i) u) → Every P (one i) u
+    go true e h k = subst (λ (j : ℕ). Every P (one j) u) (eqb-true from i e) h
+    go false e h k = k (omega (arith, eqb-false from i e))
 
 pub every-more : {U A : Type 0} (P Q : ℕ → ℕ → Option FormatFault → Type 0) → ((w v : ℕ) (f : Option FormatFault) → P w v f → Q w v f)
     → (m : Format U A) (u : U) → Every P m u → Every Q m u
