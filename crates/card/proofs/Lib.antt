@@ -19,3 +19,4 @@ pub mod Turn
 pub mod ReadLaws
 pub mod WriteTurn
 pub mod Copy
+pub mod RowLaws

@@ -10,4 +10,5 @@ pub mod Reading
 pub mod Writing
 pub mod Tables
 pub mod Spelling
+pub mod Rows
 pub mod Wellformed

@@ -3,6 +3,7 @@
 mod bits;
 mod layout;
 mod reader;
+mod rows;
 mod writer;
 
 // Why bytes, or tables, are no card. specs/Numbers.antt gives the paper's number of each.

@@ -1,0 +1,50 @@
+-- Rows of numbers in a slice, and the sum of a column. Assumes nothing.
+use Prim.Native.Nat.{ℕ, suc, _+_, _-_, _*_, _/_, _≤_, _<_}
+use mathlib.Core.Path.{_≡_, refl, sym}
+use mathlib.Core.Bool.{Bool, true, false}
+use mathlib.Core.List.{List}
+use native.Mathlib.Omega.{arith}
+use native.Mathlib.Nat.{mul-le-mul-left, mul-div-le, mul-suc}
+use native.Mathlib.Numerals.{add-one}
+use lib.ListN.{length}
+use lib.Dec.{eqb}
+use borrow.Author.Tests.{eq-eqb, ne-eqb}
+use Rattle.card.specs.Finite.{sumTo}
+use Rattle.card.specs.Rows.{entry, columnSum}
+use Rattle.card.proofs.Sums.{sum-mono}
+
+-- an entry of a whole row lies within the slice
+pub entry-inside : (n width i k : ℕ) → i < n / width → k < width → width * i + k < n
+entry-inside n width i k l h =
+    let a : width * suc i ≤ width * (n / width) = mul-le-mul-left width l in
+    omega (arith, a, mul-div-le n width, mul-suc width i)
+
+-- what is left of a total, once the first i entries of a column are taken away
+module _ (rows : List ℕ) (width column total : ℕ) where
+  pub record Left (left i : ℕ) : Type 0 where
+    pub sum : left + sumTo i (λ j. entry rows width j column) ≡ total
+    pub inside : i ≤ length rows / width
+
+  pub left-start : Left total 0
+  unfolding sumTo
+  left-start = record { sum = omega arith; inside = omega arith }
+
+  module _ (left i : ℕ) (h : Left left i) where
+    pub left-more : i < length rows / width → entry rows width i column ≤ left → Left (left - entry rows width i column) (i + 1)
+    unfolding sumTo
+    left-more l m = rw add-one (record { sum = omega (arith, h .sum); inside = omega arith })
+
+    pub left-short : i < length rows / width → left < entry rows width i column → false ≡ eqb total (columnSum rows width column)
+    left-short l m =
+        let a : sumTo (suc i) (λ j. entry rows width j column) ≡ sumTo i (λ j. entry rows width j column) + entry rows width i column = unfold sumTo in refl in
+        sym (ne-eqb total (columnSum rows width column) (λ e. omega (arith, h .sum, a, sum-mono (suc i) (length rows / width) (λ j. entry rows width j column) l)))
+
+    pub left-done : length rows / width ≤ i → eqb left 0 ≡ eqb total (columnSum rows width column)
+    left-done l =
+        let e : i ≡ length rows / width = omega (arith, h .inside) in
+        let s : left + columnSum rows width column ≡ total = rw (← e) (h .sum) in
+        go (eqb left 0) refl s
+      where
+        go : (b : Bool) → eqb left 0 ≡ b → left + columnSum rows width column ≡ total → b ≡ eqb total (columnSum rows width column)
+        go true p s = sym (eq-eqb total (columnSum rows width column) (omega (arith, borrow.Author.Tests.eqb-true left 0 p)))
+        go false p s = sym (ne-eqb total (columnSum rows width column) (λ q. omega (arith, borrow.Author.Tests.eqb-false left 0 p)))
