@@ -1,16 +1,16 @@
 -- Rows of numbers in a slice, and the sum of a column. Assumes nothing.
-use Prim.Native.Nat.{ℕ, suc, _+_, _-_, _*_, _/_, _≤_, _<_}
-use mathlib.Core.Path.{_≡_, refl, sym}
+use Prim.Native.Nat.{ℕ, suc, _+_, _-_, _*_, _/_, _%_, _^_, _≤_, _<_}
+use mathlib.Core.Path.{_≡_, refl, sym, subst}
 use mathlib.Core.Bool.{Bool, true, false}
 use mathlib.Core.List.{List}
 use native.Mathlib.Omega.{arith}
 use native.Mathlib.Nat.{mul-le-mul-left, mul-div-le, mul-suc}
 use native.Mathlib.Numerals.{add-one}
-use lib.ListN.{length}
+use lib.ListN.{length, getD}
 use lib.Dec.{eqb}
-use borrow.Author.Tests.{eq-eqb, ne-eqb}
+use borrow.Author.Tests.{eq-eqb, ne-eqb, eqb-true, eqb-false}
 use Rattle.card.specs.Finite.{sumTo}
-use Rattle.card.specs.Rows.{entry, columnSum}
+use Rattle.card.specs.Rows.{entry, columnSum, RowsFit}
 use Rattle.card.proofs.Sums.{sum-mono}
 
 -- an entry of a whole row lies within the slice
@@ -46,5 +46,30 @@ module _ (rows : List ℕ) (width column total : ℕ) where
         go (eqb left 0) refl s
       where
         go : (b : Bool) → eqb left 0 ≡ b → left + columnSum rows width column ≡ total → b ≡ eqb total (columnSum rows width column)
-        go true p s = sym (eq-eqb total (columnSum rows width column) (omega (arith, borrow.Author.Tests.eqb-true left 0 p)))
-        go false p s = sym (ne-eqb total (columnSum rows width column) (λ q. omega (arith, borrow.Author.Tests.eqb-false left 0 p)))
+        go true p s = sym (eq-eqb total (columnSum rows width column) (omega (arith, eqb-true left 0 p)))
+        go false p s = sym (ne-eqb total (columnSum rows width column) (λ q. omega (arith, eqb-false left 0 p)))
+
+-- the numbers that fit their columns so far
+module _ (rows widths : List ℕ) where
+  abbrev Fit : ℕ → Type 0
+  Fit i = getD rows i 0 < 2 ^ getD widths (i % length widths) 0
+
+  pub record FitTo (i : ℕ) : Type 0 where
+    pub before : (j : ℕ) → j < i → Fit j
+
+  pub fit-start : FitTo 0
+  fit-start = record { before = λ j l. absurd (omega arith) }
+
+  pub fit-more : (i : ℕ) → FitTo i → Fit i → FitTo (i + 1)
+  fit-more i h f = record { before = λ j l. go j l (eqb j i) refl }
+    where
+      go : (j : ℕ) → j < i + 1 → (b : Bool) → eqb j i ≡ b → Fit j
+      go j l true e = subst Fit (sym (eqb-true j i e)) f
+      go j l false e = h .before j (omega (arith, eqb-false j i e))
+
+  -- one that does not fit
+  pub fit-fails : (i : ℕ) → i < length rows → 2 ^ getD widths (i % length widths) 0 ≤ getD rows i 0 → (false ≡ true → RowsFit rows widths) × (RowsFit rows widths → false ≡ true)
+  fit-fails i l h = (λ e. absurd (let z : _≡_ {A = ℕ} 0 1 = cc in omega arith), λ r. absurd (omega (arith, h, r i l)))
+
+  pub fit-done : (i : ℕ) → FitTo i → length rows ≤ i → (true ≡ true → RowsFit rows widths) × (RowsFit rows widths → true ≡ true)
+  fit-done i h l = (λ e j m. h .before j (omega arith), λ r. refl)

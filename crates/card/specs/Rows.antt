@@ -1,5 +1,5 @@
 -- A card's tables in lent slices: numbers, row after row.
-use Prim.Native.Nat.{ℕ, _+_, _*_, _/_, _%_}
+use Prim.Native.Nat.{ℕ, _+_, _*_, _/_, _%_, _^_, _<_}
 use mathlib.Core.Bool.{Bool, _&&_, cond}
 use mathlib.Core.List.{List}
 use lib.ListN.{length, getD}
@@ -38,3 +38,7 @@ readRows version signals subnets places transitions arcs =
 -- the sum of a column
 abbrev pub columnSum : (rows : List ℕ) → (width column : ℕ) → ℕ
 columnSum rows width column = sumTo (length rows / width) (λ i. entry rows width i column)
+
+-- each number fits the field of its column
+abbrev pub RowsFit : (rows widths : List ℕ) → Type 0
+RowsFit rows widths = (i : ℕ) → i < length rows → getD rows i 0 < 2 ^ getD widths (i % length widths) 0

@@ -2,7 +2,7 @@
 use crate::FormatFault;
 ghost use mathlib.Core.Path.{_≡_};
 ghost use Prim.Native.Nat.{_<_, _≤_};
-ghost use Rattle.card.specs.Layout.{startOf, widthOf, to, stepAt, stepOf, Sane};
+ghost use Rattle.card.specs.Layout.{startOf, widthAt, widthOf, to, stepAt, stepOf, Sane};
 ghost use Rattle.card.specs.declared.layout.Phase.the-variants.{Version, SubnetCount, SignalCount, Parent, SubnetType, PlaceCount, TransitionCount, Kind, Capacity, Tokens, Signal, ArcCount, Weight};
 
 pub enum Phase {
@@ -70,10 +70,9 @@ pub fn start() -> Layout
     }
 }
 
-pub fn width(l: Layout) -> usize
-    ensures { λ r. ⌜ (r ≡ widthOf l) × (1 ≤ r) × (r ≤ 8) ⌝ }
+pub fn width_at(p: Phase) -> usize
+    ensures { λ r. ⌜ (r ≡ widthAt p) × (1 ≤ r) × (r ≤ 8) ⌝ }
 {
-    let p = l.phase;
     match p {
         Phase::Version => 4,
         Phase::SubnetCount => 6,
@@ -92,6 +91,13 @@ pub fn width(l: Layout) -> usize
         Phase::ArcPlace => 8,
         Phase::Weight => 8,
     }
+}
+
+pub fn width(l: Layout) -> usize
+    ensures { λ r. ⌜ (r ≡ widthOf l) × (1 ≤ r) × (r ≤ 8) ⌝ }
+{
+    let p = l.phase;
+    width_at(p)
 }
 
 // The same layout at another phase.

@@ -1,8 +1,11 @@
 // A card's tables in lent slices, and what 17 asks of them.
+use crate::bits::too_wide;
 ghost use mathlib.Core.Path.{_≡_};
-ghost use Prim.Native.Nat.{_<_};
+ghost use mathlib.Core.Bool.{true};
+ghost use Prim.Native.Nat.{ℕ, _<_};
+ghost use lib.ListN.{length, getD};
 ghost use lib.Dec.{eqb};
-ghost use Rattle.card.specs.Rows.{columnSum};
+ghost use Rattle.card.specs.Rows.{columnSum, RowsFit};
 
 fn wide(v: u16) -> usize
     ensures { λ r. ⌜ r ≡ v ⌝ }
@@ -27,4 +30,19 @@ pub fn adds_up(rows: &[u16], width: usize, column: usize, total: usize) -> bool
         i += 1;
     }
     left == 0
+}
+
+// Whether the numbers of rows fit the widths of their columns.
+pub fn rows_fit(rows: &[u16], widths: &[usize]) -> bool
+    requires { ⌜ (0 < length (now widths)) × ((k : ℕ) → getD (now widths) k 0 < 32) ⌝ }
+    ensures { λ r. ⌜ (r ≡ true → RowsFit (now (rows .entry)) (now (widths .entry))) × (RowsFit (now (rows .entry)) (now (widths .entry)) → r ≡ true) ⌝ }
+{
+    let mut i = 0;
+    while i < rows.len() {
+        if too_wide(rows[i], widths[i % widths.len()]) {
+            return false;
+        }
+        i += 1;
+    }
+    true
 }

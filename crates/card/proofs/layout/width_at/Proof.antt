@@ -2,8 +2,8 @@ use mathlib.Core.Path.{refl}
 use native.Mathlib.Omega.{arith}
 use borrow.Author.Needs.{needs}
 use Rattle.card.specs.Grammar.{header, subnet, place, transition, arc}
-use Rattle.card.proofs.layout.width.Statement.{statement}
-use Rattle.card.proofs.layout.width.Tie as tie
+use Rattle.card.proofs.layout.width_at.Statement.{statement}
+use Rattle.card.proofs.layout.width_at.Tie as tie
 
 enum-told : tie.Need-enum-told
 enum-told c = search needs
@@ -117,8 +117,8 @@ returns-16 : tie.Need-returns-16
 unfolding arc
 returns-16 c = rw (c .enum-told16 .given .1) (refl, omega arith, omega arith)
 
-pub width-spec : {M : Type 1} → statement M
-width-spec =
+pub width-at-spec : {M : Type 1} → statement M
+width-at-spec =
     tie.close
     (tie.spec
     enum-told
