@@ -20,3 +20,4 @@ pub mod ReadLaws
 pub mod WriteTurn
 pub mod Copy
 pub mod RowLaws
+pub mod TableLaws

@@ -5,7 +5,8 @@ ghost use mathlib.Core.Bool.{true};
 ghost use Prim.Native.Nat.{ℕ, _<_};
 ghost use lib.ListN.{length, getD};
 ghost use lib.Dec.{eqb};
-ghost use Rattle.card.specs.Rows.{columnSum, RowsFit};
+ghost use Rattle.card.specs.Rows.{columnSum, RowsFit, tablesIn, wholeRows};
+ghost use Rattle.card.specs.Writing.{counted};
 
 fn wide(v: u16) -> usize
     ensures { λ r. ⌜ r ≡ v ⌝ }
@@ -45,4 +46,33 @@ pub fn rows_fit(rows: &[u16], widths: &[usize]) -> bool
         i += 1;
     }
     true
+}
+
+// Whether each slice ends with a row.
+pub fn whole_rows(subnets: &[u16], places: &[u16], transitions: &[u16], arcs: &[u16]) -> bool
+    ensures { λ r. ⌜ r ≡ wholeRows (now (subnets .entry)) (now (places .entry)) (now (transitions .entry)) (now (arcs .entry)) ⌝ }
+{
+    if subnets.len() % 4 != 0 {
+        return false;
+    }
+    if places.len() % 3 != 0 {
+        return false;
+    }
+    if transitions.len() % 2 != 0 {
+        return false;
+    }
+    arcs.len() % 4 == 0
+}
+
+// Whether there are as many rows as the counts say.
+pub fn counts_match(subnets: &[u16], places: &[u16], transitions: &[u16], arcs: &[u16]) -> bool
+    ensures { λ r. ⌜ ((v g : ℕ) → r ≡ counted (tablesIn v g (now (subnets .entry)) (now (places .entry)) (now (transitions .entry)) (now (arcs .entry)))) ⌝ }
+{
+    if !adds_up(subnets, 4, 2, places.len() / 3) {
+        return false;
+    }
+    if !adds_up(subnets, 4, 3, transitions.len() / 2) {
+        return false;
+    }
+    adds_up(transitions, 2, 1, arcs.len() / 4)
 }

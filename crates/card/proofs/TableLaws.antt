@@ -1,0 +1,72 @@
+-- What the slices of tables hold: the rows by number, and their counts. Assumes nothing.
+use Prim.Native.Nat.{ℕ, _/_, _≤_, _<_}
+use mathlib.Core.Path.{_≡_, refl, sym, ap}
+use mathlib.Core.Bool.{Bool, true, false, _&&_, not}
+use mathlib.Core.List.{List}
+use native.Mathlib.Omega.{arith}
+use lib.ListN.{length}
+use lib.Dec.{eqb}
+use Rattle.card.specs.Finite.{sumTo}
+use Rattle.card.specs.Card.{Card, Subnet, Transition, subnetAt, placeAt, transitionAt, firstPlace, firstTransition, firstArc}
+use Rattle.card.specs.Writing.{counted}
+use Rattle.card.specs.Rows.{entry, columnSum, tablesIn}
+use Rattle.card.proofs.Sums.{table-length, table-at, sum-same}
+
+pub not-false : (b : Bool) → not b ≡ false → b ≡ true
+not-false true e = refl
+not-false false e = sym e
+
+pub not-true : (b : Bool) → not b ≡ true → b ≡ false
+not-true true e = sym e
+not-true false e = refl
+
+module _ (v g : ℕ) (subnets places transitions arcs : List ℕ) where
+  abbrev c : Card
+  c = tablesIn v g subnets places transitions arcs
+
+  pub subnet-row : (s : ℕ) → s < length subnets / 4
+      → subnetAt c s ≡ record { parent = entry subnets 4 s 0; type = entry subnets 4 s 1; places = entry subnets 4 s 2; transitions = entry subnets 4 s 3 }
+  unfolding tablesIn
+  subnet-row s l = table-at (length subnets / 4) _ _ s l
+
+  pub place-row : (p : ℕ) → p < length places / 3 → placeAt c p ≡ record { kind = entry places 3 p 0; capacity = entry places 3 p 1; tokens = entry places 3 p 2 }
+  unfolding tablesIn
+  place-row p l = table-at (length places / 3) _ _ p l
+
+  pub transition-row : (t : ℕ) → t < length transitions / 2 → transitionAt c t ≡ record { signal = entry transitions 2 t 0; arcs = entry transitions 2 t 1 }
+  unfolding tablesIn
+  transition-row t l = table-at (length transitions / 2) _ _ t l
+
+  pub subnet-count : length (c .subnets) ≡ length subnets / 4
+  unfolding tablesIn
+  subnet-count = table-length 0 (length subnets / 4) _
+
+  pub place-count : length (c .places) ≡ length places / 3
+  unfolding tablesIn
+  place-count = table-length 0 (length places / 3) _
+
+  pub transition-count : length (c .transitions) ≡ length transitions / 2
+  unfolding tablesIn
+  transition-count = table-length 0 (length transitions / 2) _
+
+  pub arc-count : length (c .arcs) ≡ length arcs / 4
+  unfolding tablesIn
+  arc-count = table-length 0 (length arcs / 4) _
+
+  -- the first numbers are sums of columns
+  pub place-sum : (s : ℕ) → s ≤ length subnets / 4 → firstPlace c s ≡ sumTo s (λ i. entry subnets 4 i 2)
+  unfolding firstPlace
+  place-sum s l = sum-same s _ _ (λ i m. ap (λ (r : Subnet). r .places) (subnet-row i (omega arith)))
+
+  pub transition-sum : (s : ℕ) → s ≤ length subnets / 4 → firstTransition c s ≡ sumTo s (λ i. entry subnets 4 i 3)
+  unfolding firstTransition
+  transition-sum s l = sum-same s _ _ (λ i m. ap (λ (r : Subnet). r .transitions) (subnet-row i (omega arith)))
+
+  pub arc-sum : (t : ℕ) → t ≤ length transitions / 2 → firstArc c t ≡ sumTo t (λ i. entry transitions 2 i 1)
+  unfolding firstArc
+  arc-sum t l = sum-same t _ _ (λ i m. ap (λ (r : Transition). r .arcs) (transition-row i (omega arith)))
+
+  pub counted-sums : counted c ≡ eqb (length places / 3) (columnSum subnets 4 2) && eqb (length transitions / 2) (columnSum subnets 4 3) && eqb (length arcs / 4) (columnSum transitions 2 1)
+  unfolding counted
+  counted-sums =
+      rw (place-count, transition-count, arc-count, subnet-count, place-sum (length subnets / 4) (omega arith), transition-sum (length subnets / 4) (omega arith), arc-sum (length transitions / 2) (omega arith))
