@@ -1,7 +1,7 @@
 """Random cards and rows, sound and damaged."""
 
-from net import (Arc, Card, DRAW, FILL, NORMAL, Place, Subnet, Transition, encode, encode_row,
-                 fits)
+from net import (ARC_BITS, Arc, Card, DRAW, FILL, MOST, NORMAL, Place, Subnet, Transition, encode,
+                 encode_row, fits, pack)
 
 # The directions that a parent may use at a place, by kind.
 PARENT_MAY = ((), (FILL,), (DRAW,), (DRAW, FILL))
@@ -26,6 +26,12 @@ def change(card, table, index, **values):
     rows = getattr(changed, table)
     rows[index] = rows[index]._replace(**values)
     return changed
+
+
+def with_field(data, bit, width, value):
+    """The card with one field changed."""
+    bits = "".join(format(byte, "08b") for byte in data)
+    return pack(bits[:bit] + format(value, f"0{width}b") + bits[bit + width:])
 
 
 def random_transition(rng, number, ends, places, signals):
@@ -99,6 +105,24 @@ def sealed(card):
     for index in range(len(card.places)):
         card = change(card, "places", index, kind=NORMAL)
     return card
+
+
+def largest_card(rng):
+    """Random tables of the most bytes that pass one takes: 255 transitions of 31 arcs."""
+    def place(number):
+        capacity = rng.randint(1, MOST)
+        return (rng.randrange(4) if number else NORMAL, capacity, rng.randint(0, capacity))
+
+    def transition():
+        arcs = [tuple(rng.randrange(1 << width) for width in ARC_BITS) for _ in range(31)]
+        return (rng.randrange(63), arcs)
+
+    rows = []
+    for number in range(32):
+        count = 8 if number < 31 else 7
+        rows.append((rng.randrange(max(number, 1)), rng.randrange(32) if number else 0,
+                     [place(number) for _ in range(count)], [transition() for _ in range(count)]))
+    return tables(63, *rows)
 
 
 def torn(rng, data):

@@ -4,18 +4,12 @@ import random
 import unittest
 
 import net
-from cards import change, random_card, random_row, tables
+from cards import change, random_card, random_row, tables, with_field
 from net import DRAW, FILL, IN, IN_OUT, NORMAL, OUT, State, Subnet, SubnetState
 
 
 def card_bytes(signals, *subnets):
     return net.encode(tables(signals, *subnets))
-
-
-def with_field(data, bit, width, value):
-    """The card with one field changed."""
-    bits = "".join(format(byte, "08b") for byte in data)
-    return net.pack(bits[:bit] + format(value, f"0{width}b") + bits[bit + width:])
 
 
 TABLES_A = tables(

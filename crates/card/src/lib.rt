@@ -1,10 +1,13 @@
 // Layer 1: the card's format. specs/ says what a card is, how it is read and how it is written.
 
 mod bits;
-mod layout;
-mod reader;
-mod rows;
-mod writer;
+pub mod layout;
+pub mod reader;
+pub mod rows;
+pub mod writer;
+
+ghost use mathlib.Core.Path.{_≡_};
+ghost use Rattle.card.specs.Numbers.{number};
 
 // Why bytes, or tables, are no card. specs/Numbers.antt gives the paper's number of each.
 pub enum FormatFault {
@@ -18,4 +21,22 @@ pub enum FormatFault {
     BadTransition,
     BadFill,
     BadTable,
+}
+
+// The paper's number of a fault.
+pub fn fault_number(f: FormatFault) -> u64
+    ensures { λ r. ⌜ r ≡ number f ⌝ }
+{
+    match f {
+        FormatFault::Truncated => 1,
+        FormatFault::BadVersion => 2,
+        FormatFault::BadSize => 3,
+        FormatFault::BadParent => 4,
+        FormatFault::BadType => 5,
+        FormatFault::BadCount => 6,
+        FormatFault::BadPlace => 7,
+        FormatFault::BadTransition => 8,
+        FormatFault::BadFill => 9,
+        FormatFault::BadTable => 17,
+    }
 }
