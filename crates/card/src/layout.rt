@@ -26,9 +26,9 @@ pub enum Phase {
 
 // The field that comes next, and what the fields before it say of those behind it: how many signals there are; how many subnets come
 // after this one, and its number; how many places and transitions are listed so far; how many rows of each kind come after this one;
-// the capacity of the place at hand.
+// the capacity of the place at hand. The phase stands last, so that in Move it does not lie over a count of Counts: else the compiled
+// reader keeps it in memory as one byte, loads two, and waits for that at each field.
 pub struct Layout {
-    pub phase: Phase,
     pub signals: u16,
     pub subnets: u16,
     pub subnet: u16,
@@ -38,6 +38,7 @@ pub struct Layout {
     pub transition_rows: u16,
     pub arc_rows: u16,
     pub capacity: u16,
+    pub phase: Phase,
 }
 
 // How many subnets, places and transitions a card lists.
