@@ -1,15 +1,15 @@
 -- Rows of numbers in a slice, and the sum of a column. Assumes nothing.
-use Prim.Native.Nat.{ℕ, suc, _+_, _-_, _*_, _/_, _%_, _^_, _≤_, _<_}
+use Prim.Native.Nat.{ℕ, zero, suc, _+_, _-_, _*_, _/_, _%_, _^_, _≤_, _<_}
 use mathlib.Core.Path.{_≡_, refl, sym, subst}
 use mathlib.Core.Bool.{Bool, true, false}
-use mathlib.Core.List.{List}
+use mathlib.Core.List.{List, [], _∷_}
 use native.Mathlib.Omega.{arith}
 use native.Mathlib.Nat.{mul-le-mul-left, mul-div-le, mul-suc}
 use native.Mathlib.Numerals.{add-one}
 use lib.ListN.{length, getD}
 use lib.Dec.{eqb}
 use borrow.Author.Tests.{eq-eqb, ne-eqb, eqb-true, eqb-false}
-use Rattle.card.specs.Finite.{sumTo}
+use Rattle.card.specs.Finite.{sumTo, All}
 use Rattle.card.specs.Rows.{entry, columnSum, RowsFit}
 use Rattle.card.proofs.Sums.{sum-mono}
 
@@ -73,3 +73,9 @@ module _ (rows widths : List ℕ) where
 
   pub fit-done : (i : ℕ) → FitTo i → length rows ≤ i → (true ≡ true → RowsFit rows widths) × (RowsFit rows widths → true ≡ true)
   fit-done i h l = (λ e j m. h .before j (omega arith), λ r. refl)
+
+-- widths of fields are small
+pub widths-small : (ws : List ℕ) → All (λ w. w ≤ 8) ws → (k : ℕ) → getD ws k 0 < 32
+widths-small [] h k = omega arith
+widths-small (w ∷ ws) h zero = omega (arith, h .0)
+widths-small (w ∷ ws) h (suc k) = widths-small ws (h .1) k

@@ -1,15 +1,18 @@
 -- What the slices of tables hold: the rows by number, and their counts. Assumes nothing.
-use Prim.Native.Nat.{ℕ, _/_, _≤_, _<_}
-use mathlib.Core.Path.{_≡_, refl, sym, ap}
+use Prim.Native.Nat.{ℕ, _/_, _^_, _≤_, _<_}
+use mathlib.Core.Path.{_≡_, refl, sym, ap, _∙_}
 use mathlib.Core.Bool.{Bool, true, false, _&&_, not}
 use mathlib.Core.List.{List}
 use native.Mathlib.Omega.{arith}
 use lib.ListN.{length}
-use lib.Dec.{eqb}
+use lib.Dec.{ltb, eqb}
+use borrow.Author.Tests.{ltb-true, lt-ltb}
 use Rattle.card.specs.Finite.{sumTo}
 use Rattle.card.specs.Card.{Card, Subnet, Transition, subnetAt, placeAt, transitionAt, firstPlace, firstTransition, firstArc}
 use Rattle.card.specs.Writing.{counted}
-use Rattle.card.specs.Rows.{entry, columnSum, tablesIn}
+use Rattle.card.specs.Rows.{entry, columnSum, tablesIn, Tells, HeaderFits}
+use Rattle.card.specs.Layout.{widthAt}
+use Rattle.card.specs.declared.layout.Phase.the-variants.{Version, SubnetCount, SignalCount}
 use Rattle.card.proofs.Sums.{table-length, table-at, sum-same}
 
 pub not-false : (b : Bool) → not b ≡ false → b ≡ true
@@ -19,6 +22,16 @@ not-false false e = sym e
 pub not-true : (b : Bool) → not b ≡ true → b ≡ false
 not-true true e = sym e
 not-true false e = refl
+
+-- an answer no, because of a part or of a number; and what it takes for a yes
+pub tells-not : {P Q : Type 0} (b : Bool) → Tells b Q → b ≡ false → (P → Q) → Tells false P
+tells-not b t e f = (λ z. absurd (let y : _≡_ {A = ℕ} 0 1 = cc in omega arith), λ p. sym e ∙ t .1 (f p))
+
+pub tells-no : {P : Type 0} → (P → _≤_ 1 0) → Tells false P
+tells-no f = (λ z. absurd (let y : _≡_ {A = ℕ} 0 1 = cc in omega arith), λ p. absurd (omega (arith, f p)))
+
+pub tells-header : (v g s n : ℕ) → v < 2 ^ widthAt Version → g < 2 ^ widthAt SignalCount → n ≡ 2 ^ widthAt SubnetCount → Tells (ltb s n) (HeaderFits v g s)
+tells-header v g s n a b e = (λ t. record { version = a; signals = b; subnets = rw e at (ltb-true s n t) }, λ h. lt-ltb s n (rw (← e) at (h .subnets)))
 
 module _ (v g : ℕ) (subnets places transitions arcs : List ℕ) where
   abbrev c : Card

@@ -1,7 +1,8 @@
 -- A card's tables in lent slices: numbers, row after row.
 use Prim.Native.Nat.{ℕ, _+_, _*_, _/_, _%_, _^_, _<_}
-use mathlib.Core.Bool.{Bool, _&&_, cond}
-use mathlib.Core.List.{List}
+use mathlib.Core.Path.{_≡_}
+use mathlib.Core.Bool.{Bool, true, _&&_, cond}
+use mathlib.Core.List.{List, [], _∷_}
 use lib.ListN.{length, getD}
 use lib.Dec.{eqb}
 use Rattle.card.specs.Finite.{table, sumTo}
@@ -9,6 +10,8 @@ use Rattle.card.specs.Numbers.{number}
 use Rattle.card.specs.Card.{Card}
 use Rattle.card.specs.Reading.{Reading, refused}
 use Rattle.card.specs.Writing.{readTables}
+use Rattle.card.specs.Layout.{widthAt}
+use Rattle.card.specs.declared.layout.Phase.the-variants.{Version, SubnetCount, SignalCount, Parent, SubnetType, PlaceCount, TransitionCount, Kind, Capacity, Tokens, Signal, ArcCount, Direction, ArcSubnet, ArcPlace, Weight}
 use Rattle.card.specs.declared.FormatFault.the-variants.{BadTable}
 
 -- number k of row i, where a row has so many numbers
@@ -42,3 +45,33 @@ columnSum rows width column = sumTo (length rows / width) (λ i. entry rows widt
 -- each number fits the field of its column
 abbrev pub RowsFit : (rows widths : List ℕ) → Type 0
 RowsFit rows widths = (i : ℕ) → i < length rows → getD rows i 0 < 2 ^ getD widths (i % length widths) 0
+
+-- an answer tells whether something holds
+abbrev pub Tells : Bool → Type 0 → Type 0
+Tells r P = (r ≡ true → P) × (P → r ≡ true)
+
+-- the widths of the columns, which are the grammar's
+abbrev pub subnetWidths : List ℕ
+subnetWidths = widthAt Parent ∷ widthAt SubnetType ∷ widthAt PlaceCount ∷ widthAt TransitionCount ∷ []
+
+abbrev pub placeWidths : List ℕ
+placeWidths = widthAt Kind ∷ widthAt Capacity ∷ widthAt Tokens ∷ []
+
+abbrev pub transitionWidths : List ℕ
+transitionWidths = widthAt Signal ∷ widthAt ArcCount ∷ []
+
+abbrev pub arcWidths : List ℕ
+arcWidths = widthAt Direction ∷ widthAt ArcSubnet ∷ widthAt ArcPlace ∷ widthAt Weight ∷ []
+
+pub record HeaderFits (v g s : ℕ) : Type 0 where
+  pub version : v < 2 ^ widthAt Version
+  pub signals : g < 2 ^ widthAt SignalCount
+  pub subnets : s < 2 ^ widthAt SubnetCount
+
+-- each number of the tables fits its field
+pub record ValuesFit (v g : ℕ) (s p t a : List ℕ) : Type 0 where
+  pub header : HeaderFits v g (length s / 4)
+  pub subnets : RowsFit s subnetWidths
+  pub places : RowsFit p placeWidths
+  pub transitions : RowsFit t transitionWidths
+  pub arcs : RowsFit a arcWidths

@@ -1,11 +1,13 @@
 // A card's tables in lent slices, and what 17 asks of them.
+use crate::bits::pow2;
 use crate::bits::too_wide;
+use crate::layout::Phase;
+use crate::layout::width_at;
 ghost use mathlib.Core.Path.{_≡_};
-ghost use mathlib.Core.Bool.{true};
 ghost use Prim.Native.Nat.{ℕ, _<_};
 ghost use lib.ListN.{length, getD};
 ghost use lib.Dec.{eqb};
-ghost use Rattle.card.specs.Rows.{columnSum, RowsFit, tablesIn, wholeRows};
+ghost use Rattle.card.specs.Rows.{columnSum, RowsFit, tablesIn, wholeRows, Tells, subnetWidths, placeWidths, transitionWidths, arcWidths, HeaderFits, ValuesFit};
 ghost use Rattle.card.specs.Writing.{counted};
 
 fn wide(v: u16) -> usize
@@ -36,7 +38,7 @@ pub fn adds_up(rows: &[u16], width: usize, column: usize, total: usize) -> bool
 // Whether the numbers of rows fit the widths of their columns.
 pub fn rows_fit(rows: &[u16], widths: &[usize]) -> bool
     requires { ⌜ (0 < length (now widths)) × ((k : ℕ) → getD (now widths) k 0 < 32) ⌝ }
-    ensures { λ r. ⌜ (r ≡ true → RowsFit (now (rows .entry)) (now (widths .entry))) × (RowsFit (now (rows .entry)) (now (widths .entry)) → r ≡ true) ⌝ }
+    ensures { λ r. ⌜ Tells r (RowsFit (now (rows .entry)) (now (widths .entry))) ⌝ }
 {
     let mut i = 0;
     while i < rows.len() {
@@ -75,4 +77,84 @@ pub fn counts_match(subnets: &[u16], places: &[u16], transitions: &[u16], arcs: 
         return false;
     }
     adds_up(transitions, 2, 1, arcs.len() / 4)
+}
+
+fn subnets_fit(rows: &[u16]) -> bool
+    ensures { λ r. ⌜ Tells r (RowsFit (now (rows .entry)) subnetWidths) ⌝ }
+{
+    let widths = [
+        width_at(Phase::Parent),
+        width_at(Phase::SubnetType),
+        width_at(Phase::PlaceCount),
+        width_at(Phase::TransitionCount),
+    ];
+    rows_fit(rows, &widths)
+}
+
+fn places_fit(rows: &[u16]) -> bool
+    ensures { λ r. ⌜ Tells r (RowsFit (now (rows .entry)) placeWidths) ⌝ }
+{
+    let widths = [
+        width_at(Phase::Kind),
+        width_at(Phase::Capacity),
+        width_at(Phase::Tokens),
+    ];
+    rows_fit(rows, &widths)
+}
+
+fn transitions_fit(rows: &[u16]) -> bool
+    ensures { λ r. ⌜ Tells r (RowsFit (now (rows .entry)) transitionWidths) ⌝ }
+{
+    let widths = [width_at(Phase::Signal), width_at(Phase::ArcCount)];
+    rows_fit(rows, &widths)
+}
+
+fn arcs_fit(rows: &[u16]) -> bool
+    ensures { λ r. ⌜ Tells r (RowsFit (now (rows .entry)) arcWidths) ⌝ }
+{
+    let widths = [
+        width_at(Phase::Direction),
+        width_at(Phase::ArcSubnet),
+        width_at(Phase::ArcPlace),
+        width_at(Phase::Weight),
+    ];
+    rows_fit(rows, &widths)
+}
+
+fn header_fits(version: u16, signals: u16, subnets: usize) -> bool
+    ensures { λ r. ⌜ Tells r (HeaderFits version signals subnets) ⌝ }
+{
+    if too_wide(version, width_at(Phase::Version)) {
+        return false;
+    }
+    if too_wide(signals, width_at(Phase::SignalCount)) {
+        return false;
+    }
+    subnets < pow2(width_at(Phase::SubnetCount)) as usize
+}
+
+// Whether each number of the tables fits its field.
+pub fn values_fit(
+    version: u16,
+    signals: u16,
+    subnets: &[u16],
+    places: &[u16],
+    transitions: &[u16],
+    arcs: &[u16],
+) -> bool
+    ensures { λ r. ⌜ Tells r (ValuesFit version signals (now (subnets .entry)) (now (places .entry)) (now (transitions .entry)) (now (arcs .entry))) ⌝ }
+{
+    if !header_fits(version, signals, subnets.len() / 4) {
+        return false;
+    }
+    if !subnets_fit(subnets) {
+        return false;
+    }
+    if !places_fit(places) {
+        return false;
+    }
+    if !transitions_fit(transitions) {
+        return false;
+    }
+    arcs_fit(arcs)
 }

@@ -1,0 +1,32 @@
+-- `card::rows::transitions_fit` meets its contract. Assumes nothing.
+use mathlib.Core.List.{[], _∷_}
+use native.Mathlib.Omega.{arith}
+use borrow.Author.Needs.{needs}
+use Rattle.card.proofs.RowLaws.{widths-small}
+use Rattle.card.proofs.rows.transitions_fit.Statement.{statement}
+use Rattle.card.proofs.rows.transitions_fit.Tie as tie
+
+width-at-requires : tie.Need-width-at-requires
+width-at-requires c κs = search needs
+
+width-at-requires-2 : tie.Need-width-at-requires-2
+width-at-requires-2 c κs = search needs
+
+slice-aggregate-rows-fit : tie.Need-slice-aggregate-rows-fit
+slice-aggregate-rows-fit c = search needs
+
+rows-fit-requires : tie.Need-rows-fit-requires
+rows-fit-requires c κs = (omega arith, widths-small (c .before .before .width-at .result ∷ c .before .width-at2 .result ∷ []) (c .before .before .width-at .ensures .2, (c .before .width-at2 .ensures .2, tt)))
+
+returns : tie.Need-returns
+returns c = rw (c .before .before .before .width-at .ensures .0, c .before .before .width-at2 .ensures .0) at (c .rows-fit .ensures)
+
+pub transitions-fit-spec : {M : Type 1} → statement M
+transitions-fit-spec =
+    tie.close
+    (tie.spec
+    width-at-requires
+    width-at-requires-2
+    slice-aggregate-rows-fit
+    rows-fit-requires
+    returns)
