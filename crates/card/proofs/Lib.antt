@@ -21,3 +21,4 @@ pub mod WriteTurn
 pub mod Copy
 pub mod RowLaws
 pub mod TableLaws
+pub mod FitLaws

@@ -4,7 +4,7 @@ use mathlib.Core.Path.{_≡_, refl, sym, ap, _∙_}
 use mathlib.Core.Bool.{Bool, true, false, _&&_, not}
 use mathlib.Core.List.{List}
 use native.Mathlib.Omega.{arith}
-use lib.ListN.{length}
+use lib.ListN.{length, getD}
 use lib.Dec.{ltb, eqb}
 use borrow.Author.Tests.{ltb-true, lt-ltb}
 use Rattle.card.specs.Finite.{sumTo}
@@ -49,6 +49,11 @@ module _ (v g : ℕ) (subnets places transitions arcs : List ℕ) where
   pub transition-row : (t : ℕ) → t < length transitions / 2 → transitionAt c t ≡ record { signal = entry transitions 2 t 0; arcs = entry transitions 2 t 1 }
   unfolding tablesIn
   transition-row t l = table-at (length transitions / 2) _ _ t l
+
+  pub arc-row : (a : ℕ) → a < length arcs / 4
+      → getD (c .arcs) a (record { direction = 0; subnet = 0; place = 0; weight = 0 }) ≡ record { direction = entry arcs 4 a 0; subnet = entry arcs 4 a 1; place = entry arcs 4 a 2; weight = entry arcs 4 a 3 }
+  unfolding tablesIn
+  arc-row a l = table-at (length arcs / 4) _ _ a l
 
   pub subnet-count : length (c .subnets) ≡ length subnets / 4
   unfolding tablesIn

@@ -15,6 +15,7 @@ use Rattle.card.specs.Format.{Format, done, get, of, each, _>>=_}
 use Rattle.card.specs.Reading.{Reading, whole, read, unlessFault}
 use Rattle.card.specs.Writing.{Field, fields, allFit}
 use Rattle.card.specs.declared.FormatFault.{FormatFault}
+use Rattle.card.proofs.Decides.{and-is, lt-is}
 use Rattle.card.proofs.Sums.{total}
 use Rattle.card.proofs.Yields.{not-whole}
 
@@ -129,6 +130,13 @@ pub fits-all : {U A : Type 0} (m : Format U A) (u : U) → Every Fits m u → al
 unfolding fields allFit
 fits-all (done a) u h = refl
 fits-all (get w value fault next) u h = rw (lt-ltb (value u) (2 ^ w) (h .0)) (fits-all (next (value u)) u (h .1))
+
+pub all-fits : {U A : Type 0} (m : Format U A) (u : U) → allFit (fields m u) ≡ true → Every Fits m u
+unfolding fields allFit
+all-fits (done a) u h = tt
+all-fits (get w value fault next) u h =
+    let x = and-is _ _ _ _ (lt-is (value u) (2 ^ w)) (λ (e : allFit (fields (next (value u)) u) ≡ true). e, λ (e : allFit (fields (next (value u)) u) ≡ true). e) .0 h in
+    (x .0, all-fits (next (value u)) u (x .1))
 
 -- READING WHAT IS SPELT
 module _ {U A : Type 0} where
