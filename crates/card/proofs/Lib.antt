@@ -22,3 +22,5 @@ pub mod Copy
 pub mod RowLaws
 pub mod TableLaws
 pub mod FitLaws
+pub mod PushLaws
+pub mod RunLaws

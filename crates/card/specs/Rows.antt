@@ -1,9 +1,9 @@
 -- A card's tables in lent slices: numbers, row after row.
-use Prim.Native.Nat.{ℕ, _+_, _*_, _/_, _%_, _^_, _<_}
+use Prim.Native.Nat.{ℕ, _+_, _*_, _/_, _%_, _^_, _≤_, _<_}
 use mathlib.Core.Path.{_≡_}
 use mathlib.Core.Bool.{Bool, true, _&&_, cond}
-use mathlib.Core.List.{List, [], _∷_}
-use lib.ListN.{length, getD}
+use mathlib.Core.List.{List, [], _∷_, _++_, flatten}
+use lib.ListN.{length, getD, take, drop}
 use lib.Dec.{eqb}
 use Rattle.card.specs.Finite.{table, sumTo}
 use Rattle.card.specs.Numbers.{number}
@@ -75,3 +75,43 @@ pub record ValuesFit (v g : ℕ) (s p t a : List ℕ) : Type 0 where
   pub places : RowsFit p placeWidths
   pub transitions : RowsFit t transitionWidths
   pub arcs : RowsFit a arcWidths
+
+-- a table holds the first n numbers of a list: all of them, or as many as it has room for
+pub record Holds (xs numbers : List ℕ) (n : ℕ) : Type 0 where
+  pub same : (i : ℕ) → i < n → getD numbers i 0 ≡ getD xs i 0
+  pub inside : n ≤ length xs
+  pub all : n < length numbers → n ≡ length xs
+
+-- how many arcs the transitions before t list; the numbers of transition t, with its arcs
+abbrev pub arcsBefore : (transitions : List ℕ) → (t : ℕ) → ℕ
+arcsBefore transitions t = sumTo t (λ u. entry transitions 2 u 1)
+
+unfoldable pub transitionRun : (transitions arcs : List ℕ) → (t : ℕ) → List ℕ
+transitionRun transitions arcs t = take 2 (drop (2 * t) transitions) ++ take (4 * entry transitions 2 t 1) (drop (4 * arcsBefore transitions t) arcs)
+
+unfoldable pub runs : (from n : ℕ) → (ℕ → List ℕ) → List ℕ
+runs from n run = flatten (table from n run)
+
+-- where the arcs of some transitions lie, from arc on, and that the slices have all of them
+pub record RunsInside (transitions arcs : List ℕ) (from n arc : ℕ) : Type 0 where
+  pub begins : arc ≡ arcsBefore transitions from
+  pub rows : 2 * (from + n) ≤ length transitions
+  pub ends : 4 * arcsBefore transitions (from + n) ≤ length arcs
+
+-- the numbers of subnet s, with its places, and its transitions with their arcs
+abbrev pub placesBefore : (subnets : List ℕ) → (s : ℕ) → ℕ
+placesBefore subnets s = sumTo s (λ r. entry subnets 4 r 2)
+
+abbrev pub transitionsBefore : (subnets : List ℕ) → (s : ℕ) → ℕ
+transitionsBefore subnets s = sumTo s (λ r. entry subnets 4 r 3)
+
+unfoldable pub subnetRun : (subnets places transitions arcs : List ℕ) → (s : ℕ) → List ℕ
+subnetRun subnets places transitions arcs s =
+    take 4 (drop (4 * s) subnets)
+    ++ (take (3 * entry subnets 4 s 2) (drop (3 * placesBefore subnets s) places) ++ runs (transitionsBefore subnets s) (entry subnets 4 s 3) (transitionRun transitions arcs))
+
+-- the slices have all rows that the counts say
+pub record TablesInside (subnets places transitions arcs : List ℕ) : Type 0 where
+  pub placeRows : 3 * placesBefore subnets (length subnets / 4) ≤ length places
+  pub transitionRows : 2 * transitionsBefore subnets (length subnets / 4) ≤ length transitions
+  pub arcRows : 4 * arcsBefore transitions (transitionsBefore subnets (length subnets / 4)) ≤ length arcs

@@ -4,10 +4,11 @@ use crate::bits::too_wide;
 use crate::layout::Phase;
 use crate::layout::width_at;
 ghost use mathlib.Core.Path.{_≡_};
-ghost use Prim.Native.Nat.{ℕ, _<_};
+ghost use Prim.Native.Nat.{ℕ, _+_, _/_, _<_};
+ghost use mathlib.Core.List.{List, _++_};
 ghost use lib.ListN.{length, getD};
 ghost use lib.Dec.{eqb};
-ghost use Rattle.card.specs.Rows.{columnSum, RowsFit, tablesIn, wholeRows, Tells, subnetWidths, placeWidths, transitionWidths, arcWidths, HeaderFits, ValuesFit};
+ghost use Rattle.card.specs.Rows.{columnSum, RowsFit, tablesIn, wholeRows, Tells, subnetWidths, placeWidths, transitionWidths, arcWidths, HeaderFits, ValuesFit, Holds, arcsBefore, transitionRun, runs, RunsInside, subnetRun, TablesInside};
 ghost use Rattle.card.specs.Writing.{counted};
 
 fn wide(v: u16) -> usize
@@ -157,4 +158,97 @@ pub fn values_fit(
         return false;
     }
     arcs_fit(arcs)
+}
+
+// Puts a run of numbers behind the n that a table holds, as far as there is room, and says how many it holds then.
+pub fn push(numbers: &mut [u16], n: usize, run: &[u16]) -> usize
+    ensures { λ r. ⌜ length (now (numbers .exit)) ≡ length (now (numbers .entry)) ⌝ }
+    ensures { λ r. ⌜ ((xs : List ℕ) → Holds xs (now (numbers .entry)) n → Holds (xs ++ now (run .entry)) (now (numbers .exit)) r) ⌝ }
+{
+    let mut k = n;
+    let mut i = 0;
+    while i < run.len() {
+        if numbers.len() <= k {
+            return k;
+        }
+        numbers[k] = run[i];
+        k += 1;
+        i += 1;
+    }
+    k
+}
+
+// How many numbers the table holds, and the number of the next arc.
+pub struct Cursor {
+    pub n: usize,
+    pub arc: usize,
+}
+
+// Puts transitions, each with its arcs, behind the n numbers that a table holds.
+fn push_transitions(
+    numbers: &mut [u16],
+    n: usize,
+    transitions: &[u16],
+    arcs: &[u16],
+    first: usize,
+    count: usize,
+    arc: usize,
+) -> Cursor
+    requires { ⌜ RunsInside (now transitions) (now arcs) first count arc ⌝ }
+    ensures { λ r. ⌜ length (now (numbers .exit)) ≡ length (now (numbers .entry)) ⌝ }
+    ensures { λ r. ⌜ r .arc ≡ arcsBefore (now (transitions .entry)) (first + count) ⌝ }
+    ensures { λ r. ⌜ ((xs : List ℕ) → Holds xs (now (numbers .entry)) n → Holds (xs ++ runs first count (transitionRun (now (transitions .entry)) (now (arcs .entry)))) (now (numbers .exit)) (r .n)) ⌝ }
+{
+    let end = first + count;
+    let mut m = n;
+    let mut b = arc;
+    let mut t = first;
+    while t < end {
+        let from = 2 * t;
+        let to = from + 2;
+        m = push(numbers, m, &transitions[from..to]);
+        let low = 4 * b;
+        b += wide(transitions[2 * t + 1]);
+        let high = 4 * b;
+        m = push(numbers, m, &arcs[low..high]);
+        t += 1;
+    }
+    Cursor { n: m, arc: b }
+}
+
+// Puts subnets, each with its places and its transitions, behind the n numbers that a table holds.
+fn push_subnets(
+    numbers: &mut [u16],
+    n: usize,
+    subnets: &[u16],
+    places: &[u16],
+    transitions: &[u16],
+    arcs: &[u16],
+) -> usize
+    requires { ⌜ TablesInside (now subnets) (now places) (now transitions) (now arcs) ⌝ }
+    ensures { λ r. ⌜ length (now (numbers .exit)) ≡ length (now (numbers .entry)) ⌝ }
+    ensures { λ r. ⌜ ((xs : List ℕ) → Holds xs (now (numbers .entry)) n → Holds (xs ++ runs 0 (length (now (subnets .entry)) / 4) (subnetRun (now (subnets .entry)) (now (places .entry)) (now (transitions .entry)) (now (arcs .entry)))) (now (numbers .exit)) r) ⌝ }
+{
+    let end = subnets.len() / 4;
+    let mut m = n;
+    let mut place = 0;
+    let mut transition = 0;
+    let mut arc = 0;
+    let mut s = 0;
+    while s < end {
+        let from = 4 * s;
+        let to = from + 4;
+        m = push(numbers, m, &subnets[from..to]);
+        let low = 3 * place;
+        place += wide(subnets[4 * s + 2]);
+        let high = 3 * place;
+        m = push(numbers, m, &places[low..high]);
+        let k = wide(subnets[4 * s + 3]);
+        let c = push_transitions(numbers, m, transitions, arcs, transition, k, arc);
+        m = c.n;
+        arc = c.arc;
+        transition += k;
+        s += 1;
+    }
+    m
 }
