@@ -24,3 +24,5 @@ pub mod TableLaws
 pub mod FitLaws
 pub mod PushLaws
 pub mod RunLaws
+pub mod NumberLaws
+pub mod TableSpell

@@ -41,7 +41,7 @@ pub take-more : {A : Type 0} (xs : List A) (d : A) (from n : ℕ) → from + n �
 take-more xs d from n h = rw (table-part xs d from n h) (sym (take-add from n xs))
 
 -- the arcs of consecutive transitions are a part of all arcs
-table-shift : {A : Type 0} (from n k : ℕ) (f : ℕ → A) → table from n (λ i. f (k + i)) ≡ table (k + from) n f
+pub table-shift : {A : Type 0} (from n k : ℕ) (f : ℕ → A) → table from n (λ i. f (k + i)) ≡ table (k + from) n f
 unfolding table
 table-shift from zero k f = refl
 table-shift from (suc n) k f = ap (λ xs. f (k + from) ∷ xs) (table-shift (suc from) n k f ∙ ap (λ (m : ℕ). table m n f) (add-suc k from))
@@ -50,7 +50,7 @@ unfoldable pub arcsOf : Card → ℕ → List Arc
 arcsOf c t = table 0 ((transitionAt c t) .arcs) (λ j. arcAt c t j)
 
 module _ (c : Card) (n : Counted c) where
-  arcs-below : (t : ℕ) → t ≤ length (c .transitions) → firstArc c t ≤ length (c .arcs)
+  pub arcs-below : (t : ℕ) → t ≤ length (c .transitions) → firstArc c t ≤ length (c .arcs)
   unfolding firstArc
   arcs-below t l = omega (arith, n .arcs, sum-mono t (length (c .transitions)) (λ u. (transitionAt c u) .arcs) l)
 

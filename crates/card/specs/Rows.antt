@@ -10,6 +10,7 @@ use Rattle.card.specs.Numbers.{number}
 use Rattle.card.specs.Card.{Card}
 use Rattle.card.specs.Reading.{Reading, refused}
 use Rattle.card.specs.Writing.{readTables}
+use Rattle.card.specs.Tables.{tableSize}
 use Rattle.card.specs.Layout.{widthAt}
 use Rattle.card.specs.declared.layout.Phase.the-variants.{Version, SubnetCount, SignalCount, Parent, SubnetType, PlaceCount, TransitionCount, Kind, Capacity, Tokens, Signal, ArcCount, Direction, ArcSubnet, ArcPlace, Weight}
 use Rattle.card.specs.declared.FormatFault.the-variants.{BadTable}
@@ -115,3 +116,11 @@ pub record TablesInside (subnets places transitions arcs : List ℕ) : Type 0 wh
   pub placeRows : 3 * placesBefore subnets (length subnets / 4) ≤ length places
   pub transitionRows : 2 * transitionsBefore subnets (length subnets / 4) ≤ length transitions
   pub arcRows : 4 * arcsBefore transitions (transitionsBefore subnets (length subnets / 4)) ≤ length arcs
+
+-- the numbers of the tables in the order of the card, and a table that holds as many of them as a card can have
+unfoldable pub inOrder : (version signals : ℕ) → (subnets places transitions arcs : List ℕ) → List ℕ
+inOrder version signals subnets places transitions arcs =
+    version ∷ length subnets / 4 ∷ signals ∷ runs 0 (length subnets / 4) (subnetRun subnets places transitions arcs)
+
+pub record Gathered (xs numbers : List ℕ) : Type 0 where
+  pub entries : (i : ℕ) → i < tableSize → i < length xs → getD numbers i 0 ≡ getD xs i 0

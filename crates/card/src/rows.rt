@@ -8,7 +8,7 @@ ghost use Prim.Native.Nat.{ℕ, _+_, _/_, _<_};
 ghost use mathlib.Core.List.{List, _++_};
 ghost use lib.ListN.{length, getD};
 ghost use lib.Dec.{eqb};
-ghost use Rattle.card.specs.Rows.{columnSum, RowsFit, tablesIn, wholeRows, Tells, subnetWidths, placeWidths, transitionWidths, arcWidths, HeaderFits, ValuesFit, Holds, arcsBefore, transitionRun, runs, RunsInside, subnetRun, TablesInside};
+ghost use Rattle.card.specs.Rows.{columnSum, RowsFit, tablesIn, wholeRows, Tells, subnetWidths, placeWidths, transitionWidths, arcWidths, HeaderFits, ValuesFit, Holds, arcsBefore, transitionRun, runs, RunsInside, subnetRun, TablesInside, Gathered, inOrder};
 ghost use Rattle.card.specs.Writing.{counted};
 
 fn wide(v: u16) -> usize
@@ -251,4 +251,24 @@ fn push_subnets(
         s += 1;
     }
     m
+}
+
+// The numbers of tables in the order of the card, as many as a card can have.
+pub fn gather(
+    version: u16,
+    signals: u16,
+    subnets: &[u16],
+    places: &[u16],
+    transitions: &[u16],
+    arcs: &[u16],
+) -> [u16; 33026]
+    requires { ⌜ TablesInside (now subnets) (now places) (now transitions) (now arcs) ⌝ }
+    requires { ⌜ length (now subnets) / 4 < 65536 ⌝ }
+    ensures { λ r. ⌜ Gathered (inOrder version signals (now (subnets .entry)) (now (places .entry)) (now (transitions .entry)) (now (arcs .entry))) r ⌝ }
+{
+    let mut numbers = [0; 33026];
+    let head = [version, (subnets.len() / 4) as u16, signals];
+    let n = push(&mut numbers, 0, &head);
+    let _m = push_subnets(&mut numbers, n, subnets, places, transitions, arcs);
+    numbers
 }

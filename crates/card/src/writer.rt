@@ -6,12 +6,17 @@ use crate::layout::Move;
 use crate::layout::start;
 use crate::layout::step;
 use crate::layout::width;
+use crate::rows::counts_match;
+use crate::rows::gather;
+use crate::rows::values_fit;
+use crate::rows::whole_rows;
 ghost use mathlib.Core.Path.{_≡_};
 ghost use lib.ListN.{length};
 ghost use lib.Dec.{leb};
 ghost use Rattle.card.specs.Card.{Card};
 ghost use Rattle.card.specs.Reading.{readCard};
 ghost use Rattle.card.specs.Writing.{encode};
+ghost use Rattle.card.specs.Rows.{readRows};
 ghost use Rattle.card.specs.Spelling.{IsSpelt, Lines, IsUnspelt, putInto};
 
 // Whole: how many bytes the card has. Refused: why, and at which bit.
@@ -66,6 +71,31 @@ pub fn spell_numbers(numbers: &[u16; 33026]) -> CardSpelt
             Move::Bad(f) => return unspelt(f, at),
         }
     }
+}
+
+// Spells the card that tables make; the tables are numbers in lent slices, row after row. Two wrong writers that this rules out: one that
+// lets a count differ from the rows, and one that cuts a number down to its field.
+pub fn spell(
+    version: u16,
+    signals: u16,
+    subnets: &[u16],
+    places: &[u16],
+    transitions: &[u16],
+    arcs: &[u16],
+) -> CardSpelt
+    ensures { λ r. ⌜ IsSpelt (readRows version signals (now (subnets .entry)) (now (places .entry)) (now (transitions .entry)) (now (arcs .entry))) r ⌝ }
+{
+    if !whole_rows(subnets, places, transitions, arcs) {
+        return unspelt(FormatFault::BadTable, 0);
+    }
+    if !counts_match(subnets, places, transitions, arcs) {
+        return unspelt(FormatFault::BadTable, 0);
+    }
+    if !values_fit(version, signals, subnets, places, transitions, arcs) {
+        return unspelt(FormatFault::BadTable, 0);
+    }
+    let numbers = gather(version, signals, subnets, places, transitions, arcs);
+    spell_numbers(&numbers)
 }
 
 // Copies a card's bytes into a lent buffer, and says whether they had room. Two wrong copies that this rules out: one that says no once
