@@ -22,7 +22,7 @@ use Rattle.card.specs.Writing.{fields}
 use Rattle.card.specs.Tables.{tableSize, numbersOf, IsRead, IsRefused}
 use Rattle.card.specs.declared.FormatFault.{FormatFault}
 use Rattle.card.specs.declared.FormatFault.the-variants.{BadFill}
-use Rattle.card.specs.declared.layout.Counts.{Counts}
+use Rattle.card.specs.declared.Counts.{Counts}
 use Rattle.card.specs.declared.reader.CardRead.{CardRead}
 use Rattle.card.specs.declared.reader.ReadAnswer.the-variants.{Whole}
 use Rattle.card.proofs.Sums.{table-length, table-at}

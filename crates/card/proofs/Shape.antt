@@ -15,7 +15,7 @@ use Rattle.card.specs.Grammar.{header, subnet, place, transition, arc, w
 use Rattle.card.specs.Reading.{Reading, refused, whole, read, unlessFault}
 use Rattle.card.specs.declared.FormatFault.{FormatFault}
 use Rattle.card.specs.declared.FormatFault.the-variants.{Truncated}
-use Rattle.card.specs.declared.layout.Counts.{Counts}
+use Rattle.card.specs.declared.Counts.{Counts}
 use Rattle.card.proofs.Sums.{map-length}
 
 abbrev pub One : Type 0

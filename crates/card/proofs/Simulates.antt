@@ -14,7 +14,7 @@ use Rattle.card.specs.Layout.{fed, widthAt, faultAt, startOf, layoutAt, 
 use Rattle.card.specs.declared.layout.Phase.{Phase}
 use Rattle.card.specs.declared.layout.Phase.the-variants.{Version, SubnetCount, SignalCount, Parent, SubnetType, PlaceCount, TransitionCount, Kind, Capacity, Tokens, Signal, ArcCount, Direction, ArcSubnet, ArcPlace, Weight}
 use Rattle.card.specs.declared.layout.Layout.{Layout}
-use Rattle.card.specs.declared.layout.Counts.{Counts}
+use Rattle.card.specs.declared.Counts.{Counts}
 use Rattle.card.specs.declared.layout.Move.{Move}
 use Rattle.card.specs.declared.layout.Move.the-variants.{More, Done, Bad}
 use Rattle.card.proofs.Decides.{le-is, and-is, someUnless-is}

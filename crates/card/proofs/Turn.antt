@@ -1,10 +1,11 @@
 -- A turn of the loop that reads a card, over plain values. Assumes nothing.
-use Prim.Native.Nat.{ℕ, zero, suc, _+_, _-_, _*_, _≤_, _<_}
+use Prim.Native.Nat.{ℕ, zero, suc, _+_, _-_, _*_, _^_, _≤_, _<_}
 use mathlib.Core.Path.{_≡_, refl, sym, ap, subst, _∙_}
 use mathlib.Core.Bool.{Bool, true, false}
 use mathlib.Core.List.{List, _∷_, _++_, append-nil}
 use mathlib.Core.Option.{Option, none, some}
 use native.Mathlib.Omega.{arith}
+use lib.Pow.{pow-mono}
 use native.Mathlib.Numerals.{add-one}
 use lib.ListN.{length, getD, take, set, replicate, length-set, length-replicate}
 use lib.Seq.{take-suc-set, append-snoc, getD-set-other}
@@ -20,7 +21,7 @@ use Rattle.card.specs.declared.FormatFault.the-variants.{Truncated}
 use Rattle.card.specs.declared.layout.Phase.{Phase}
 use Rattle.card.specs.declared.layout.Phase.the-variants.{Version, SubnetCount, SignalCount, Parent, SubnetType, PlaceCount, TransitionCount, Kind, Capacity, Tokens, Signal, ArcCount, Direction, ArcSubnet, ArcPlace, Weight}
 use Rattle.card.specs.declared.layout.Layout.{Layout}
-use Rattle.card.specs.declared.layout.Counts.{Counts}
+use Rattle.card.specs.declared.Counts.{Counts}
 use Rattle.card.specs.declared.layout.Move.{Move}
 use Rattle.card.specs.declared.layout.Move.the-variants.{More, Done, Bad}
 use Rattle.card.proofs.Yields.{bit-small, field-small}
@@ -73,6 +74,10 @@ leads l v r e = go (faultAt (l .phase) l v) refl e
     go : (x : Option FormatFault) → faultAt (l .phase) l v ≡ x → r ≡ orBad x (moveAt (l .phase) l v) → Leads l v r
     go none p q = move (moveAt (l .phase) l v) r p (sim (l .phase) l v p) (good-move (l .phase) l v) q
     go (some f) p q = subst (Leads l v) (sym q) p
+
+-- a number that fits a field fits a byte
+pub field-byte : (w v : ℕ) → w ≤ 8 → v < 2 ^ w → v < 256
+field-byte w v l h = omega (arith, h, pow-mono {i = w} {j = 8} l)
 
 pub zero-in : (n i : ℕ) → _≡_ {A = ℕ} (getD (replicate n 0) i 0) 0
 zero-in zero i = refl

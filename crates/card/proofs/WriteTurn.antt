@@ -26,7 +26,7 @@ use Rattle.card.specs.Spelling
 use Rattle.card.specs.Layout.{widthOf, faultAt, startOf, stepOf, Sane}
 use Rattle.card.specs.declared.FormatFault.{FormatFault}
 use Rattle.card.specs.declared.layout.Layout.{Layout}
-use Rattle.card.specs.declared.layout.Counts.{Counts}
+use Rattle.card.specs.declared.Counts.{Counts}
 use Rattle.card.specs.declared.layout.Move.{Move}
 use Rattle.card.specs.declared.layout.Move.the-variants.{More, Done, Bad}
 use Rattle.card.specs.declared.writer.CardSpelt.{CardSpelt}

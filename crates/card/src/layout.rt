@@ -1,4 +1,5 @@
 // The order of a card's fields, as a machine that reader and writer share: what comes next, how wide it is, where its number leads.
+use crate::Counts;
 use crate::FormatFault;
 ghost use mathlib.Core.Path.{_≡_};
 ghost use Prim.Native.Nat.{_<_, _≤_};
@@ -39,13 +40,6 @@ pub struct Layout {
     pub arc_rows: u16,
     pub capacity: u16,
     pub phase: Phase,
-}
-
-// How many subnets, places and transitions a card lists.
-pub struct Counts {
-    pub subnets: u16,
-    pub places: u16,
-    pub transitions: u16,
 }
 
 pub enum Move {

@@ -1,13 +1,20 @@
 // Layer 1: the card's format. specs/ says what a card is, how it is read and how it is written.
 
 mod bits;
-pub mod layout;
+mod layout;
 pub mod reader;
-pub mod rows;
+mod rows;
 pub mod writer;
 
 ghost use mathlib.Core.Path.{_≡_};
 ghost use Rattle.card.specs.Numbers.{number};
+
+// How many subnets, places and transitions a card lists.
+pub struct Counts {
+    pub subnets: u16,
+    pub places: u16,
+    pub transitions: u16,
+}
 
 // Why bytes, or tables, are no card. specs/Numbers.antt gives the paper's number of each.
 pub enum FormatFault {

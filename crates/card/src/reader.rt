@@ -1,7 +1,7 @@
 // Reading a card: pass one, into a table of its numbers.
+use crate::Counts;
 use crate::FormatFault;
 use crate::bits::bit_field;
-use crate::layout::Counts;
 use crate::layout::Move;
 use crate::layout::start;
 use crate::layout::step;

@@ -18,7 +18,7 @@ fn wide(v: u16) -> usize
 }
 
 // Whether a column of rows of so many numbers adds up to total. Taking away from the total cannot overflow, as adding up could.
-pub fn adds_up(rows: &[u16], width: usize, column: usize, total: usize) -> bool
+fn adds_up(rows: &[u16], width: usize, column: usize, total: usize) -> bool
     requires { ⌜ column < width ⌝ }
     ensures { λ r. ⌜ r ≡ eqb total (columnSum (now (rows .entry)) width column) ⌝ }
 {
@@ -37,7 +37,7 @@ pub fn adds_up(rows: &[u16], width: usize, column: usize, total: usize) -> bool
 }
 
 // Whether the numbers of rows fit the widths of their columns.
-pub fn rows_fit(rows: &[u16], widths: &[usize]) -> bool
+fn rows_fit(rows: &[u16], widths: &[usize]) -> bool
     requires { ⌜ (0 < length (now widths)) × ((k : ℕ) → getD (now widths) k 0 < 32) ⌝ }
     ensures { λ r. ⌜ Tells r (RowsFit (now (rows .entry)) (now (widths .entry))) ⌝ }
 {
@@ -161,7 +161,7 @@ pub fn values_fit(
 }
 
 // Puts a run of numbers behind the n that a table holds, as far as there is room, and says how many it holds then.
-pub fn push(numbers: &mut [u16], n: usize, run: &[u16]) -> usize
+fn push(numbers: &mut [u16], n: usize, run: &[u16]) -> usize
     ensures { λ r. ⌜ length (now (numbers .exit)) ≡ length (now (numbers .entry)) ⌝ }
     ensures { λ r. ⌜ ((xs : List ℕ) → Holds xs (now (numbers .entry)) n → Holds (xs ++ now (run .entry)) (now (numbers .exit)) r) ⌝ }
 {

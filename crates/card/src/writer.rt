@@ -42,7 +42,7 @@ fn unspelt(f: FormatFault, at: usize) -> CardSpelt
 
 // Spells the numbers of a card, field after field. A number that does not fit its field is not one of a card's (see Lines). Two wrong
 // writers that this rules out: one that counts a byte too many, and one that refuses at the number of a field instead of its bit.
-pub fn spell_numbers(numbers: &[u16; 33026]) -> CardSpelt
+fn spell_numbers(numbers: &[u16; 33026]) -> CardSpelt
     ensures { λ r. ⌜ ((c : Card) → Lines c (now (numbers .entry)) → IsSpelt (readCard (encode c)) r) ⌝ }
 {
     let mut bytes = [0; 33026];

@@ -1,7 +1,7 @@
 // Reads cards from standard input, each led by its length as a 16-bit number, and writes the reader's answer to each as a line.
+use card::Counts;
 use card::FormatFault;
 use card::fault_number;
-use card::layout::Counts;
 use card::reader::ReadAnswer;
 use card::reader::read;
 use libc::STDIN_FILENO;

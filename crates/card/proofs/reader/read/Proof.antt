@@ -1,19 +1,15 @@
 -- The loop goes through the card's fields as the grammar has them; see proofs/Turn.antt for a turn of it.
-use Prim.Native.Nat.{ℕ, _+_, _-_, _^_, _≤_, _<_}
+use Prim.Native.Nat.{_+_, _-_}
 use mathlib.Core.Path.{sym, ap, _∙_}
 use native.Mathlib.Omega.{arith}
 use denote.Ref.{now}
-use lib.Pow.{pow-mono}
 use borrow.Author.Needs.{needs}
 use Rattle.card.specs.Tables.{excessOf}
 use Rattle.card.specs.declared.FormatFault.the-variants.{Truncated}
-use Rattle.card.proofs.Turn.{Left, left-start, left-room, left-ends, left-bad, left-more, left-done}
+use Rattle.card.proofs.Turn.{field-byte, Left, left-start, left-room, left-ends, left-bad, left-more, left-done}
 use Rattle.card.proofs.ReadLaws.{refused-is, excess-is, whole-is}
 use Rattle.card.proofs.reader.read.Statement.{statement}
 use Rattle.card.proofs.reader.read.Tie as tie
-
-byte : (w v : ℕ) → w ≤ 8 → v < 2 ^ w → v < 256
-byte w v l h = omega (arith, h, pow-mono {i = w} {j = 8} l)
 
 abbrev Inv-loop : tie.InvT-loop
 Inv-loop card numbers₀ l₀ at₀ n₀ numbers l at n = Left card l at n numbers
@@ -54,7 +50,7 @@ step-requires c κs =
     let x = c .before .before .before .loop in
     let y = c .before .before .width in
     let z = c .bit-field in
-    (x .inv .sane, byte (y .result) (z .result) (omega arith) (z .ensures .1))
+    (x .inv .sane, field-byte (y .result) (z .result) (omega arith) (z .ensures .1))
 
 enum-known-m : tie.Need-enum-known-m Inv-loop μ-loop
 enum-known-m c = c .match .keys1

@@ -1,18 +1,15 @@
 -- The loop goes through the card's fields as the grammar has them; see proofs/WriteTurn.antt for a turn of it.
-use Prim.Native.Nat.{ℕ, _-_, _^_, _≤_, _<_}
+use Prim.Native.Nat.{_-_, _^_}
 use mathlib.Core.Path.{refl, sym, _∙_}
 use native.Mathlib.Omega.{arith}
 use lib.ListN.{getD}
-use lib.Pow.{pow-mono}
 use denote.Ref.{now}
 use borrow.Author.Needs.{needs}
 use borrow.Author.Tests.{leb-true, leb-false}
+use Rattle.card.proofs.Turn.{field-byte}
 use Rattle.card.proofs.WriteTurn.{Behind, behind-start, behind-room, behind-wide, behind-bad, behind-more, behind-done}
 use Rattle.card.proofs.writer.spell_numbers.Statement.{statement}
 use Rattle.card.proofs.writer.spell_numbers.Tie as tie
-
-byte : (w v : ℕ) → w ≤ 8 → v < 2 ^ w → v < 256
-byte w v l h = omega (arith, h, pow-mono {i = w} {j = 8} l)
 
 abbrev Inv-loop : tie.InvT-loop
 Inv-loop numbers bytes₀ l₀ at₀ n₀ bytes l at n = Behind numbers l at n bytes
@@ -70,7 +67,7 @@ step-requires c κs =
     let x = c .before .before .before .before .before .before .before .loop in
     let y = c .before .before .before .before .before .before .width in
     let f = c .before .before .before .before .too-wide in
-    (x .inv .sane, byte (y .result) (getD (now (a .numbers)) (x .n) 0) (omega arith) (leb-false (2 ^ y .result) (getD (now (a .numbers)) (x .n) 0) (sym (f .ensures) ∙ c .before .before .before .if1 .left)))
+    (x .inv .sane, field-byte (y .result) (getD (now (a .numbers)) (x .n) 0) (omega arith) (leb-false (2 ^ y .result) (getD (now (a .numbers)) (x .n) 0) (sym (f .ensures) ∙ c .before .before .before .if1 .left)))
 
 enum-known-m : tie.Need-enum-known-m Inv-loop μ-loop
 enum-known-m c = c .match .keys1
