@@ -4,7 +4,7 @@ use mathlib.Core.Path.{_≡_, refl, ap, sym, _∙_}
 use mathlib.Core.Bool.{Bool, true, false}
 use mathlib.Core.List.{List}
 use mathlib.Core.Logic.{_⊎_, inl, inr}
-use native.Mathlib.Nat.{div-one, div-eq-of-lt, mod-lt, mul-add-mod-self-right}
+use native.Mathlib.Nat.{add-zero, pow-suc, div-one, div-eq-of-lt, mod-lt, mul-add-mod-self-right}
 use native.Mathlib.Omega.{arith}
 use lib.ListN.{length, getD}
 use lib.Dec.{ltb}
@@ -112,6 +112,16 @@ unfolding bitField
 field-local f g at zero h = refl
 field-local f g at (suc w) h =
     omega (arith, h (at + w) (omega arith) (omega arith), field-local f g at w (λ i l u. h i l (omega arith)))
+
+-- two fields side by side make one
+pub field-join : (f : ℕ → ℕ) (at a b : ℕ) → bitField f at (a + b) ≡ bitField f at a * 2 ^ b + bitField f (at + a) b
+unfolding bitField
+field-join f at a zero = omega (arith, ap (bitField f at) (add-zero a))
+field-join f at a (suc b) =
+    let q : a + suc b ≡ suc (a + b) = omega arith in
+    let i : f (at + (a + b)) ≡ f (at + a + b) = ap f (omega arith) in
+    let d : bitField f at a * 2 ^ suc b ≡ 2 * (bitField f at a * 2 ^ b) = rw pow-suc (omega arith) in
+    rw q (omega (arith, field-join f at a b, i, d))
 
 -- two fields that are equal have the same bits
 pub field-bits : (f g : ℕ → ℕ) → ((i : ℕ) → f i < 2) → ((i : ℕ) → g i < 2) → (at w : ℕ) → bitField f at w ≡ bitField g at w

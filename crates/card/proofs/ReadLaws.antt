@@ -1,9 +1,9 @@
 -- What the reader's loop found is what reading a card says. Assumes nothing.
-use Prim.Native.Nat.{ℕ, zero, suc, _+_, _-_, _*_, _≤_, _<_}
-use mathlib.Core.Path.{_≡_, refl, sym, ap, _∙_}
+use Prim.Native.Nat.{ℕ, zero, suc, _+_, _-_, _*_, _/_, _%_, _^_, _≤_, _<_}
+use mathlib.Core.Path.{_≡_, refl, sym, ap, subst, _∙_}
 use mathlib.Core.Logic.{_⊎_, inl, inr}
 use mathlib.Core.List.{List, _∷_, map}
-use mathlib.Core.Option.{none, some}
+use mathlib.Core.Option.{Option, none, some}
 use native.Mathlib.Omega.{arith}
 use native.Mathlib.Nat.{add-zero}
 use native.Mathlib.Numerals.{add-one}
@@ -19,15 +19,15 @@ use Rattle.card.specs.Format.{Format, done, get}
 use Rattle.card.specs.Grammar.{card}
 use Rattle.card.specs.Reading.{Reading, refused, whole, read, excess, readCard}
 use Rattle.card.specs.Writing.{fields}
-use Rattle.card.specs.Tables.{tableSize, numbersOf, IsRead, IsRefused}
+use Rattle.card.specs.Tables.{tableSize, numbersOf, IsRead, IsRefused, IsEnded}
 use Rattle.card.specs.declared.FormatFault.{FormatFault}
 use Rattle.card.specs.declared.FormatFault.the-variants.{BadFill}
 use Rattle.card.specs.declared.Counts.{Counts}
 use Rattle.card.specs.declared.reader.CardRead.{CardRead}
 use Rattle.card.specs.declared.reader.ReadAnswer.the-variants.{Whole}
 use Rattle.card.proofs.Sums.{table-length, table-at}
-use Rattle.card.proofs.Yields.{not-whole}
-use Rattle.card.proofs.BitLaws.{lt-or-ge}
+use Rattle.card.proofs.Yields.{bit-small, field-small, not-whole}
+use Rattle.card.proofs.BitLaws.{lt-or-ge, field-join}
 use Rattle.card.proofs.Walk.{Spelt}
 use Rattle.card.proofs.Tied.{tied-card}
 use Rattle.card.proofs.Shape.{numbersIn, part, cardS, countsOf, read-shape, numbers-shape}
@@ -39,6 +39,16 @@ spelt-numbers bytes (done a) u at s = refl
 spelt-numbers bytes (get w value fault next) u at s =
     let e : bitField (bit bytes) at w ≡ value u = s .0 in
     rw (e, spelt-numbers bytes (next (value u)) u (at + w) (s .1))
+
+-- an arc's three fields before the weight, out of one
+pub head-parts : (bytes : List ℕ) (at v w p q : ℕ) → v ≡ bitField (bit bytes) at w → w ≡ 14 → p ≡ 2 ^ 8 → q ≡ 2 ^ 5
+    → (v / p / q ≡ bitField (bit bytes) at 1) × (v / p % q ≡ bitField (bit bytes) (at + 1) 5) × (v % p ≡ bitField (bit bytes) (at + 1 + 5) 8)
+head-parts bytes at v w p q ev ew ep eq =
+    let a = field-join (bit bytes) at 1 13 in
+    let b = field-join (bit bytes) (at + 1) 5 8 in
+    let e : v ≡ bitField (bit bytes) at 14 = rw ew at ev in
+    let small = field-small (bit bytes) (bit-small bytes) in
+    rw (ep, eq) (omega (arith, a, b, e, small (at + 1) 5, small (at + 1 + 5) 8), omega (arith, a, b, e, small (at + 1) 5, small (at + 1 + 5) 8), omega (arith, a, b, e, small (at + 1) 5, small (at + 1 + 5) 8))
 
 -- the shape is refused where the card is
 part-refused : {A B : Type 0} (f : A → B) (x : Reading A) (n at : ℕ) → part f x ≡ refused n at → x ≡ refused n at
@@ -66,7 +76,7 @@ module _ (bytes : List ℕ) where
   found k end e = part-whole countsOf (read bytes card 0) k end (sym (read-shape bytes) ∙ e)
 
   -- something follows the card
-  pub excess-is : (k : Counts) (end i : ℕ) (r : CardRead) → read bytes cardS 0 ≡ whole k end → excess bytes end ≡ some i → IsRefused BadFill i r → IsRead (readCard bytes) r
+  excess-is : (k : Counts) (end i : ℕ) (r : CardRead) → read bytes cardS 0 ≡ whole k end → excess bytes end ≡ some i → IsRefused BadFill i r → IsRead (readCard bytes) r
   unfolding readCard
   excess-is k end i r e x h =
       let f = found k end e in
@@ -85,13 +95,21 @@ module _ (bytes : List ℕ) where
   unfolding numbersOf
   numbers-are c end r = spelt-numbers bytes card c 0 (tied-card bytes c end r .spelt)
 
-  pub whole-is : (k : Counts) (end n : ℕ) (t : List ℕ) → read bytes cardS 0 ≡ whole k end → excess bytes end ≡ none → length t ≡ 33026 → ((i : ℕ) → n ≤ i → getD t i 0 ≡ 0)
+  whole-is : (k : Counts) (end n : ℕ) (t : List ℕ) → read bytes cardS 0 ≡ whole k end → excess bytes end ≡ none → length t ≡ 33026 → ((i : ℕ) → n ≤ i → getD t i 0 ≡ 0)
       → take n t ≡ numbersIn bytes cardS 0 → IsRead (readCard bytes) (record { answer = Whole k; numbers = t })
   unfolding readCard
   whole-is k end n t e x long zeros v =
       let f = found k end e in
       let numbers : take n t ≡ numbersOf (f .value) = v ∙ numbers-shape bytes ∙ numbers-are (f .value) end (f .is) in
       rw (f .is, x) (record { answer = ap (λ (y : Counts). Rattle.card.specs.Tables.ReadOutcome.whole (y .subnets) (y .places) (y .transitions)) (sym (f .maps)); numbers = table-is t n (f .value) long zeros numbers })
+
+  pub ended-is : (k : Counts) (end n : ℕ) (t : List ℕ) (r : CardRead) → read bytes cardS 0 ≡ whole k end → length t ≡ 33026 → ((i : ℕ) → n ≤ i → getD t i 0 ≡ 0)
+      → take n t ≡ numbersIn bytes cardS 0 → IsEnded (excess bytes end) k t r → IsRead (readCard bytes) r
+  ended-is k end n t r e long zeros v h = go (excess bytes end) refl h
+    where
+      go : (x : Option ℕ) → excess bytes end ≡ x → IsEnded x k t r → IsRead (readCard bytes) r
+      go none q h = subst (IsRead (readCard bytes)) (sym h) (whole-is k end n t e q long zeros v)
+      go (some i) q h = excess-is k end i r e q h
 
 zeros-table : (from n : ℕ) → replicate {A = ℕ} n 0 ≡ table from n (λ i. 0)
 unfolding table

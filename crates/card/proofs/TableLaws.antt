@@ -23,12 +23,15 @@ pub not-true : (b : Bool) → not b ≡ true → b ≡ false
 not-true true e = sym e
 not-true false e = refl
 
+pub no-yes : {P : Type 0} → false ≡ true → P
+no-yes z = absurd (let y : _≡_ {A = ℕ} 0 1 = cc in omega arith)
+
 -- an answer no, because of a part or of a number; and what it takes for a yes
 pub tells-not : {P Q : Type 0} (b : Bool) → Tells b Q → b ≡ false → (P → Q) → Tells false P
-tells-not b t e f = (λ z. absurd (let y : _≡_ {A = ℕ} 0 1 = cc in omega arith), λ p. sym e ∙ t .1 (f p))
+tells-not b t e f = (no-yes, λ p. sym e ∙ t .1 (f p))
 
 pub tells-no : {P : Type 0} → (P → _≤_ 1 0) → Tells false P
-tells-no f = (λ z. absurd (let y : _≡_ {A = ℕ} 0 1 = cc in omega arith), λ p. absurd (omega (arith, f p)))
+tells-no f = (no-yes, λ p. absurd (omega (arith, f p)))
 
 pub tells-header : (v g s n : ℕ) → v < 2 ^ widthAt Version → g < 2 ^ widthAt SignalCount → n ≡ 2 ^ widthAt SubnetCount → Tells (ltb s n) (HeaderFits v g s)
 tells-header v g s n a b e = (λ t. record { version = a; signals = b; subnets = rw e at (ltb-true s n t) }, λ h. lt-ltb s n (rw (← e) at (h .subnets)))

@@ -14,8 +14,9 @@ use borrow.Author.Tests.{lt-ltb, le-ltb}
 use Rattle.card.specs.Numbers.{number}
 use Rattle.card.specs.Bits.{bit, bitField}
 use Rattle.card.specs.Format.{Format, done, get}
+use Rattle.card.specs.Grammar.{arc}
 use Rattle.card.specs.Reading.{Reading, refused, whole, read}
-use Rattle.card.specs.Layout.{widthOf, faultAt, startOf, pick, moveAt, orBad, stepOf, Sane}
+use Rattle.card.specs.Layout.{widthAt, widthOf, faultAt, startOf, to, pick, moveAt, orBad, stepAt, stepOf, Sane}
 use Rattle.card.specs.declared.FormatFault.{FormatFault}
 use Rattle.card.specs.declared.FormatFault.the-variants.{Truncated}
 use Rattle.card.specs.declared.layout.Phase.{Phase}
@@ -24,6 +25,8 @@ use Rattle.card.specs.declared.layout.Layout.{Layout}
 use Rattle.card.specs.declared.Counts.{Counts}
 use Rattle.card.specs.declared.layout.Move.{Move}
 use Rattle.card.specs.declared.layout.Move.the-variants.{More, Done, Bad}
+use Rattle.card.specs.Tables.{arcHeadWidth, IsArcHead}
+use Rattle.card.specs.declared.reader.ArcHead.{ArcHead}
 use Rattle.card.proofs.Yields.{bit-small, field-small}
 use Rattle.card.proofs.Shape.{One, numbersIn, cardS}
 use Rattle.card.proofs.Simulates.{denote, moveF, nextOf, waits, sim, denote-start}
@@ -181,3 +184,32 @@ module _ (bytes : List ℕ) where
             length-set t n v ∙ h .long,
             more-zeros,
           )
+
+  -- an arc's fields before the weight, read at once
+  module _ (l : Layout) (at n : ℕ) (t : List ℕ) (h : Left l at n t) (e : l .phase ≡ Direction) (g : at + arcHeadWidth ≤ 8 * length bytes) (x : ArcHead) (ex : IsArcHead bytes at x) where
+    untested : (p q : Phase) (v : ℕ) → l .phase ≡ p → stepAt p l v ≡ More (to l q) → More (to l q) ≡ stepOf l v
+    untested p q v i s = sym (ap (λ (y : Phase). stepAt y l v) i ∙ s)
+
+    first : Left (to l ArcSubnet) (at + 1) (n + 1) (set t n (x .direction))
+    unfolding arc
+    first = left-more l at n t 1 h (sym (ap widthAt e)) (x .direction) (More (to l ArcSubnet)) (omega arith) (ex .direction) (untested Direction ArcSubnet (x .direction) e refl) (to l ArcSubnet) refl (omega arith)
+
+    second : Left (to l ArcPlace) (at + 1 + 5) (n + 1 + 1) (set (set t n (x .direction)) (n + 1) (x .subnet))
+    unfolding arc
+    second = left-more (to l ArcSubnet) (at + 1) (n + 1) _ 5 first refl (x .subnet) (More (to l ArcPlace)) (omega arith) (ex .subnet) refl (to l ArcPlace) refl (omega arith)
+
+    third : Left (to l Weight) (at + 1 + 5 + 8) (n + 1 + 1 + 1) (set (set (set t n (x .direction)) (n + 1) (x .subnet)) (n + 1 + 1) (x .place))
+    unfolding arc
+    third = left-more (to l ArcPlace) (at + 1 + 5) (n + 1 + 1) _ 8 second refl (x .place) (More (to l Weight)) (omega arith) (ex .place) refl (to l Weight) refl (omega arith)
+
+    pub arc-room : n + 2 < 33026
+    unfolding arc
+    arc-room = omega (arith, left-room (to l ArcPlace) (at + 1 + 5) (n + 1 + 1) _ 8 second refl)
+
+    pub left-arc : Left (to l Weight) (at + arcHeadWidth) (n + 3) (set (set (set t n (x .direction)) (n + 1) (x .subnet)) (n + 2) (x .place))
+    unfolding arc
+    left-arc =
+        let p : at + 1 + 5 + 8 ≡ at + 14 = omega arith in
+        let q : n + 1 + 1 ≡ n + 2 = omega arith in
+        let r : n + 1 + 1 + 1 ≡ n + 3 = omega arith in
+        rw (p, r, q) at third

@@ -1,17 +1,23 @@
 -- A card's numbers in one table, as the reader leaves them for the layers above.
-use Prim.Native.Nat.{ℕ}
+use Prim.Native.Nat.{ℕ, _+_}
 use mathlib.Core.Path.{_≡_}
 use mathlib.Core.List.{List, map}
 use mathlib.Core.Option.{Option, none, some}
 use lib.ListN.{length, getD}
 use Rattle.card.specs.Finite.{table}
 use Rattle.card.specs.Numbers.{number}
+use Rattle.card.specs.Bits.{bit, bitField}
 use Rattle.card.specs.Card.{Card}
 use Rattle.card.specs.Grammar.{card}
 use Rattle.card.specs.Reading.{Reading}
 use Rattle.card.specs.Reading
 use Rattle.card.specs.Writing.{fields}
+use Rattle.card.specs.Layout.{widthAt}
+use Rattle.card.specs.declared.Counts.{Counts}
 use Rattle.card.specs.declared.FormatFault.{FormatFault}
+use Rattle.card.specs.declared.FormatFault.the-variants.{BadFill}
+use Rattle.card.specs.declared.layout.Phase.the-variants.{Direction, ArcSubnet, ArcPlace}
+use Rattle.card.specs.declared.reader.ArcHead.{ArcHead}
 use Rattle.card.specs.declared.reader.Excess.{Excess}
 use Rattle.card.specs.declared.reader.Excess.the-variants.{Nothing, At}
 use Rattle.card.specs.declared.reader.ReadAnswer.{ReadAnswer}
@@ -53,6 +59,20 @@ pub record IsRead (x : Reading Card) (r : CardRead) : Type 0 where
 pub record IsRefused (f : FormatFault) (at : ℕ) (r : CardRead) : Type 0 where
   pub answer : r .answer ≡ Refused f at
   pub numbers : r .numbers ≡ table 0 tableSize (λ i. 0)
+
+-- an arc's fields before the weight, which hold any number, and where they lie from bit at on
+abbrev pub arcHeadWidth : ℕ
+arcHeadWidth = widthAt Direction + (widthAt ArcSubnet + widthAt ArcPlace)
+
+pub record IsArcHead (bytes : List ℕ) (at : ℕ) (r : ArcHead) : Type 0 where
+  pub direction : r .direction ≡ bitField (bit bytes) at (widthAt Direction)
+  pub subnet : r .subnet ≡ bitField (bit bytes) (at + widthAt Direction) (widthAt ArcSubnet)
+  pub place : r .place ≡ bitField (bit bytes) (at + widthAt Direction + widthAt ArcSubnet) (widthAt ArcPlace)
+
+-- the last field is read, and what is in excess is known
+abbrev pub IsEnded : (excess : Option ℕ) → Counts → (numbers : List ℕ) → CardRead → Type 0
+IsEnded none k numbers r = r ≡ record { answer = Whole k; numbers = numbers }
+IsEnded (some i) k numbers r = IsRefused BadFill i r
 
 abbrev pub excessOf : Excess → Option ℕ
 excessOf Nothing = none

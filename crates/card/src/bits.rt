@@ -6,11 +6,18 @@ ghost use lib.Dec.{leb};
 ghost use Rattle.card.specs.Bits.{bit, bitField};
 ghost use Rattle.card.specs.Fields.{Window, patch, Put};
 
+fn byte(card: &[u8], k: usize) -> u32
+    requires { ⌜ k < length (now card) ⌝ }
+    ensures { λ r. ⌜ (r ≡ getD (now (card .entry)) k 0) × (r < 256) ⌝ }
+{
+    card[k] as u32
+}
+
 // Byte k, and 0 past the end.
 pub fn byte_at(card: &[u8], k: usize) -> u32
     ensures { λ r. ⌜ (r ≡ getD (now (card .entry)) k 0) × (r < 256) ⌝ }
 {
-    if k < card.len() { card[k] as u32 } else { 0 }
+    if k < card.len() { byte(card, k) } else { 0 }
 }
 
 pub fn pow2(n: usize) -> u32
@@ -28,11 +35,14 @@ pub fn too_wide(value: u16, width: usize) -> bool
     pow2(width) <= value as u32
 }
 
-// The three bytes from byte k on as one number.
+// The three bytes from byte k on as one number. Nearly always they are all there, and then one test is enough.
 fn window_at(card: &[u8], k: usize) -> u32
     requires { ⌜ k ≤ length (now card) ⌝ }
     ensures { λ r. ⌜ Window (now (card .entry)) k r ⌝ }
 {
+    if k + 2 < card.len() {
+        return 65536 * byte(card, k) + (256 * byte(card, k + 1) + byte(card, k + 2));
+    }
     65536 * byte_at(card, k) + (256 * byte_at(card, k + 1) + byte_at(card, k + 2))
 }
 

@@ -2,9 +2,10 @@
 use crate::Counts;
 use crate::FormatFault;
 ghost use mathlib.Core.Path.{_≡_};
-ghost use Prim.Native.Nat.{_<_, _≤_};
+ghost use mathlib.Core.Bool.{true};
+ghost use Prim.Native.Nat.{_+_, _<_, _≤_};
 ghost use Rattle.card.specs.Layout.{startOf, widthAt, widthOf, to, stepAt, stepOf, Sane};
-ghost use Rattle.card.specs.declared.layout.Phase.the-variants.{Version, SubnetCount, SignalCount, Parent, SubnetType, PlaceCount, TransitionCount, Kind, Capacity, Tokens, Signal, ArcCount, Weight};
+ghost use Rattle.card.specs.declared.layout.Phase.the-variants.{Version, SubnetCount, SignalCount, Parent, SubnetType, PlaceCount, TransitionCount, Kind, Capacity, Tokens, Signal, ArcCount, Direction, ArcSubnet, ArcPlace, Weight};
 
 pub enum Phase {
     Version,
@@ -96,7 +97,7 @@ pub fn width(l: Layout) -> usize
 }
 
 // The same layout at another phase.
-fn moved(l: Layout, p: Phase) -> Layout
+pub fn moved(l: Layout, p: Phase) -> Layout
     ensures { λ r. ⌜ r ≡ to l p ⌝ }
 {
     Layout {
@@ -111,6 +112,24 @@ fn moved(l: Layout, p: Phase) -> Layout
         arc_rows: l.arc_rows,
         capacity: l.capacity,
     }
+}
+
+// Whether an arc comes next.
+pub fn arc_next(l: Layout) -> bool
+    ensures { λ r. ⌜ (r ≡ true → l .phase ≡ Direction) ⌝ }
+{
+    let p = l.phase;
+    match p {
+        Phase::Direction => true,
+        _ => false,
+    }
+}
+
+// How wide an arc's fields before the weight are. Nothing tests them, so that they may be read at once.
+pub fn arc_head_width() -> usize
+    ensures { λ r. ⌜ r ≡ widthAt Direction + (widthAt ArcSubnet + widthAt ArcPlace) ⌝ }
+{
+    width_at(Phase::Direction) + (width_at(Phase::ArcSubnet) + width_at(Phase::ArcPlace))
 }
 
 fn after_version(l: Layout, v: u16) -> Move

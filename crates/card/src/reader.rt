@@ -2,15 +2,24 @@
 use crate::Counts;
 use crate::FormatFault;
 use crate::bits::bit_field;
+use crate::bits::pow2;
+use crate::layout::Layout;
 use crate::layout::Move;
+use crate::layout::Phase;
+use crate::layout::arc_head_width;
+use crate::layout::arc_next;
+use crate::layout::moved;
 use crate::layout::start;
 use crate::layout::step;
 use crate::layout::width;
+use crate::layout::width_at;
 ghost use mathlib.Core.Path.{_≡_};
-ghost use Prim.Native.Nat.{_*_, _≤_};
+ghost use mathlib.Core.Bool.{true};
+ghost use Prim.Native.Nat.{_+_, _*_, _≤_};
 ghost use lib.ListN.{length};
 ghost use Rattle.card.specs.Reading.{readCard, excess};
-ghost use Rattle.card.specs.Tables.{IsRead, IsRefused, excessOf};
+ghost use Rattle.card.specs.Tables.{IsRead, IsRefused, excessOf, arcHeadWidth, IsArcHead, IsEnded};
+ghost use Rattle.card.specs.declared.layout.Phase.the-variants.{Direction};
 
 // Whole: how many subnets, places and transitions. Refused: why, and at which bit.
 pub enum ReadAnswer {
@@ -48,12 +57,59 @@ fn excess_at(card: &[u8], end: usize) -> Excess
     Excess::Nothing
 }
 
+// An arc's fields before the weight.
+pub struct ArcHead {
+    pub direction: u16,
+    pub subnet: u16,
+    pub place: u16,
+}
+
+// Whether an arc comes next and all of its fields before the weight are there.
+fn arc_ahead(l: Layout, at: usize, bytes: usize) -> bool
+    requires { ⌜ at ≤ 1000000 ⌝ }
+    ensures { λ r. ⌜ (r ≡ true → (l .phase ≡ Direction) × (at + arcHeadWidth ≤ 8 * bytes)) ⌝ }
+{
+    if arc_next(l) {
+        return (at + arc_head_width() + 7) / 8 <= bytes;
+    }
+    false
+}
+
+fn arc_head(card: &[u8], at: usize) -> ArcHead
+    requires { ⌜ at + arcHeadWidth ≤ 8 * length (now card) ⌝ }
+    ensures { λ r. ⌜ IsArcHead (now (card .entry)) at r ⌝ }
+{
+    let v = bit_field(card, at, arc_head_width());
+    let x = v as u32;
+    let p = pow2(width_at(Phase::ArcPlace));
+    let q = pow2(width_at(Phase::ArcSubnet));
+    ArcHead {
+        direction: (x / p / q) as u16,
+        subnet: (x / p % q) as u16,
+        place: (x % p) as u16,
+    }
+}
+
 fn refused(f: FormatFault, at: usize) -> CardRead
     ensures { λ r. ⌜ IsRefused f at r ⌝ }
 {
     CardRead {
         answer: ReadAnswer::Refused(f, at),
         numbers: [0; 33026],
+    }
+}
+
+// The answer once the last field, which ends before bit end, is read.
+fn ended(card: &[u8], end: usize, k: Counts, numbers: [u16; 33026]) -> CardRead
+    requires { ⌜ (end ≤ 8 * length (now card)) × (end ≤ 1000000) ⌝ }
+    ensures { λ r. ⌜ IsEnded (excess (now (card .entry)) end) k numbers r ⌝ }
+{
+    match excess_at(card, end) {
+        Excess::At(i) => refused(FormatFault::BadFill, i),
+        Excess::Nothing => CardRead {
+            answer: ReadAnswer::Whole(k),
+            numbers: numbers,
+        },
     }
 }
 
@@ -67,31 +123,33 @@ pub fn read(card: &[u8]) -> CardRead
     let mut at = 0;
     let mut n = 0;
     loop {
-        let w = width(l);
-        if card.len() < (at + w + 7) / 8 {
-            return refused(FormatFault::Truncated, at);
-        }
-        let v = bit_field(card, at, w);
-        match step(l, v) {
-            Move::More(m) => {
-                numbers[n] = v;
-                l = m;
-                at += w;
-                n += 1;
+        if arc_ahead(l, at, card.len()) {
+            let h = arc_head(card, at);
+            numbers[n] = h.direction;
+            numbers[n + 1] = h.subnet;
+            numbers[n + 2] = h.place;
+            l = moved(l, Phase::Weight);
+            at += arc_head_width();
+            n += 3;
+        } else {
+            let w = width(l);
+            if card.len() < (at + w + 7) / 8 {
+                return refused(FormatFault::Truncated, at);
             }
-            Move::Done(k) => {
-                numbers[n] = v;
-                match excess_at(card, at + w) {
-                    Excess::At(i) => return refused(FormatFault::BadFill, i),
-                    Excess::Nothing => {
-                        return CardRead {
-                            answer: ReadAnswer::Whole(k),
-                            numbers: numbers,
-                        };
-                    }
+            let v = bit_field(card, at, w);
+            match step(l, v) {
+                Move::More(m) => {
+                    numbers[n] = v;
+                    l = m;
+                    at += w;
+                    n += 1;
                 }
+                Move::Done(k) => {
+                    numbers[n] = v;
+                    return ended(card, at + w, k, numbers);
+                }
+                Move::Bad(f) => return refused(f, at),
             }
-            Move::Bad(f) => return refused(f, at),
         }
     }
 }

@@ -1,3 +1,4 @@
+-- `card::layout::after_subnet_count` meets its contract. Assumes nothing.
 use borrow.Author.Needs.{needs}
 use borrow.Author.Tests.{lt-ltb, le-ltb, le-leb, lt-leb, eq-eqb, ne-eqb}
 use Rattle.card.specs.Grammar.{header}

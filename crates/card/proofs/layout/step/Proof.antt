@@ -1,3 +1,4 @@
+-- `card::layout::step` meets its contract. Assumes nothing.
 use mathlib.Core.Path.{ap}
 use borrow.Author.Needs.{needs}
 use Rattle.card.specs.Grammar.{arc}

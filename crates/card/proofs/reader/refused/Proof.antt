@@ -1,3 +1,4 @@
+-- `card::reader::refused` meets its contract. Assumes nothing.
 use mathlib.Core.Path.{refl}
 use Rattle.card.proofs.ReadLaws.{blank-table}
 use Rattle.card.proofs.reader.refused.Statement.{statement}

@@ -1,3 +1,4 @@
+-- `card::writer::unspelt` meets its contract. Assumes nothing.
 use mathlib.Core.Path.{refl}
 use Rattle.card.proofs.ReadLaws.{blank-table}
 use Rattle.card.proofs.writer.unspelt.Statement.{statement}
