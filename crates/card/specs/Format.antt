@@ -49,3 +49,8 @@ grow (suc n) one a = do
 unfoldable pub size : {U A : Type 0} → Format U A → ℕ
 size (done a) = 0
 size (get w value fault next) = w + size (next 0)
+
+-- its fields, where their number does not depend on what they hold
+unfoldable pub count : {U A : Type 0} → Format U A → ℕ
+count (done a) = 0
+count (get w value fault next) = suc (count (next 0))

@@ -9,6 +9,7 @@ pub mod Layout
 pub mod Reading
 pub mod Writing
 pub mod Tables
+pub mod Index
 pub mod Spelling
 pub mod Rows
 pub mod Wellformed

@@ -4,6 +4,7 @@ mod bits;
 mod layout;
 pub mod reader;
 mod rows;
+pub mod tables;
 pub mod writer;
 
 ghost use mathlib.Core.Path.{_≡_};

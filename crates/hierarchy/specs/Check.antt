@@ -1,13 +1,15 @@
 -- Pass two of 'Why a card is turned back': the first fault of a card's hierarchy, and its bit.
 use Prim.Native.Nat.{ℕ, _+_}
 use mathlib.Core.Bool.{Bool, not, _&&_, _||_}
-use mathlib.Core.Option.{Option}
+use mathlib.Core.Option.{Option, none, some}
 use lib.ListN.{length}
 use lib.Dec.{leb, ltb, eqb}
 use Rattle.card.specs.Finite.{every, any, someUnless, firstOf, _otherwise_}
 use Rattle.card.specs.Card.{Arc, Place, Card, normal, input, output, inOut, draws, fills, subnetAt, placeAt, transitionAt, arcAt, firstPlace, firstTransition, placeOf}
 use Rattle.card.specs.Writing.{subnetBit, transitionBit, arcBit}
 use Rattle.hierarchy.specs.Conditions.{kindOf, isChild, children, child}
+use Rattle.hierarchy.specs.declared.Finding.{Finding}
+use Rattle.hierarchy.specs.declared.Finding.the-variants.{Nothing, Fault}
 use Rattle.hierarchy.specs.declared.CardFault.{CardFault}
 use Rattle.hierarchy.specs.declared.CardFault.the-variants.{Unseen, Direction, Weight, Repeated, NoUnit, NoInterface, Unlike}
 
@@ -75,6 +77,11 @@ pub record Found : Type 0 where
 
 abbrev pub faultUnless : (bit : ℕ) → Bool → CardFault → Option Found
 faultUnless bit ok why = someUnless ok (record { why = why; bit = bit })
+
+-- what a pass over the code's tables finds
+abbrev pub findingOf : Finding → Option Found
+findingOf Nothing = none
+findingOf (Fault f at) = some (record { why = f; bit = at })
 
 -- 10 place not seen or not there; 11 direction; 12 weight; 13 repeated arc: the arc's first bit
 unfoldable pub arcFault : Card → (i t j : ℕ) → Option Found

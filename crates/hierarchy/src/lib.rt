@@ -12,6 +12,12 @@ pub enum CardFault {
     Unlike,
 }
 
+// What a pass over a card finds: nothing, or the first fault and its bit.
+pub enum Finding {
+    Nothing,
+    Fault(CardFault, usize),
+}
+
 // The check's answer. Accepted: how many subnets, places and transitions. Refused: why, and at which bit.
 pub enum Answer {
     Accepted(usize, usize, usize),

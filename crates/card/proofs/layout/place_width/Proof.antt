@@ -1,0 +1,37 @@
+-- `card::layout::place_width` meets its contract. Assumes nothing.
+use native.Mathlib.Omega.{arith}
+use Rattle.card.specs.Format.{size}
+use Rattle.card.specs.Grammar.{place}
+use borrow.Author.Needs.{needs}
+use Rattle.card.proofs.layout.place_width.Statement.{statement}
+use Rattle.card.proofs.layout.place_width.Tie as tie
+
+width-at-requires : tie.Need-width-at-requires
+width-at-requires c κs = search needs
+
+width-at-requires-2 : tie.Need-width-at-requires-2
+width-at-requires-2 c κs = search needs
+
+add-result : tie.Need-add-result
+add-result c = search needs
+
+width-at-requires-3 : tie.Need-width-at-requires-3
+width-at-requires-3 c κs = search needs
+
+add-result-2 : tie.Need-add-result-2
+add-result-2 c = search needs
+
+returns : tie.Need-returns
+unfolding size place
+returns c = (omega (arith, (c .before .before .width-at) .ensures .0, (c .before .width-at2) .ensures .0, (c .width-at3) .ensures .0), omega (arith, (c .before .before .width-at) .ensures .0, (c .before .width-at2) .ensures .0, (c .width-at3) .ensures .0))
+
+pub place-width-spec : {M : Type 1} → statement M
+place-width-spec =
+    tie.close
+    (tie.spec
+    width-at-requires
+    width-at-requires-2
+    add-result
+    width-at-requires-3
+    add-result-2
+    returns)

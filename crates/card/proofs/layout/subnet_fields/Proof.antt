@@ -1,0 +1,14 @@
+-- `card::layout::subnet_fields` meets its contract. Assumes nothing.
+use mathlib.Core.Path.{refl}
+use native.Mathlib.Omega.{arith}
+use Rattle.card.specs.Format.{count}
+use Rattle.card.specs.Grammar.{subnet}
+use Rattle.card.proofs.layout.subnet_fields.Statement.{statement}
+use Rattle.card.proofs.layout.subnet_fields.Tie as tie
+
+returns : tie.Need-returns
+unfolding count subnet
+returns c = (refl, omega arith)
+
+pub subnet-fields-spec : {M : Type 1} → statement M
+subnet-fields-spec = tie.close (tie.spec returns)

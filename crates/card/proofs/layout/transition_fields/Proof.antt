@@ -1,0 +1,14 @@
+-- `card::layout::transition_fields` meets its contract. Assumes nothing.
+use mathlib.Core.Path.{refl}
+use native.Mathlib.Omega.{arith}
+use Rattle.card.specs.Format.{count}
+use Rattle.card.specs.Grammar.{transition}
+use Rattle.card.proofs.layout.transition_fields.Statement.{statement}
+use Rattle.card.proofs.layout.transition_fields.Tie as tie
+
+returns : tie.Need-returns
+unfolding count transition
+returns c = (refl, omega arith)
+
+pub transition-fields-spec : {M : Type 1} → statement M
+transition-fields-spec = tie.close (tie.spec returns)

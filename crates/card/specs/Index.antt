@@ -1,0 +1,92 @@
+-- A card's numbers, field after field, and where its rows stand among them: what the layers above take of a card that was read.
+use Prim.Native.Nat.{ℕ, suc, _+_, _*_, _≤_, _<_}
+use mathlib.Core.Path.{_≡_}
+use mathlib.Core.List.{List}
+use lib.ListN.{length, getD}
+use Rattle.card.specs.Card.{Subnet, Place, Transition, Arc, Card, subnetAt, placeAt, transitionAt, arcAt, firstPlace, firstTransition, firstArc}
+use Rattle.card.specs.Format.{count}
+use Rattle.card.specs.Grammar.{header, subnet, place, transition, arc}
+use Rattle.card.specs.Writing.{subnetBit, transitionBit}
+
+-- the fields in front of so many subnets, places, transitions and arcs
+abbrev pub fieldsBefore : (subnets places transitions arcs : ℕ) → ℕ
+fieldsBefore s p t a = count header + count (subnet 0 0 0) * s + count (place 0) * p + count (transition 0) * t + count arc * a
+
+-- where the row of subnet s begins, and that of transition t, which is one of subnet s
+unfoldable pub subnetRow : Card → (s : ℕ) → ℕ
+subnetRow c s = fieldsBefore s (firstPlace c s) (firstTransition c s) (firstArc c (firstTransition c s))
+
+unfoldable pub transitionRow : Card → (s t : ℕ) → ℕ
+transitionRow c s t = fieldsBefore (suc s) (firstPlace c (suc s)) t (firstArc c t)
+
+-- field k of place n of the subnet whose row begins there; of arc j of the transition whose row begins there
+unfoldable pub placeField : (row n k : ℕ) → ℕ
+placeField row n k = row + count (subnet 0 0 0) + count (place 0) * n + k
+
+unfoldable pub arcField : (row j k : ℕ) → ℕ
+arcField row j k = row + count (transition 0) + count arc * j + k
+
+-- a row is there: its fields stand at these positions
+pub record SubnetThere (numbers : List ℕ) (row : ℕ) (r : Subnet) : Type 0 where
+  pub parent : getD numbers row 0 ≡ r .parent
+  pub type : getD numbers (row + 1) 0 ≡ r .type
+  pub places : getD numbers (row + 2) 0 ≡ r .places
+  pub transitions : getD numbers (row + 3) 0 ≡ r .transitions
+
+pub record PlaceThere (numbers : List ℕ) (row n : ℕ) (p : Place) : Type 0 where
+  pub kind : getD numbers (placeField row n 0) 0 ≡ p .kind
+  pub capacity : getD numbers (placeField row n 1) 0 ≡ p .capacity
+  pub tokens : getD numbers (placeField row n 2) 0 ≡ p .tokens
+
+pub record TransitionThere (numbers : List ℕ) (row : ℕ) (t : Transition) : Type 0 where
+  pub signal : getD numbers row 0 ≡ t .signal
+  pub arcs : getD numbers (row + 1) 0 ≡ t .arcs
+
+pub record ArcThere (numbers : List ℕ) (row j : ℕ) (a : Arc) : Type 0 where
+  pub direction : getD numbers (arcField row j 0) 0 ≡ a .direction
+  pub subnet : getD numbers (arcField row j 1) 0 ≡ a .subnet
+  pub place : getD numbers (arcField row j 2) 0 ≡ a .place
+  pub weight : getD numbers (arcField row j 3) 0 ≡ a .weight
+
+-- transition t is one of subnet s
+pub record Lists (c : Card) (s t : ℕ) : Type 0 where
+  pub subnet : s < length (c .subnets)
+  pub first : firstTransition c s ≤ t
+  pub last : t < firstTransition c (suc s)
+
+-- a table holds the rows of a card
+pub record Laid (c : Card) (numbers : List ℕ) : Type 0 where
+  pub signals : getD numbers 2 0 ≡ c .signals
+  pub subnet : (s : ℕ) → s < length (c .subnets) → SubnetThere numbers (subnetRow c s) (subnetAt c s)
+  pub place : (s n : ℕ) → s < length (c .subnets) → n < (subnetAt c s) .places → PlaceThere numbers (subnetRow c s) n (placeAt c (firstPlace c s + n))
+  pub transition : (s t : ℕ) → Lists c s t → TransitionThere numbers (transitionRow c s t) (transitionAt c t)
+  pub arc : (s t j : ℕ) → Lists c s t → j < (transitionAt c t) .arcs → ArcThere numbers (transitionRow c s t) j (arcAt c t j)
+
+-- where in a second table, of 644 entries, the starts stand: of subnets (33 of each, one past the last), then of transitions
+abbrev pub subnetBitStart : ℕ → ℕ
+subnetBitStart s = 33 + s
+
+abbrev pub firstPlaceStart : ℕ → ℕ
+firstPlaceStart s = 66 + s
+
+abbrev pub firstTransitionStart : ℕ → ℕ
+firstTransitionStart s = 99 + s
+
+abbrev pub transitionRowStart : ℕ → ℕ
+transitionRowStart t = 132 + t
+
+abbrev pub transitionBitStart : ℕ → ℕ
+transitionBitStart t = 388 + t
+
+pub record Indexed (c : Card) (starts : List ℕ) : Type 0 where
+  pub subnetRow : (s : ℕ) → s < length (c .subnets) → getD starts s 0 ≡ subnetRow c s
+  pub subnetBit : (s : ℕ) → s < length (c .subnets) → getD starts (subnetBitStart s) 0 ≡ subnetBit c s
+  pub firstPlace : (s : ℕ) → s ≤ length (c .subnets) → getD starts (firstPlaceStart s) 0 ≡ firstPlace c s
+  pub firstTransition : (s : ℕ) → s ≤ length (c .subnets) → getD starts (firstTransitionStart s) 0 ≡ firstTransition c s
+  pub transitionRow : (s t : ℕ) → Lists c s t → getD starts (transitionRowStart t) 0 ≡ transitionRow c s t
+  pub transitionBit : (s t : ℕ) → Lists c s t → getD starts (transitionBitStart t) 0 ≡ transitionBit c s t
+
+-- both tables of a card
+pub record Loaded (c : Card) (numbers starts : List ℕ) : Type 0 where
+  pub laid : Laid c numbers
+  pub indexed : Indexed c starts

@@ -1,0 +1,180 @@
+// A card's rows, out of the table of its numbers and the table of where they start. Each function takes any tables and any row: where there
+// is no such entry, it gives 0.
+use crate::layout::arc_fields;
+use crate::layout::arc_width;
+use crate::layout::place_fields;
+use crate::layout::subnet_fields;
+use crate::layout::transition_fields;
+use crate::layout::transition_width;
+ghost use mathlib.Core.Path.{_≡_};
+ghost use Prim.Native.Nat.{_+_, _*_};
+ghost use lib.ListN.{getD};
+ghost use Rattle.card.specs.Index.{placeField, arcField, subnetBitStart, firstPlaceStart, firstTransitionStart, transitionRowStart, transitionBitStart};
+ghost use Rattle.card.specs.Format.{size};
+ghost use Rattle.card.specs.Grammar.{transition, arc};
+
+fn number_at(numbers: &[u16], i: usize) -> u16
+    ensures { λ r. ⌜ r ≡ getD (now (numbers .entry)) i 0 ⌝ }
+{
+    if i < numbers.len() { numbers[i] } else { 0 }
+}
+
+fn start_at(starts: &[u32], i: usize) -> u32
+    ensures { λ r. ⌜ r ≡ getD (now (starts .entry)) i 0 ⌝ }
+{
+    if i < starts.len() { starts[i] } else { 0 }
+}
+
+// Number k of a place: n counts from the first of the subnet whose row begins at row.
+fn place_number(numbers: &[u16], row: u32, n: u16, k: u16) -> u16
+    ensures { λ r. ⌜ r ≡ getD (now (numbers .entry)) (placeField row n k) 0 ⌝ }
+{
+    number_at(
+        numbers,
+        row as usize + subnet_fields() + place_fields() * n as usize + k as usize,
+    )
+}
+
+// Number k of an arc: j counts from the first of the transition whose row begins at row.
+fn arc_number(numbers: &[u16], row: u32, j: u16, k: u16) -> u16
+    ensures { λ r. ⌜ r ≡ getD (now (numbers .entry)) (arcField row j k) 0 ⌝ }
+{
+    number_at(
+        numbers,
+        row as usize + transition_fields() + arc_fields() * j as usize + k as usize,
+    )
+}
+
+// How many signals there are.
+pub fn signals(numbers: &[u16]) -> u16
+    ensures { λ r. ⌜ r ≡ getD (now (numbers .entry)) 2 0 ⌝ }
+{
+    number_at(numbers, 2)
+}
+
+// The fields of a subnet's row.
+pub fn parent(numbers: &[u16], row: u32) -> u16
+    ensures { λ r. ⌜ r ≡ getD (now (numbers .entry)) row 0 ⌝ }
+{
+    number_at(numbers, row as usize)
+}
+
+pub fn subnet_type(numbers: &[u16], row: u32) -> u16
+    ensures { λ r. ⌜ r ≡ getD (now (numbers .entry)) (row + 1) 0 ⌝ }
+{
+    number_at(numbers, row as usize + 1)
+}
+
+pub fn place_count(numbers: &[u16], row: u32) -> u16
+    ensures { λ r. ⌜ r ≡ getD (now (numbers .entry)) (row + 2) 0 ⌝ }
+{
+    number_at(numbers, row as usize + 2)
+}
+
+pub fn transition_count(numbers: &[u16], row: u32) -> u16
+    ensures { λ r. ⌜ r ≡ getD (now (numbers .entry)) (row + 3) 0 ⌝ }
+{
+    number_at(numbers, row as usize + 3)
+}
+
+// The fields of a place.
+pub fn kind(numbers: &[u16], row: u32, n: u16) -> u16
+    ensures { λ r. ⌜ r ≡ getD (now (numbers .entry)) (placeField row n 0) 0 ⌝ }
+{
+    place_number(numbers, row, n, 0)
+}
+
+pub fn capacity(numbers: &[u16], row: u32, n: u16) -> u16
+    ensures { λ r. ⌜ r ≡ getD (now (numbers .entry)) (placeField row n 1) 0 ⌝ }
+{
+    place_number(numbers, row, n, 1)
+}
+
+pub fn tokens(numbers: &[u16], row: u32, n: u16) -> u16
+    ensures { λ r. ⌜ r ≡ getD (now (numbers .entry)) (placeField row n 2) 0 ⌝ }
+{
+    place_number(numbers, row, n, 2)
+}
+
+// The fields of a transition's row.
+pub fn signal(numbers: &[u16], row: u32) -> u16
+    ensures { λ r. ⌜ r ≡ getD (now (numbers .entry)) row 0 ⌝ }
+{
+    number_at(numbers, row as usize)
+}
+
+pub fn arc_count(numbers: &[u16], row: u32) -> u16
+    ensures { λ r. ⌜ r ≡ getD (now (numbers .entry)) (row + 1) 0 ⌝ }
+{
+    number_at(numbers, row as usize + 1)
+}
+
+// The fields of an arc.
+pub fn arc_direction(numbers: &[u16], row: u32, j: u16) -> u16
+    ensures { λ r. ⌜ r ≡ getD (now (numbers .entry)) (arcField row j 0) 0 ⌝ }
+{
+    arc_number(numbers, row, j, 0)
+}
+
+pub fn arc_subnet(numbers: &[u16], row: u32, j: u16) -> u16
+    ensures { λ r. ⌜ r ≡ getD (now (numbers .entry)) (arcField row j 1) 0 ⌝ }
+{
+    arc_number(numbers, row, j, 1)
+}
+
+pub fn arc_place(numbers: &[u16], row: u32, j: u16) -> u16
+    ensures { λ r. ⌜ r ≡ getD (now (numbers .entry)) (arcField row j 2) 0 ⌝ }
+{
+    arc_number(numbers, row, j, 2)
+}
+
+pub fn arc_weight(numbers: &[u16], row: u32, j: u16) -> u16
+    ensures { λ r. ⌜ r ≡ getD (now (numbers .entry)) (arcField row j 3) 0 ⌝ }
+{
+    arc_number(numbers, row, j, 3)
+}
+
+// Where subnet s begins: its row among the numbers, and its first bit on the card.
+pub fn subnet_row(starts: &[u32], s: u16) -> u32
+    ensures { λ r. ⌜ r ≡ getD (now (starts .entry)) s 0 ⌝ }
+{
+    start_at(starts, s as usize)
+}
+
+pub fn subnet_bit(starts: &[u32], s: u16) -> u32
+    ensures { λ r. ⌜ r ≡ getD (now (starts .entry)) (subnetBitStart s) 0 ⌝ }
+{
+    start_at(starts, 33 + s as usize)
+}
+
+// The flat number of subnet s's first place, and of its first transition.
+pub fn first_place(starts: &[u32], s: u16) -> u32
+    ensures { λ r. ⌜ r ≡ getD (now (starts .entry)) (firstPlaceStart s) 0 ⌝ }
+{
+    start_at(starts, 66 + s as usize)
+}
+
+pub fn first_transition(starts: &[u32], s: u16) -> u32
+    ensures { λ r. ⌜ r ≡ getD (now (starts .entry)) (firstTransitionStart s) 0 ⌝ }
+{
+    start_at(starts, 99 + s as usize)
+}
+
+// Where transition t begins, and the first bit of its arc j.
+pub fn transition_row(starts: &[u32], t: u32) -> u32
+    ensures { λ r. ⌜ r ≡ getD (now (starts .entry)) (transitionRowStart t) 0 ⌝ }
+{
+    start_at(starts, 132 + t as usize)
+}
+
+pub fn transition_bit(starts: &[u32], t: u32) -> u32
+    ensures { λ r. ⌜ r ≡ getD (now (starts .entry)) (transitionBitStart t) 0 ⌝ }
+{
+    start_at(starts, 388 + t as usize)
+}
+
+pub fn arc_bit(starts: &[u32], t: u32, j: u16) -> usize
+    ensures { λ r. ⌜ r ≡ getD (now (starts .entry)) (transitionBitStart t) 0 + size (transition 0) + size arc * j ⌝ }
+{
+    transition_bit(starts, t) as usize + transition_width() + arc_width() * j as usize
+}
