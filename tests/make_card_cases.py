@@ -1,0 +1,350 @@
+#!/usr/bin/env python3
+"""Writes the input of the program card_cases and the lines that it must print for it.
+
+The answers are the second implementation's. Each case is led by its kind, a byte, and its length, two bytes.
+"""
+
+import dataclasses
+import pathlib
+import random
+import struct
+import sys
+import zlib
+from typing import NamedTuple
+
+root = pathlib.Path(__file__).resolve().parent.parent
+folder = root / "crates" / "card_cases"
+sys.path.insert(0, str(root / "tests" / "second"))
+
+import cards
+import net
+
+CARD, TABLES = 0, 1
+GUARD = b"\xa5"
+
+# The four slices, with their rows and the widths of the columns.
+SLICES = [
+    ("subnets", net.Subnet, net.SUBNET_BITS),
+    ("places", net.Place, net.PLACE_BITS),
+    ("transitions", net.Transition, net.TRANSITION_BITS),
+    ("arcs", net.Arc, net.ARC_BITS),
+]
+
+# What pass one and the writer refuse in bench card A: the number, the field's first bit, its row and its values.
+WRONG = [
+    (2, 0, "header", 0, "version", (0, 2, 15)),
+    (3, 10, "header", 0, "signals", (0,)),
+    (4, 16, "subnets", 0, "parent", (1, 31)),
+    (4, 115, "subnets", 1, "parent", (1, 2, 31)),
+    (5, 21, "subnets", 0, "type", (1, 31)),
+    (7, 42, "places", 0, "kind", (1, 2, 3)),
+    (7, 44, "places", 0, "capacity", (0,)),
+    (7, 161, "places", 2, "capacity", (0,)),
+    (7, 52, "places", 0, "tokens", (2, 255)),
+    (7, 169, "places", 2, "tokens", (3, 255)),
+    (8, 60, "transitions", 0, "signal", (2, 63)),
+    (8, 177, "transitions", 1, "signal", (2, 63)),
+]
+
+# Counts that pass one refuses there: the number, the field's first bit and width, its values. To the writer they would be 17.
+WRONG_COUNTS = [
+    (3, 4, 6, (0, 33, 63)),     # subnets
+    (6, 26, 8, (0,)),           # places of subnet 0
+    (6, 34, 8, (0,)),           # transitions of subnet 0
+    (6, 125, 8, (0, 255)),      # places of subnet 1, 256 in all
+    (6, 133, 8, (0, 255)),      # transitions of subnet 1, 256 in all
+    (8, 66, 5, (0,)),           # arcs
+    (8, 183, 5, (0,)),
+]
+
+# The writer's refusals of counts: the number, the bit, and for each subnet its places, its transitions and the arcs of each.
+WRONG_SIZES = [
+    (3, 4, []),
+    (3, 4, 33 * [(1, 1, 1)]),
+    (3, 4, 63 * [(1, 1, 1)]),
+    (17, 0, 64 * [(1, 1, 1)]),
+    (6, 26, [(0, 1, 1)]),
+    (6, 34, [(1, 0, 0)]),
+    (6, 103, [(1, 1, 1), (0, 1, 1)]),
+    (6, 103, [(1, 1, 1), (255, 1, 1)]),
+    (6, 111, [(1, 1, 1), (1, 0, 0)]),
+    (6, 111, [(1, 1, 1), (1, 255, 1)]),
+    (6, 176793, [(1, 255, 31), (254, 1, 31)]),      # more numbers than any card has
+    (8, 66, [(1, 1, 0)]),
+    (8, 143, [(1, 1, 1), (1, 1, 0)]),
+    (17, 0, [(256, 1, 1)]),
+    (17, 0, [(1, 256, 1)]),
+    (17, 0, [(1, 1, 32)]),
+]
+
+# The most subnets, and the most places and transitions, that pass one takes.
+RIGHT_SIZES = [
+    32 * [(1, 1, 1)],
+    [(255, 255, 1)],
+    [(1, 1, 31), (254, 254, 1)],
+]
+
+# What pass one takes in bench card A: values at the ends of their ranges, and any arc.
+RIGHT = [
+    (10, 6, (63,)),
+    (120, 5, (31,)),
+    (44, 8, (255,)),
+    (141, 2, (0, 2, 3)),
+    (169, 8, (0, 2)),
+    (60, 6, (1,)),
+    (71, 1, (1,)),
+    (72, 5, (31,)),
+    (77, 8, (255,)),
+    (224, 8, (0, 255)),
+]
+
+
+class Tables(NamedTuple):
+    """What the writer is given: two numbers, four slices, and a buffer of so many bytes."""
+    version: int
+    signals: int
+    slices: list
+    room: int
+
+
+def changed(card, table, index, field, value):
+    if table == "header":
+        return dataclasses.replace(card, **{field: value})
+    return cards.change(card, table, index, **{field: value})
+
+
+def misversioned(card):
+    """Tables that are refused at their first field, unless they are 17, which comes before."""
+    return changed(card, "header", 0, "version", 2)
+
+
+def sized(subnets):
+    """Tables of so many rows. The arcs are zeros."""
+    return cards.tables(63, *((0, 0, places * [(net.NORMAL, 1, 0)],
+                               transitions * [(0, arcs * [(0, 0, 0, 0)])])
+                              for places, transitions, arcs in subnets))
+
+
+def given(card, room=32):
+    slices = [[value for row in getattr(card, name) for value in row] for name, _, _ in SLICES]
+    return Tables(card.version, card.signals, slices, room)
+
+
+# Cards that are read
+
+
+def whole(data):
+    return not isinstance(net.read_card(data), net.Refusal)
+
+
+def wrong_cards(bench):
+    for number, bit, *place, values in WRONG:
+        for value in values:
+            yield number, bit, net.encode(changed(bench, *place, value))
+    for number, bit, width, values in WRONG_COUNTS:
+        for value in values:
+            yield number, bit, cards.with_field(net.encode(bench), bit, width, value)
+
+
+def refused_cards(bench):
+    for number, bit, data in wrong_cards(bench):
+        assert net.read_card(data) == net.Refusal(number, bit), (number, bit)
+        yield data
+    # The first fault counts, and an earlier fault counts before the end of the card.
+    data = net.encode(bench)
+    yield cards.with_field(cards.with_field(data, 177, 6, 2), 52, 8, 2)
+    yield cards.with_field(data, 0, 4, 2)[:1]
+
+
+def right_cards(data):
+    for bit, width, values in RIGHT:
+        for value in values:
+            right = cards.with_field(data, bit, width, value)
+            assert whole(right), (bit, value)
+            yield right
+
+
+def filled_cards(data, end):
+    """A card that ends before bit end, with each fill bit set in turn, then with further bytes."""
+    for bit in range(end, 8 * len(data)):
+        yield cards.with_field(data, bit, 1, 1)
+    yield data + b"\0"
+    yield cards.with_field(data, 8 * len(data) - 1, 1, 1) + b"\0"
+    yield data + b"\xff\xff"
+
+
+def read_cases(rng):
+    bench = net.encode(cards.bench_card())
+    flat = net.encode(net.flatten(cards.bench_card()))
+    largest = net.encode(cards.largest_card(rng))
+    assert len(largest) == 22770 and whole(largest)
+    return [
+        bench, b"", bench[:28], bench + b"\0",
+        *(bench[:length] for length in range(1, 28)),
+        flat, flat[:-1], *filled_cards(flat, 206),
+        *refused_cards(cards.bench_card()),
+        *right_cards(bench),
+        largest, cards.with_field(largest, 182159, 1, 1),
+        *(cards.random_bytes(rng) for _ in range(60)),
+    ]
+
+
+# Tables that are written
+
+
+def wrong_tables(bench):
+    for number, bit, *place, values in WRONG:
+        for value in values:
+            yield number, bit, given(changed(bench, *place, value))
+    for number, bit, subnets in WRONG_SIZES:
+        yield number, bit, given(sized(subnets))
+        if number == 17:
+            yield number, bit, given(misversioned(sized(subnets)))
+    # The first fault counts.
+    yield 3, 10, given(changed(changed(bench, "header", 0, "signals", 0), "places", 0, "kind", 1))
+    # The counts add up, but give subnet 0 an interface place.
+    yield 7, 60, given(changed(changed(bench, "subnets", 0, "places", 2), "subnets", 1, "places", 1))
+
+
+def refused_tables(bench):
+    for number, bit, tables in wrong_tables(bench):
+        assert spelt(tables) == net.Refusal(number, bit), (number, bit)
+        yield tables
+
+
+def fields(bench):
+    """The header's fields, and those of the first and the last row of each table, with their widths."""
+    yield "header", 0, "version", net.VERSION_BITS
+    yield "header", 0, "signals", net.SIGNALS_BITS
+    for name, row, widths in SLICES:
+        for index in (0, len(getattr(bench, name)) - 1):
+            for field, width in zip(row._fields, widths):
+                yield name, index, field, width
+
+
+def edge_tables(bench):
+    """Each field with the largest number that fits, the one after it, and the largest of all."""
+    for *place, width in fields(bench):
+        yield given(changed(bench, *place, (1 << width) - 1))
+        for card, value in ((misversioned(bench), 1 << width), (bench, 65535)):
+            tables = given(changed(card, *place, value))
+            assert spelt(tables) == net.Refusal(17, 0), (place, value)
+            yield tables
+
+
+def uneven_tables(card):
+    """A number and a row more and fewer in each slice."""
+    for index, (_, row, _) in enumerate(SLICES):
+        size = len(row._fields)
+        numbers = given(card).slices[index]
+        for other in (numbers[:-1], numbers + [0], numbers[:-size], numbers + numbers[-size:]):
+            tables = given(card)
+            tables.slices[index] = other
+            assert spelt(tables) == net.Refusal(17, 0), (index, len(other))
+            yield tables
+
+
+def random_tables(rng):
+    card = cards.any_card(rng)
+    length = len(net.encode(card))
+    if rng.randrange(2):
+        card = cards.damaged(rng, card)
+    return given(card, length + rng.choice((-1, 0, 1, 20)))
+
+
+def write_cases(rng):
+    bench = cards.bench_card()
+    largest = sized(31 * [(8, 8, 31)] + [(7, 7, 31)])
+    return [
+        *(given(bench, room) for room in (29, 28, 30, 0, 64, 65)),
+        *refused_tables(bench),
+        *(given(sized(subnets), 2000) for subnets in RIGHT_SIZES),
+        *edge_tables(bench),
+        *uneven_tables(bench), *uneven_tables(misversioned(bench)),
+        *(given(largest, room) for room in (22769, 22770, 22771)),
+        *(random_tables(rng) for _ in range(60)),
+    ]
+
+
+def spelt(tables):
+    """The bytes of the card that the tables make, or a Refusal. A slice that ends inside a row is 17."""
+    rows = []
+    for numbers, (_, row, _) in zip(tables.slices, SLICES):
+        size = len(row._fields)
+        if len(numbers) % size != 0:
+            return net.Refusal(17, 0)
+        rows.append([row(*numbers[at:at + size]) for at in range(0, len(numbers), size)])
+    card = net.Card(tables.signals, *rows, tables.version)
+    if not net.fits(card):
+        return net.Refusal(17, 0)
+    data = net.encode(card)
+    return data if whole(data) else net.read_card(data)
+
+
+# What the program reads, and what it prints
+
+
+def led(kind, data):
+    return bytes([kind]) + len(data).to_bytes(2, "big") + data
+
+
+def packed(tables):
+    """The tables as numbers of two bytes. Zeros at the end are left out."""
+    numbers = [tables.version, tables.signals, *map(len, tables.slices), tables.room]
+    numbers += sum(tables.slices, [])
+    while numbers[-1] == 0:
+        numbers.pop()
+    return struct.pack(f">{len(numbers)}H", *numbers)
+
+
+def refused_line(refusal):
+    return f"no {refusal.number} {refusal.bit}\n"
+
+
+def put_line(data, room):
+    """The answer of the copy into a buffer, and all of the buffer: whole, or as a checksum."""
+    answer = net.into_buffer(data, room)[0]
+    after = GUARD * room
+    if answer == "wrote":
+        after = data + after[len(data):]
+    shown = after.hex() if room <= 64 else zlib.adler32(after)
+    return f"{answer} {len(data)} {shown}\n"
+
+
+def read_lines(data):
+    """The reader's answer. A whole card is written back into a buffer of its length."""
+    card = net.read_card(data)
+    if isinstance(card, net.Refusal):
+        return refused_line(card)
+    counts = f"whole {len(card.subnets)} {len(card.places)} {len(card.transitions)}\n"
+    return counts + put_line(net.encode(card), len(data))
+
+
+def write_line(tables):
+    data = spelt(tables)
+    return refused_line(data) if isinstance(data, net.Refusal) else put_line(data, tables.room)
+
+
+def cases():
+    """Each case's bytes and lines: the cards, then the tables."""
+    rng = random.Random(1)
+    read = [(led(CARD, data), read_lines(data)) for data in read_cases(rng)]
+    written = [(led(TABLES, packed(tables)), write_line(tables)) for tables in write_cases(rng)]
+    return read, written
+
+
+def files():
+    """The two files' contents by name. The last case of the input is not all there: no line."""
+    made = sum(cases(), [])
+    stdin = b"".join(data for data, _ in made) + made[0][0][:-1]
+    assert len(stdin) <= 131072
+    return {"stdin": stdin, "stdout": "".join(lines for _, lines in made).encode()}
+
+
+def main():
+    for name, content in files().items():
+        (folder / name).write_bytes(content)
+
+
+if __name__ == "__main__":
+    main()
