@@ -24,5 +24,7 @@ pub mod TableLaws
 pub mod FitLaws
 pub mod PushLaws
 pub mod RunLaws
+pub mod RowNumbers
+pub mod Positions
 pub mod NumberLaws
 pub mod TableSpell
