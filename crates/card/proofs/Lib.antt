@@ -26,5 +26,6 @@ pub mod PushLaws
 pub mod RunLaws
 pub mod RowNumbers
 pub mod Positions
+pub mod IndexLaws
 pub mod NumberLaws
 pub mod TableSpell

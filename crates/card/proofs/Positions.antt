@@ -175,7 +175,7 @@ module _ (c : Card) (n : Counted c) where
       rw (n .arcs, n .places, n .transitions) (omega (arith, e, f, subnets-long c (length (c .subnets))))
 
 -- a card that is well formed has no more numbers than the table has entries
-arcs-few : (c : Card) (k : ℕ) → All (TransitionRow (c .signals)) (c .transitions) → k ≤ length (c .transitions) → firstArc c k ≤ 31 * k
+pub arcs-few : (c : Card) (k : ℕ) → All (TransitionRow (c .signals)) (c .transitions) → k ≤ length (c .transitions) → firstArc c k ≤ 31 * k
 unfolding firstArc sumTo
 arcs-few c zero h l = omega arith
 arcs-few c (suc k) h l =
@@ -183,7 +183,7 @@ arcs-few c (suc k) h l =
     omega (arith, ih, (all-at (TransitionRow (c .signals)) (c .transitions) (record { signal = 0; arcs = 0 }) h k l) .arcs)
 
 module _ (c : Card) (w : Wellformed c) where
-  counted : Counted c
+  pub counted : Counted c
   counted = record { places = w .rows .placeCount; transitions = w .rows .transitionCount; arcs = w .rows .arcCount }
 
   numbers-few : length (numbersOf c) ≤ 33026

@@ -10,6 +10,7 @@ pub mod Reading
 pub mod Writing
 pub mod Tables
 pub mod Index
+pub mod Indexing
 pub mod Spelling
 pub mod Rows
 pub mod Wellformed

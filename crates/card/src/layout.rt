@@ -5,7 +5,7 @@ ghost use mathlib.Core.Path.{_≡_};
 ghost use mathlib.Core.Bool.{true};
 ghost use Prim.Native.Nat.{_+_, _<_, _≤_};
 ghost use Rattle.card.specs.Format.{count, size};
-ghost use Rattle.card.specs.Grammar.{subnet, place, transition, arc};
+ghost use Rattle.card.specs.Grammar.{header, subnet, place, transition, arc};
 ghost use Rattle.card.specs.Layout.{startOf, widthAt, widthOf, to, stepAt, stepOf, Sane};
 ghost use Rattle.card.specs.declared.layout.Phase.the-variants.{Version, SubnetCount, SignalCount, Parent, SubnetType, PlaceCount, TransitionCount, Kind, Capacity, Tokens, Signal, ArcCount, Direction, ArcSubnet, ArcPlace, Weight};
 
@@ -134,56 +134,68 @@ pub fn arc_head_width() -> usize
     width_at(Phase::Direction) + (width_at(Phase::ArcSubnet) + width_at(Phase::ArcPlace))
 }
 
-// How many fields a row has, and how many bits.
-pub fn subnet_fields() -> usize
+// How many fields the header and a row have, and how many bits.
+pub fn header_fields() -> u32
+    ensures { λ r. ⌜ (r ≡ count header) × (r ≤ 8) ⌝ }
+{
+    3
+}
+
+pub fn header_width() -> u32
+    ensures { λ r. ⌜ (r ≡ size header) × (r ≤ 32) ⌝ }
+{
+    (width_at(Phase::Version) + width_at(Phase::SubnetCount) + width_at(Phase::SignalCount)) as u32
+}
+
+pub fn subnet_fields() -> u32
     ensures { λ r. ⌜ (r ≡ count (subnet 0 0 0)) × (r ≤ 8) ⌝ }
 {
     4
 }
 
-pub fn subnet_width() -> usize
+pub fn subnet_width() -> u32
     ensures { λ r. ⌜ (r ≡ size (subnet 0 0 0)) × (r ≤ 32) ⌝ }
 {
-    width_at(Phase::Parent)
+    (width_at(Phase::Parent)
         + width_at(Phase::SubnetType)
         + width_at(Phase::PlaceCount)
-        + width_at(Phase::TransitionCount)
+        + width_at(Phase::TransitionCount)) as u32
 }
 
-pub fn place_fields() -> usize
+pub fn place_fields() -> u32
     ensures { λ r. ⌜ (r ≡ count (place 0)) × (r ≤ 8) ⌝ }
 {
     3
 }
 
-pub fn place_width() -> usize
+pub fn place_width() -> u32
     ensures { λ r. ⌜ (r ≡ size (place 0)) × (r ≤ 32) ⌝ }
 {
-    width_at(Phase::Kind) + width_at(Phase::Capacity) + width_at(Phase::Tokens)
+    (width_at(Phase::Kind) + width_at(Phase::Capacity) + width_at(Phase::Tokens)) as u32
 }
 
-pub fn transition_fields() -> usize
+pub fn transition_fields() -> u32
     ensures { λ r. ⌜ (r ≡ count (transition 0)) × (r ≤ 8) ⌝ }
 {
     2
 }
 
-pub fn transition_width() -> usize
+pub fn transition_width() -> u32
     ensures { λ r. ⌜ (r ≡ size (transition 0)) × (r ≤ 32) ⌝ }
 {
-    width_at(Phase::Signal) + width_at(Phase::ArcCount)
+    (width_at(Phase::Signal) + width_at(Phase::ArcCount)) as u32
 }
 
-pub fn arc_fields() -> usize
+pub fn arc_fields() -> u32
     ensures { λ r. ⌜ (r ≡ count arc) × (r ≤ 8) ⌝ }
 {
     4
 }
 
-pub fn arc_width() -> usize
+pub fn arc_width() -> u32
     ensures { λ r. ⌜ (r ≡ size arc) × (r ≤ 32) ⌝ }
 {
-    arc_head_width() + width_at(Phase::Weight)
+    (arc_head_width() + width_at(Phase::Weight)) as u32
 }
 
 fn after_version(l: Layout, v: u16) -> Move

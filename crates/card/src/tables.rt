@@ -31,7 +31,7 @@ fn place_number(numbers: &[u16], row: u32, n: u16, k: u16) -> u16
 {
     number_at(
         numbers,
-        row as usize + subnet_fields() + place_fields() * n as usize + k as usize,
+        row as usize + subnet_fields() as usize + place_fields() as usize * n as usize + k as usize,
     )
 }
 
@@ -41,7 +41,10 @@ fn arc_number(numbers: &[u16], row: u32, j: u16, k: u16) -> u16
 {
     number_at(
         numbers,
-        row as usize + transition_fields() + arc_fields() * j as usize + k as usize,
+        row as usize
+            + transition_fields() as usize
+            + arc_fields() as usize * j as usize
+            + k as usize,
     )
 }
 
@@ -176,5 +179,7 @@ pub fn transition_bit(starts: &[u32], t: u32) -> u32
 pub fn arc_bit(starts: &[u32], t: u32, j: u16) -> usize
     ensures { λ r. ⌜ r ≡ getD (now (starts .entry)) (transitionBitStart t) 0 + size (transition 0) + size arc * j ⌝ }
 {
-    transition_bit(starts, t) as usize + transition_width() + arc_width() * j as usize
+    transition_bit(starts, t) as usize
+        + transition_width() as usize
+        + arc_width() as usize * j as usize
 }

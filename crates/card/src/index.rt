@@ -1,0 +1,139 @@
+// Where the rows of a card stand: among its numbers, and on the card.
+use crate::layout::arc_fields;
+use crate::layout::arc_width;
+use crate::layout::header_fields;
+use crate::layout::header_width;
+use crate::layout::place_fields;
+use crate::layout::place_width;
+use crate::layout::subnet_fields;
+use crate::layout::subnet_width;
+use crate::layout::transition_fields;
+use crate::layout::transition_width;
+use crate::tables::arc_count;
+use crate::tables::place_count;
+use crate::tables::transition_count;
+ghost use mathlib.Core.Path.{_≡_};
+ghost use Prim.Native.Nat.{ℕ, _+_, _*_, _≤_, _<_};
+ghost use lib.ListN.{length, set};
+ghost use Rattle.card.specs.Card.{Card};
+ghost use Rattle.card.specs.Format.{count, size};
+ghost use Rattle.card.specs.Grammar.{subnet, place, transition, arc};
+ghost use Rattle.card.specs.Wellformed.{Wellformed};
+ghost use Rattle.card.specs.Index.{Laid, Indexed};
+ghost use Rattle.card.specs.Indexing.{Moved, OnCard, putSubnet, AtSubnet, TransitionsIndexed};
+ghost use Rattle.card.specs.Rows.{Tells};
+
+// Where a row begins: at which number, and at which bit.
+pub struct Position {
+    pub row: u32,
+    pub bit: u32,
+}
+
+// Whether a position can be on a card. A walk ends where it is not, so that no sum overflows, whatever the table holds.
+fn on_card(p: Position) -> bool
+    ensures { λ r. ⌜ Tells r (OnCard p) ⌝ }
+{
+    if 100000 < p.row {
+        return false;
+    }
+    p.bit <= 1000000
+}
+
+// Behind a transition and its arcs.
+fn after_transition(p: Position, arcs: u16) -> Position
+    requires { ⌜ OnCard p ⌝ }
+    ensures { λ r. ⌜ Moved p r (count (transition 0) + count arc * arcs) (size (transition 0) + size arc * arcs) ⌝ }
+{
+    Position {
+        row: p.row + (transition_fields() + arc_fields() * arcs as u32),
+        bit: p.bit + (transition_width() + arc_width() * arcs as u32),
+    }
+}
+
+// Behind a subnet's row and its places.
+fn after_places(p: Position, places: u16) -> Position
+    requires { ⌜ OnCard p ⌝ }
+    ensures { λ r. ⌜ Moved p r (count (subnet 0 0 0) + count (place 0) * places) (size (subnet 0 0 0) + size (place 0) * places) ⌝ }
+{
+    Position {
+        row: p.row + (subnet_fields() + place_fields() * places as u32),
+        bit: p.bit + (subnet_width() + place_width() * places as u32),
+    }
+}
+
+// Stores entry i; past the end it stores nothing.
+fn put_start(starts: &mut [u32], i: usize, v: u32)
+    ensures { λ r. ⌜ now (starts .exit) ≡ set (now (starts .entry)) i v ⌝ }
+{
+    if i < starts.len() {
+        starts[i] = v;
+    }
+}
+
+// Stores where subnet s begins, and the flat numbers of its first place and transition.
+fn put_subnet(starts: &mut [u32], s: u16, p: Position, place: u32, transition: u32)
+    ensures { λ r. ⌜ now (starts .exit) ≡ putSubnet (now (starts .entry)) s (p .row) (p .bit) place transition ⌝ }
+{
+    let i = s as usize;
+    put_start(starts, i, p.row);
+    put_start(starts, 33 + i, p.bit);
+    put_start(starts, 66 + i, place);
+    put_start(starts, 99 + i, transition);
+}
+
+// Stores where transitions begin, from transition first on, and says where the last one ends.
+fn index_transitions(
+    numbers: &[u16],
+    starts: &mut [u32],
+    from: Position,
+    first: u32,
+    count: u16,
+) -> Position
+    ensures { λ r. ⌜ length (now (starts .exit)) ≡ length (now (starts .entry)) ⌝ }
+    ensures { λ r. ⌜ ((c : Card) → (s : ℕ) → AtSubnet c s (now (numbers .entry)) (now (starts .entry)) from first count → TransitionsIndexed c s (now (starts .entry)) (now (starts .exit)) r) ⌝ }
+{
+    if 1000 < first {
+        return from;
+    }
+    let end = first + count as u32;
+    let mut p = from;
+    let mut t = first;
+    while t < end {
+        if !on_card(p) {
+            return p;
+        }
+        put_start(starts, 132 + t as usize, p.row);
+        put_start(starts, 388 + t as usize, p.bit);
+        p = after_transition(p, arc_count(numbers, p.row));
+        t += 1;
+    }
+    p
+}
+
+// Where the rows of a card begin whose numbers the table holds. The table of starts is that of specs/Index.antt.
+pub fn index(numbers: &[u16], subnets: u16) -> [u32; 644]
+    ensures { λ r. ⌜ ((c : Card) → Wellformed c → Laid c (now (numbers .entry)) → subnets ≡ length (c .subnets) → Indexed c r) ⌝ }
+{
+    let mut starts = [0; 644];
+    let mut p = Position {
+        row: header_fields(),
+        bit: header_width(),
+    };
+    let mut place: u32 = 0;
+    let mut transition: u32 = 0;
+    let mut s: u16 = 0;
+    while s < subnets {
+        if !on_card(p) {
+            return starts;
+        }
+        put_subnet(&mut starts, s, p, place, transition);
+        let n = place_count(numbers, p.row);
+        let k = transition_count(numbers, p.row);
+        p = index_transitions(numbers, &mut starts, after_places(p, n), transition, k);
+        place += n as u32;
+        transition += k as u32;
+        s += 1;
+    }
+    put_subnet(&mut starts, s, p, place, transition);
+    starts
+}
