@@ -293,7 +293,7 @@ module _ (c : Card) (w : Wellformed c) (numbers : List ℕ) (d : Laid c numbers)
         }
 
     module _ (l : s < length (c .subnets)) (n k : ℕ) (en : n ≡ getD numbers (p .row + 2) 0) (ek : k ≡ getD numbers (p .row + 3) 0) (q : Position)
-      (m : Moved p q (count (subnet 0 0 0) + count (Rattle.card.specs.Grammar.place 0) * n) (size (subnet 0 0 0) + size (Rattle.card.specs.Grammar.place 0) * n)) where
+        (m : Moved p q (count (subnet 0 0 0) + count (Rattle.card.specs.Grammar.place 0) * n) (size (subnet 0 0 0) + size (Rattle.card.specs.Grammar.place 0) * n)) where
       small : s ≤ 32
       small = omega (arith, w .fewSubnets)
 

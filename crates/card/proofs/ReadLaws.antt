@@ -19,15 +19,17 @@ use Rattle.card.specs.Format.{Format, done, get}
 use Rattle.card.specs.Grammar.{card}
 use Rattle.card.specs.Reading.{Reading, refused, whole, read, excess, readCard}
 use Rattle.card.specs.Writing.{fields}
-use Rattle.card.specs.Tables.{tableSize, numbersOf, IsRead, IsRefused, IsEnded}
+use Rattle.card.specs.Tables.{tableSize, numbersOf, readOutcome, IsRead, IsRefused, IsWhole, IsEnded}
 use Rattle.card.specs.declared.FormatFault.{FormatFault}
 use Rattle.card.specs.declared.FormatFault.the-variants.{BadFill}
 use Rattle.card.specs.declared.Counts.{Counts}
 use Rattle.card.specs.declared.reader.CardRead.{CardRead}
-use Rattle.card.specs.declared.reader.ReadAnswer.the-variants.{Whole}
 use Rattle.card.proofs.Sums.{table-length, table-at}
 use Rattle.card.proofs.Yields.{bit-small, field-small, not-whole}
 use Rattle.card.proofs.BitLaws.{lt-or-ge, field-join}
+use Rattle.card.specs.Index.{Laid, Loaded}
+use Rattle.card.proofs.Ranges.{read-wellformed}
+use Rattle.card.proofs.Positions.{laid}
 use Rattle.card.proofs.Walk.{Spelt}
 use Rattle.card.proofs.Tied.{tied-card}
 use Rattle.card.proofs.Shape.{numbersIn, part, cardS, countsOf, read-shape, numbers-shape}
@@ -70,7 +72,7 @@ module _ (bytes : List ℕ) where
   card-refused n at e = rw (part-refused countsOf (read bytes card 0) n at (sym (read-shape bytes) ∙ e))
 
   pub refused-is : (f : FormatFault) (at : ℕ) (r : CardRead) → read bytes cardS 0 ≡ refused (number f) at → IsRefused f at r → IsRead (readCard bytes) r
-  refused-is f at r e h = rw (card-refused (number f) at e) (record { answer = rw (h .answer); numbers = h .numbers })
+  refused-is f at r e h = rw (card-refused (number f) at e) (record { answer = rw (h .answer); numbers = h .numbers; starts = h .starts })
 
   found : (k : Counts) (end : ℕ) → read bytes cardS 0 ≡ whole k end → Found countsOf (read bytes card 0) k end
   found k end e = part-whole countsOf (read bytes card 0) k end (sym (read-shape bytes) ∙ e)
@@ -80,7 +82,7 @@ module _ (bytes : List ℕ) where
   unfolding readCard
   excess-is k end i r e x h =
       let f = found k end e in
-      rw (f .is, x) (record { answer = rw (h .answer); numbers = h .numbers })
+      rw (f .is, x) (record { answer = rw (h .answer); numbers = h .numbers; starts = h .starts })
 
   -- the table is that of the card's numbers
   table-is : (t : List ℕ) (n : ℕ) (c : Card) → length t ≡ 33026 → ((i : ℕ) → n ≤ i → getD t i 0 ≡ 0) → take n t ≡ numbersOf c → t ≡ table 0 tableSize (λ i. getD (numbersOf c) i 0)
@@ -95,29 +97,42 @@ module _ (bytes : List ℕ) where
   unfolding numbersOf
   numbers-are c end r = spelt-numbers bytes card c 0 (tied-card bytes c end r .spelt)
 
-  whole-is : (k : Counts) (end n : ℕ) (t : List ℕ) → read bytes cardS 0 ≡ whole k end → excess bytes end ≡ none → length t ≡ 33026 → ((i : ℕ) → n ≤ i → getD t i 0 ≡ 0)
-      → take n t ≡ numbersIn bytes cardS 0 → IsRead (readCard bytes) (record { answer = Whole k; numbers = t })
+  whole-is : (k : Counts) (end n : ℕ) (t : List ℕ) (r : CardRead) → read bytes cardS 0 ≡ whole k end → excess bytes end ≡ none → length t ≡ 33026 → ((i : ℕ) → n ≤ i → getD t i 0 ≡ 0)
+      → take n t ≡ numbersIn bytes cardS 0 → IsWhole k t r → IsRead (readCard bytes) r
   unfolding readCard
-  whole-is k end n t e x long zeros v =
+  whole-is k end n t r e x long zeros v h =
       let f = found k end e in
       let numbers : take n t ≡ numbersOf (f .value) = v ∙ numbers-shape bytes ∙ numbers-are (f .value) end (f .is) in
-      rw (f .is, x) (record { answer = ap (λ (y : Counts). Rattle.card.specs.Tables.ReadOutcome.whole (y .subnets) (y .places) (y .transitions)) (sym (f .maps)); numbers = table-is t n (f .value) long zeros numbers })
+      let is : t ≡ table 0 tableSize (λ i. getD (numbersOf (f .value)) i 0) = table-is t n (f .value) long zeros numbers in
+      let w = read-wellformed bytes (f .value) end (rw (f .is, x)) in
+      let same : k .subnets ≡ length (f .value .subnets) = sym (ap (λ (y : Counts). y .subnets) (f .maps)) in
+      rw (f .is, x) (record {
+        answer = ap readOutcome (h .answer) ∙ ap (λ (y : Counts). Rattle.card.specs.Tables.ReadOutcome.whole (y .subnets) (y .places) (y .transitions)) (sym (f .maps));
+        numbers = h .numbers ∙ is;
+        starts = h .starts (f .value) w (subst (Laid (f .value)) (sym is) (laid (f .value) w)) same;
+      })
 
   pub ended-is : (k : Counts) (end n : ℕ) (t : List ℕ) (r : CardRead) → read bytes cardS 0 ≡ whole k end → length t ≡ 33026 → ((i : ℕ) → n ≤ i → getD t i 0 ≡ 0)
       → take n t ≡ numbersIn bytes cardS 0 → IsEnded (excess bytes end) k t r → IsRead (readCard bytes) r
   ended-is k end n t r e long zeros v h = go (excess bytes end) refl h
     where
       go : (x : Option ℕ) → excess bytes end ≡ x → IsEnded x k t r → IsRead (readCard bytes) r
-      go none q h = subst (IsRead (readCard bytes)) (sym h) (whole-is k end n t e q long zeros v)
+      go none q h = whole-is k end n t r e q long zeros v h
       go (some i) q h = excess-is k end i r e q h
+
+-- `read-loaded`: WHAT WAS READ WHOLE IS IN THE TWO TABLES
+pub read-loaded : (bytes : List ℕ) (c : Card) (end : ℕ) (r : CardRead) → readCard bytes ≡ whole c end → IsRead (readCard bytes) r → Loaded c (r .numbers) (r .starts)
+read-loaded bytes c end r e h =
+    let g : IsRead (whole c end) r = subst (λ (x : Reading Card). IsRead x r) e h in
+    record { laid = subst (Laid c) (sym (g .numbers)) (laid c (read-wellformed bytes c end e)); indexed = g .starts }
 
 zeros-table : (from n : ℕ) → replicate {A = ℕ} n 0 ≡ table from n (λ i. 0)
 unfolding table
 zeros-table from zero = refl
 zeros-table from (suc n) = ap (λ (xs : List ℕ). 0 ∷ xs) (zeros-table (suc from) n)
 
-pub blank-table : replicate {A = ℕ} 33026 0 ≡ table 0 tableSize (λ i. 0)
-blank-table = zeros-table 0 33026
+pub blank-table : (n : ℕ) → replicate {A = ℕ} n 0 ≡ table 0 n (λ i. 0)
+blank-table n = zeros-table 0 n
 
 -- nothing is in excess up to bit i
 pub record Checked (bytes : List ℕ) (end i : ℕ) : Type 0 where

@@ -62,7 +62,10 @@ pub record Laid (c : Card) (numbers : List ℕ) : Type 0 where
   pub transition : (s t : ℕ) → Lists c s t → TransitionThere numbers (transitionRow c s t) (transitionAt c t)
   pub arc : (s t j : ℕ) → Lists c s t → j < (transitionAt c t) .arcs → ArcThere numbers (transitionRow c s t) j (arcAt c t j)
 
--- where in a second table, of 644 entries, the starts stand: of subnets (33 of each, one past the last), then of transitions
+-- where in a second table the starts stand: of subnets (33 of each, one past the last), then of transitions
+abbrev pub startsSize : ℕ
+startsSize = 644
+
 abbrev pub subnetBitStart : ℕ → ℕ
 subnetBitStart s = 33 + s
 

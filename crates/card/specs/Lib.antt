@@ -8,9 +8,9 @@ pub mod Grammar
 pub mod Layout
 pub mod Reading
 pub mod Writing
-pub mod Tables
+pub mod Wellformed
 pub mod Index
 pub mod Indexing
+pub mod Tables
 pub mod Spelling
 pub mod Rows
-pub mod Wellformed

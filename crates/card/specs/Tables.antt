@@ -13,6 +13,8 @@ use Rattle.card.specs.Reading.{Reading}
 use Rattle.card.specs.Reading
 use Rattle.card.specs.Writing.{fields}
 use Rattle.card.specs.Layout.{widthAt}
+use Rattle.card.specs.Index.{startsSize, Laid, Indexed}
+use Rattle.card.specs.Wellformed.{Wellformed}
 use Rattle.card.specs.declared.Counts.{Counts}
 use Rattle.card.specs.declared.FormatFault.{FormatFault}
 use Rattle.card.specs.declared.FormatFault.the-variants.{BadFill}
@@ -51,14 +53,21 @@ abbrev pub tableOf : Reading Card → List ℕ
 tableOf (Reading.whole c end) = table 0 tableSize (λ i. getD (numbersOf c) i 0)
 tableOf (Reading.refused n at) = table 0 tableSize (λ i. 0)
 
+-- where its rows begin; of a refused one, zeros
+abbrev pub Starts : Reading Card → List ℕ → Type 0
+Starts (Reading.whole c end) starts = Indexed c starts
+Starts (Reading.refused n at) starts = starts ≡ table 0 startsSize (λ i. 0)
+
 pub record IsRead (x : Reading Card) (r : CardRead) : Type 0 where
   pub answer : readOutcome (r .answer) ≡ outcomeOf x
   pub numbers : r .numbers ≡ tableOf x
+  pub starts : Starts x (r .starts)
 
 -- a refusal, with an empty table
 pub record IsRefused (f : FormatFault) (at : ℕ) (r : CardRead) : Type 0 where
   pub answer : r .answer ≡ Refused f at
   pub numbers : r .numbers ≡ table 0 tableSize (λ i. 0)
+  pub starts : r .starts ≡ table 0 startsSize (λ i. 0)
 
 -- an arc's fields before the weight, which hold any number, and where they lie from bit at on
 abbrev pub arcHeadWidth : ℕ
@@ -70,8 +79,13 @@ pub record IsArcHead (bytes : List ℕ) (at : ℕ) (r : ArcHead) : Type 0 where
   pub place : r .place ≡ bitField (bit bytes) (at + widthAt Direction + widthAt ArcSubnet) (widthAt ArcPlace)
 
 -- the last field is read, and what is in excess is known
+pub record IsWhole (k : Counts) (xs : List ℕ) (r : CardRead) : Type 0 where
+  pub answer : r .answer ≡ Whole k
+  pub numbers : r .numbers ≡ xs
+  pub starts : (c : Card) → Wellformed c → Laid c xs → k .subnets ≡ length (c .subnets) → Indexed c (r .starts)
+
 abbrev pub IsEnded : (excess : Option ℕ) → Counts → (numbers : List ℕ) → CardRead → Type 0
-IsEnded none k numbers r = r ≡ record { answer = Whole k; numbers = numbers }
+IsEnded none k numbers r = IsWhole k numbers r
 IsEnded (some i) k numbers r = IsRefused BadFill i r
 
 abbrev pub excessOf : Excess → Option ℕ

@@ -3,6 +3,7 @@ use crate::Counts;
 use crate::FormatFault;
 use crate::bits::bit_field;
 use crate::bits::pow2;
+use crate::index::index;
 use crate::layout::Layout;
 use crate::layout::Move;
 use crate::layout::Phase;
@@ -27,10 +28,11 @@ pub enum ReadAnswer {
     Refused(FormatFault, usize),
 }
 
-// The answer, and the card's numbers field after field, with zeros behind them.
+// The answer; the card's numbers field after field, with zeros behind them; and where its rows begin (see tables.rt).
 pub struct CardRead {
     pub answer: ReadAnswer,
     pub numbers: [u16; 33026],
+    pub starts: [u32; 644],
 }
 
 pub enum Excess {
@@ -96,6 +98,7 @@ fn refused(f: FormatFault, at: usize) -> CardRead
     CardRead {
         answer: ReadAnswer::Refused(f, at),
         numbers: [0; 33026],
+        starts: [0; 644],
     }
 }
 
@@ -109,6 +112,7 @@ fn ended(card: &[u8], end: usize, k: Counts, numbers: [u16; 33026]) -> CardRead
         Excess::Nothing => CardRead {
             answer: ReadAnswer::Whole(k),
             numbers: numbers,
+            starts: index(&numbers, k.subnets),
         },
     }
 }

@@ -1,69 +1,53 @@
+-- `card::index::after_places` meets its contract. Assumes nothing.
 use Prim.Native.Nat.{_≤_}
 use native.Mathlib.Nat.{mul-le-mul-left}
 use native.Mathlib.Omega.{arith}
 use borrow.Author.Needs.{needs}
 use Rattle.card.proofs.index.after_places.Statement.{statement}
 use Rattle.card.proofs.index.after_places.Tie as tie
-use Rattle.card.proofs.index.after_places.Reads as reads
-use Rattle.card.proofs.index.after_places.Lts as lts
-use Rattle.card.proofs.layout.place_fields.Reads as place-fields-reads
-use Rattle.card.proofs.layout.place_width.Reads as place-width-reads
-use Rattle.card.proofs.layout.subnet_fields.Reads as subnet-fields-reads
-use Rattle.card.proofs.layout.subnet_width.Reads as subnet-width-reads
 
--- src/index.rt:59:23
 subnet-fields-requires : tie.Need-subnet-fields-requires
 subnet-fields-requires c κs = search needs
 
--- src/index.rt:59:41
 place-fields-requires : tie.Need-place-fields-requires
 place-fields-requires c κs = search needs
 
--- src/index.rt:59:41
 mul-t6 : tie.Need-mul-t6
 mul-t6 c =
     let l : (c .before .before .args) .places ≤ 65536 = omega arith in
     omega (arith, (c .before .subnet-fields) .ensures .1, (c .place-fields) .ensures .1, mul-le-mul-left ((c .place-fields) .result) l, (c .before .before .pre) .row, (c .before .before .pre) .bit)
 
--- src/index.rt:59:23
 add-t7 : tie.Need-add-t7
 add-t7 c =
     let l : (c .before .before .args) .places ≤ 65536 = omega arith in
     omega (arith, (c .before .subnet-fields) .ensures .1, (c .place-fields) .ensures .1, mul-le-mul-left ((c .place-fields) .result) l, (c .before .before .pre) .row, (c .before .before .pre) .bit)
 
--- src/index.rt:59:14
 add-t8 : tie.Need-add-t8
 add-t8 c =
     let l : (c .before .before .before .args) .places ≤ 65536 = omega arith in
     omega (arith, (c .before .before .subnet-fields) .ensures .1, (c .before .place-fields) .ensures .1, mul-le-mul-left ((c .before .place-fields) .result) l, (c .before .before .before .pre) .row, (c .before .before .before .pre) .bit)
 
--- src/index.rt:60:23
 subnet-width-requires : tie.Need-subnet-width-requires
 subnet-width-requires c κs = search needs
 
--- src/index.rt:60:40
 place-width-requires : tie.Need-place-width-requires
 place-width-requires c κs = search needs
 
--- src/index.rt:60:40
 mul-t12 : tie.Need-mul-t12
 mul-t12 c =
     let l : (c .before .before .before .before .before .args) .places ≤ 65536 = omega arith in
     omega (arith, (c .before .subnet-width) .ensures .1, (c .place-width) .ensures .1, mul-le-mul-left ((c .place-width) .result) l, (c .before .before .before .before .before .pre) .row, (c .before .before .before .before .before .pre) .bit)
 
--- src/index.rt:60:23
 add-t13 : tie.Need-add-t13
 add-t13 c =
     let l : (c .before .before .before .before .before .args) .places ≤ 65536 = omega arith in
     omega (arith, (c .before .subnet-width) .ensures .1, (c .place-width) .ensures .1, mul-le-mul-left ((c .place-width) .result) l, (c .before .before .before .before .before .pre) .row, (c .before .before .before .before .before .pre) .bit)
 
--- src/index.rt:60:14
 add-t14 : tie.Need-add-t14
 add-t14 c =
     let l : (c .before .before .before .before .before .before .args) .places ≤ 65536 = omega arith in
     omega (arith, (c .before .before .subnet-width) .ensures .1, (c .before .place-width) .ensures .1, mul-le-mul-left ((c .before .place-width) .result) l, (c .before .before .before .before .before .before .pre) .row, (c .before .before .before .before .before .before .pre) .bit)
 
--- src/index.rt:54:1
 returns : tie.Need-returns
 returns c = record { row = rw ((c .before .before .before .before .before .subnet-fields) .ensures .0, (c .before .before .before .before .place-fields) .ensures .0); bit = rw ((c .before .before .subnet-width) .ensures .0, (c .before .place-width) .ensures .0) }
 

@@ -1,69 +1,53 @@
+-- `card::index::after_transition` meets its contract. Assumes nothing.
 use Prim.Native.Nat.{_≤_}
 use native.Mathlib.Nat.{mul-le-mul-left}
 use native.Mathlib.Omega.{arith}
 use borrow.Author.Needs.{needs}
 use Rattle.card.proofs.index.after_transition.Statement.{statement}
 use Rattle.card.proofs.index.after_transition.Tie as tie
-use Rattle.card.proofs.index.after_transition.Reads as reads
-use Rattle.card.proofs.index.after_transition.Lts as lts
-use Rattle.card.proofs.layout.arc_fields.Reads as arc-fields-reads
-use Rattle.card.proofs.layout.arc_width.Reads as arc-width-reads
-use Rattle.card.proofs.layout.transition_fields.Reads as transition-fields-reads
-use Rattle.card.proofs.layout.transition_width.Reads as transition-width-reads
 
--- src/index.rt:48:23
 transition-fields-requires : tie.Need-transition-fields-requires
 transition-fields-requires c κs = search needs
 
--- src/index.rt:48:45
 arc-fields-requires : tie.Need-arc-fields-requires
 arc-fields-requires c κs = search needs
 
--- src/index.rt:48:45
 mul-t6 : tie.Need-mul-t6
 mul-t6 c =
     let l : (c .before .before .args) .arcs ≤ 65536 = omega arith in
     omega (arith, (c .before .transition-fields) .ensures .1, (c .arc-fields) .ensures .1, mul-le-mul-left ((c .arc-fields) .result) l, (c .before .before .pre) .row, (c .before .before .pre) .bit)
 
--- src/index.rt:48:23
 add-t7 : tie.Need-add-t7
 add-t7 c =
     let l : (c .before .before .args) .arcs ≤ 65536 = omega arith in
     omega (arith, (c .before .transition-fields) .ensures .1, (c .arc-fields) .ensures .1, mul-le-mul-left ((c .arc-fields) .result) l, (c .before .before .pre) .row, (c .before .before .pre) .bit)
 
--- src/index.rt:48:14
 add-t8 : tie.Need-add-t8
 add-t8 c =
     let l : (c .before .before .before .args) .arcs ≤ 65536 = omega arith in
     omega (arith, (c .before .before .transition-fields) .ensures .1, (c .before .arc-fields) .ensures .1, mul-le-mul-left ((c .before .arc-fields) .result) l, (c .before .before .before .pre) .row, (c .before .before .before .pre) .bit)
 
--- src/index.rt:49:23
 transition-width-requires : tie.Need-transition-width-requires
 transition-width-requires c κs = search needs
 
--- src/index.rt:49:44
 arc-width-requires : tie.Need-arc-width-requires
 arc-width-requires c κs = search needs
 
--- src/index.rt:49:44
 mul-t12 : tie.Need-mul-t12
 mul-t12 c =
     let l : (c .before .before .before .before .before .args) .arcs ≤ 65536 = omega arith in
     omega (arith, (c .before .transition-width) .ensures .1, (c .arc-width) .ensures .1, mul-le-mul-left ((c .arc-width) .result) l, (c .before .before .before .before .before .pre) .row, (c .before .before .before .before .before .pre) .bit)
 
--- src/index.rt:49:23
 add-t13 : tie.Need-add-t13
 add-t13 c =
     let l : (c .before .before .before .before .before .args) .arcs ≤ 65536 = omega arith in
     omega (arith, (c .before .transition-width) .ensures .1, (c .arc-width) .ensures .1, mul-le-mul-left ((c .arc-width) .result) l, (c .before .before .before .before .before .pre) .row, (c .before .before .before .before .before .pre) .bit)
 
--- src/index.rt:49:14
 add-t14 : tie.Need-add-t14
 add-t14 c =
     let l : (c .before .before .before .before .before .before .args) .arcs ≤ 65536 = omega arith in
     omega (arith, (c .before .before .transition-width) .ensures .1, (c .before .arc-width) .ensures .1, mul-le-mul-left ((c .before .arc-width) .result) l, (c .before .before .before .before .before .before .pre) .row, (c .before .before .before .before .before .before .pre) .bit)
 
--- src/index.rt:43:1
 returns : tie.Need-returns
 returns c = record { row = rw ((c .before .before .before .before .before .transition-fields) .ensures .0, (c .before .before .before .before .arc-fields) .ensures .0); bit = rw ((c .before .before .transition-width) .ensures .0, (c .before .arc-width) .ensures .0) }
 

@@ -1,7 +1,8 @@
+-- `card::index::index` meets its contract. Assumes nothing.
 use mathlib.Core.List.{List}
 use Rattle.card.specs.Indexing.{AtSubnet, TransitionsIndexed}
-use Prim.Native.Nat.{ℕ, _+_, _-_, _*_, _≤_}
-use mathlib.Core.Path.{_≡_, refl, sym, ap, subst, _∙_}
+use Prim.Native.Nat.{ℕ, _-_, _*_, _≤_}
+use mathlib.Core.Path.{_≡_, sym, ap, subst, _∙_}
 use native.Mathlib.Omega.{arith}
 use lib.ListN.{length, length-replicate}
 use denote.Ref.{now}
@@ -13,16 +14,6 @@ use Rattle.card.proofs.TableLaws.{not-true, not-false, no-yes}
 use Rattle.card.proofs.IndexLaws.{put-same, Indexing, index-start, index-on, index-at, index-more, index-done}
 use Rattle.card.proofs.index.index.Statement.{statement}
 use Rattle.card.proofs.index.index.Tie as tie
-use Rattle.card.proofs.index.index.Reads as reads
-use Rattle.card.proofs.index.index.Lts as lts
-use Rattle.card.proofs.index.after_places.Reads as after-places-reads
-use Rattle.card.proofs.index.index_transitions.Reads as index-transitions-reads
-use Rattle.card.proofs.index.on_card.Reads as on-card-reads
-use Rattle.card.proofs.index.put_subnet.Reads as put-subnet-reads
-use Rattle.card.proofs.layout.header_fields.Reads as header-fields-reads
-use Rattle.card.proofs.layout.header_width.Reads as header-width-reads
-use Rattle.card.proofs.tables.place_count.Reads as place-count-reads
-use Rattle.card.proofs.tables.transition_count.Reads as transition-count-reads
 
 abbrev Inv-loop : tie.InvT-loop
 Inv-loop numbers subnets starts₀ p₀ place₀ transition₀ s₀ starts p place transition s = (length starts ≡ 644) × (s ≤ subnets) × (place ≤ 65535 * s) × (transition ≤ 65535 * s)
@@ -31,105 +22,83 @@ Inv-loop numbers subnets starts₀ p₀ place₀ transition₀ s₀ starts p pla
 abbrev μ-loop : tie.MeasureT-loop
 μ-loop numbers subnets starts₀ p₀ place₀ transition₀ s₀ starts p place transition s = subnets - s
 
--- src/index.rt:118:14
 header-fields-requires : tie.Need-header-fields-requires Inv-loop μ-loop
 header-fields-requires c κs = search needs
 
--- src/index.rt:119:14
 header-width-requires : tie.Need-header-width-requires Inv-loop μ-loop
 header-width-requires c κs = search needs
 
--- src/index.rt:124:5
 loop-holds : tie.Need-loop-holds Inv-loop μ-loop
 loop-holds c = (length-replicate {A = ℕ} 644 0, omega arith, omega arith, omega arith, λ k w d e. index-start k w (now ((c .before .before .before .args) .numbers)) d _ ((c .before .header-fields) .ensures .0) ((c .header-width) .ensures .0))
 
--- src/index.rt:125:13
 on-card-requires : tie.Need-on-card-requires Inv-loop μ-loop
 on-card-requires c κs = search needs
 
--- src/index.rt:126:13
 returns : tie.Need-returns Inv-loop μ-loop
 returns c = λ k w d e. absurd (no-yes (sym (not-true ((c .before .on-card) .result) ((c .if1) .taken)) ∙ (c .before .on-card) .ensures .1 (index-on k w (now ((c .before .before .before .before .before .before .before .args) .numbers)) d ((c .before .before .before .loop) .starts) ((c .before .before .before .loop) .p) ((c .before .before .before .loop) .place) ((c .before .before .before .loop) .transition) ((c .before .before .before .loop) .s) ((c .before .before .before .loop) .inv .4 k w d e) (omega arith))))
 
--- src/index.rt:128:20
 slice-aggregate-put-subnet : tie.Need-slice-aggregate-put-subnet Inv-loop μ-loop
 slice-aggregate-put-subnet c = search needs
 
--- src/index.rt:128:9
 put-subnet-requires : tie.Need-put-subnet-requires Inv-loop μ-loop
 put-subnet-requires c κs = search needs
 
--- src/index.rt:129:13
 place-count-requires : tie.Need-place-count-requires Inv-loop μ-loop
 place-count-requires c κs = search needs
 
--- src/index.rt:130:13
 transition-count-requires : tie.Need-transition-count-requires Inv-loop μ-loop
 transition-count-requires c κs = search needs
 
--- src/index.rt:131:40
 slice-aggregate-index-transitions : tie.Need-slice-aggregate-index-transitions Inv-loop μ-loop
 slice-aggregate-index-transitions c = search (needs)
 
--- src/index.rt:131:53
 after-places-requires : tie.Need-after-places-requires Inv-loop μ-loop
 after-places-requires c κs = (c .before .before .before .before .before .before .before .on-card) .ensures .0 (not-false ((c .before .before .before .before .before .before .before .on-card) .result) ((c .before .before .before .before .before .before .if1) .left))
 
--- src/index.rt:131:9
 index-transitions-requires : tie.Need-index-transitions-requires Inv-loop μ-loop
 index-transitions-requires c κs = search needs
 
--- src/index.rt:132:18
 cast-place : tie.Need-cast-place Inv-loop μ-loop
 cast-place c = search needs
 
--- src/index.rt:132:9
 add-place : tie.Need-add-place Inv-loop μ-loop
 add-place c = omega (arith, (c .before .before .before .before .before .before .before .before .before .before .before .before .loop) .inv .2, (c .before .before .before .before .before .before .before .before .before .before .before .before .loop) .inv .3)
 
--- src/index.rt:133:23
 cast-transition : tie.Need-cast-transition Inv-loop μ-loop
 cast-transition c = search needs
 
--- src/index.rt:133:9
 add-transition : tie.Need-add-transition Inv-loop μ-loop
 add-transition c = omega (arith, (c .before .before .before .before .before .before .before .before .before .before .before .before .loop) .inv .2, (c .before .before .before .before .before .before .before .before .before .before .before .before .loop) .inv .3)
 
--- src/index.rt:134:9
 add-s : tie.Need-add-s Inv-loop μ-loop
 add-s c = search needs
 
--- src/index.rt:124:5
 loop-less : tie.Need-loop-less Inv-loop μ-loop
 loop-less c = search needs
 
--- src/index.rt:124:5
 loop-again : tie.Need-loop-again Inv-loop μ-loop
 loop-again c = (
-      (c .before .index-transitions) .ensures .0 ∙ ap length ((c .before .before .before .before .before .before .before .put-subnet) .ensures) ∙ put-same ((c .before .before .before .before .before .before .before .before .before .before .before .before .loop) .starts) ((c .before .before .before .before .before .before .before .before .before .before .before .before .loop) .s) ((c .before .before .before .before .before .before .before .before .before .before .before .before .loop) .p .row) ((c .before .before .before .before .before .before .before .before .before .before .before .before .loop) .p .bit) ((c .before .before .before .before .before .before .before .before .before .before .before .before .loop) .place) ((c .before .before .before .before .before .before .before .before .before .before .before .before .loop) .transition) ∙ (c .before .before .before .before .before .before .before .before .before .before .before .before .loop) .inv .0,
-      omega arith,
-      omega (arith, (c .before .before .before .before .before .before .before .before .before .before .before .before .loop) .inv .2),
-      omega (arith, (c .before .before .before .before .before .before .before .before .before .before .before .before .loop) .inv .3),
-      λ k w d e.
-          let n = (c .before .before .before .before .before .place-count) in
-          let m = (c .before .before .before .before .transition-count) in
-          let q = (c .before .before .after-places) in
-          let one = (c .before .before .before .before .before .before .before .put-subnet) in
-          let two = (c .before .index-transitions) .last .1 .0 in
-          let v = (c .before .index-transitions) .result in
-          let at = index-at k w (now ((c .before .before .before .before .before .before .before .before .before .before .before .before .before .before .before .before .args) .numbers)) d ((c .before .before .before .before .before .before .before .before .before .before .before .before .loop) .starts) ((c .before .before .before .before .before .before .before .before .before .before .before .before .loop) .p) ((c .before .before .before .before .before .before .before .before .before .before .before .before .loop) .place) ((c .before .before .before .before .before .before .before .before .before .before .before .before .loop) .transition) ((c .before .before .before .before .before .before .before .before .before .before .before .before .loop) .s) ((c .before .before .before .before .before .before .before .before .before .before .before .before .loop) .inv .4 k w d e) (omega arith) (n .result) (m .result) (n .ensures) (m .ensures) (q .result) (q .ensures) in
-          index-more k w (now ((c .before .before .before .before .before .before .before .before .before .before .before .before .before .before .before .before .args) .numbers)) d ((c .before .before .before .before .before .before .before .before .before .before .before .before .loop) .starts) ((c .before .before .before .before .before .before .before .before .before .before .before .before .loop) .p) ((c .before .before .before .before .before .before .before .before .before .before .before .before .loop) .place) ((c .before .before .before .before .before .before .before .before .before .before .before .before .loop) .transition) ((c .before .before .before .before .before .before .before .before .before .before .before .before .loop) .s) ((c .before .before .before .before .before .before .before .before .before .before .before .before .loop) .inv .4 k w d e) (omega arith) (n .result) (m .result) (n .ensures) (m .ensures) (q .result) (q .ensures) two v (subst (λ (xs : List ℕ). TransitionsIndexed k ((c .before .before .before .before .before .before .before .before .before .before .before .before .loop) .s) xs two v) (one .ensures) ((c .before .index-transitions) .ensures .1 k ((c .before .before .before .before .before .before .before .before .before .before .before .before .loop) .s) (subst (λ (xs : List ℕ). AtSubnet k ((c .before .before .before .before .before .before .before .before .before .before .before .before .loop) .s) (now ((c .before .before .before .before .before .before .before .before .before .before .before .before .before .before .before .before .args) .numbers)) xs (q .result) ((c .before .before .before .before .before .before .before .before .before .before .before .before .loop) .transition) (m .result)) (sym (one .ensures)) at))),
-    )
+  (c .before .index-transitions) .ensures .0 ∙ ap length ((c .before .before .before .before .before .before .before .put-subnet) .ensures) ∙ put-same ((c .before .before .before .before .before .before .before .before .before .before .before .before .loop) .starts) ((c .before .before .before .before .before .before .before .before .before .before .before .before .loop) .s) ((c .before .before .before .before .before .before .before .before .before .before .before .before .loop) .p .row) ((c .before .before .before .before .before .before .before .before .before .before .before .before .loop) .p .bit) ((c .before .before .before .before .before .before .before .before .before .before .before .before .loop) .place) ((c .before .before .before .before .before .before .before .before .before .before .before .before .loop) .transition) ∙ (c .before .before .before .before .before .before .before .before .before .before .before .before .loop) .inv .0,
+  omega arith,
+  omega (arith, (c .before .before .before .before .before .before .before .before .before .before .before .before .loop) .inv .2),
+  omega (arith, (c .before .before .before .before .before .before .before .before .before .before .before .before .loop) .inv .3),
+  λ k w d e.
+      let n = (c .before .before .before .before .before .place-count) in
+      let m = (c .before .before .before .before .transition-count) in
+      let q = (c .before .before .after-places) in
+      let one = (c .before .before .before .before .before .before .before .put-subnet) in
+      let two = (c .before .index-transitions) .last .1 .0 in
+      let v = (c .before .index-transitions) .result in
+      let at = index-at k w (now ((c .before .before .before .before .before .before .before .before .before .before .before .before .before .before .before .before .args) .numbers)) d ((c .before .before .before .before .before .before .before .before .before .before .before .before .loop) .starts) ((c .before .before .before .before .before .before .before .before .before .before .before .before .loop) .p) ((c .before .before .before .before .before .before .before .before .before .before .before .before .loop) .place) ((c .before .before .before .before .before .before .before .before .before .before .before .before .loop) .transition) ((c .before .before .before .before .before .before .before .before .before .before .before .before .loop) .s) ((c .before .before .before .before .before .before .before .before .before .before .before .before .loop) .inv .4 k w d e) (omega arith) (n .result) (m .result) (n .ensures) (m .ensures) (q .result) (q .ensures) in
+      index-more k w (now ((c .before .before .before .before .before .before .before .before .before .before .before .before .before .before .before .before .args) .numbers)) d ((c .before .before .before .before .before .before .before .before .before .before .before .before .loop) .starts) ((c .before .before .before .before .before .before .before .before .before .before .before .before .loop) .p) ((c .before .before .before .before .before .before .before .before .before .before .before .before .loop) .place) ((c .before .before .before .before .before .before .before .before .before .before .before .before .loop) .transition) ((c .before .before .before .before .before .before .before .before .before .before .before .before .loop) .s) ((c .before .before .before .before .before .before .before .before .before .before .before .before .loop) .inv .4 k w d e) (omega arith) (n .result) (m .result) (n .ensures) (m .ensures) (q .result) (q .ensures) two v (subst (λ (xs : List ℕ). TransitionsIndexed k ((c .before .before .before .before .before .before .before .before .before .before .before .before .loop) .s) xs two v) (one .ensures) ((c .before .index-transitions) .ensures .1 k ((c .before .before .before .before .before .before .before .before .before .before .before .before .loop) .s) (subst (λ (xs : List ℕ). AtSubnet k ((c .before .before .before .before .before .before .before .before .before .before .before .before .loop) .s) (now ((c .before .before .before .before .before .before .before .before .before .before .before .before .before .before .before .before .args) .numbers)) xs (q .result) ((c .before .before .before .before .before .before .before .before .before .before .before .before .loop) .transition) (m .result)) (sym (one .ensures)) at))),
+)
 
--- src/index.rt:136:16
 slice-aggregate-put-subnet-2 : tie.Need-slice-aggregate-put-subnet-2 Inv-loop μ-loop
 slice-aggregate-put-subnet-2 c = search needs
 
--- src/index.rt:136:5
 put-subnet-requires-2 : tie.Need-put-subnet-requires-2 Inv-loop μ-loop
 put-subnet-requires-2 c κs = search needs
 
--- src/index.rt:113:1
 returns-2 : tie.Need-returns-2 Inv-loop μ-loop
 returns-2 c = λ k w d e. subst (Indexed k) (sym ((c .before .put-subnet2) .ensures)) (index-done k w (now ((c .before .before .before .before .before .before .before .before .args) .numbers)) d ((c .before .before .before .before .loop) .starts) ((c .before .before .before .before .loop) .p) ((c .before .before .before .before .loop) .place) ((c .before .before .before .before .loop) .transition) ((c .before .before .before .before .loop) .s) ((c .before .before .before .before .loop) .inv .4 k w d e) (omega arith))
 

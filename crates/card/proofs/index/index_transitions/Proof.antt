@@ -1,7 +1,8 @@
+-- `card::index::index_transitions` meets its contract. Assumes nothing.
 use Prim.Native.Nat.{ℕ, _+_, _-_, _≤_}
 use mathlib.Core.Path.{_≡_, refl, sym, _∙_}
 use native.Mathlib.Omega.{arith}
-use lib.ListN.{length, length-set}
+use lib.ListN.{length}
 use denote.Ref.{now}
 use borrow.Author.Needs.{needs}
 use Rattle.card.specs.Card.{Card}
@@ -10,12 +11,6 @@ use Rattle.card.proofs.TableLaws.{not-true, not-false}
 use Rattle.card.proofs.IndexLaws.{Listing, set-long, list-start, list-on, list-few, list-more, list-done}
 use Rattle.card.proofs.index.index_transitions.Statement.{statement}
 use Rattle.card.proofs.index.index_transitions.Tie as tie
-use Rattle.card.proofs.index.index_transitions.Reads as reads
-use Rattle.card.proofs.index.index_transitions.Lts as lts
-use Rattle.card.proofs.index.after_transition.Reads as after-transition-reads
-use Rattle.card.proofs.index.on_card.Reads as on-card-reads
-use Rattle.card.proofs.index.put_start.Reads as put-start-reads
-use Rattle.card.proofs.tables.arc_count.Reads as arc-count-reads
 
 abbrev Inv-loop : tie.InvT-loop
 Inv-loop numbers starts₀ first count end p₀ t₀ starts p t = (length starts ≡ length starts₀) × (t ≤ end) × (end ≡ first + count)
@@ -24,84 +19,65 @@ Inv-loop numbers starts₀ first count end p₀ t₀ starts p t = (length starts
 abbrev μ-loop : tie.MeasureT-loop
 μ-loop numbers starts₀ first count end p₀ t₀ starts p t = end - t
 
--- src/index.rt:95:9
 returns : tie.Need-returns Inv-loop μ-loop
 returns c = (refl, λ k s a. absurd (omega (arith, (c .if1) .taken, list-few k s (now ((c .before .before .before .args) .numbers)) (now ((c .before .before .before .args) .starts)) ((c .before .before .before .args) .from) ((c .before .before .before .args) .first) ((c .before .before .before .args) .count) a (now ((c .before .before .before .args) .starts)) ((c .before .before .before .args) .from) ((c .before .before .before .args) .first) (list-start k s (now ((c .before .before .before .args) .numbers)) (now ((c .before .before .before .args) .starts)) ((c .before .before .before .args) .from) ((c .before .before .before .args) .first) ((c .before .before .before .args) .count) a))))
 
--- src/index.rt:97:15
 add-end : tie.Need-add-end Inv-loop μ-loop
 add-end c = omega (arith, (c .if1) .left)
 
--- src/index.rt:100:5
 loop-holds : tie.Need-loop-holds Inv-loop μ-loop
 loop-holds c = (refl, omega arith, refl, λ k s a. list-start k s (now ((c .before .before .before .args) .numbers)) (now ((c .before .before .before .args) .starts)) ((c .before .before .before .args) .from) ((c .before .before .before .args) .first) ((c .before .before .before .args) .count) a)
 
--- src/index.rt:101:13
 on-card-requires : tie.Need-on-card-requires Inv-loop μ-loop
 on-card-requires c κs = search needs
 
--- src/index.rt:102:13
 same-length : tie.Need-same-length Inv-loop μ-loop
 same-length c = (c .before .before .before .loop) .inv .0
 
--- src/index.rt:102:13
 returns-2 : tie.Need-returns-2 Inv-loop μ-loop
 returns-2 c = ((c .before .before .before .loop) .inv .0, λ k s a. absurd (Rattle.card.proofs.TableLaws.no-yes (sym (not-true ((c .before .on-card) .result) ((c .if2) .taken)) ∙ (c .before .on-card) .ensures .1 (list-on k s (now ((c .before .before .before .before .before .before .before .args) .numbers)) (now ((c .before .before .before .before .before .before .before .args) .starts)) ((c .before .before .before .before .before .before .before .args) .from) ((c .before .before .before .before .before .before .before .args) .first) ((c .before .before .before .before .before .before .before .args) .count) a ((c .before .before .before .loop) .starts) ((c .before .before .before .loop) .p) ((c .before .before .before .loop) .t) ((c .before .before .before .loop) .inv .3 k s a)))))
 
--- src/index.rt:104:33
 cast-put-start : tie.Need-cast-put-start Inv-loop μ-loop
 cast-put-start c = search needs
 
--- src/index.rt:104:27
 add-put-start : tie.Need-add-put-start Inv-loop μ-loop
 add-put-start c = search needs
 
--- src/index.rt:104:9
 put-start-requires : tie.Need-put-start-requires Inv-loop μ-loop
 put-start-requires c κs = search needs
 
--- src/index.rt:105:33
 cast-put-start-2 : tie.Need-cast-put-start-2 Inv-loop μ-loop
 cast-put-start-2 c = search needs
 
--- src/index.rt:105:27
 add-put-start-2 : tie.Need-add-put-start-2 Inv-loop μ-loop
 add-put-start-2 c = search needs
 
--- src/index.rt:105:9
 put-start-requires-2 : tie.Need-put-start-requires-2 Inv-loop μ-loop
 put-start-requires-2 c κs = search needs
 
--- src/index.rt:106:33
 arc-count-requires : tie.Need-arc-count-requires Inv-loop μ-loop
 arc-count-requires c κs = search needs
 
--- src/index.rt:106:9
 after-transition-requires : tie.Need-after-transition-requires Inv-loop μ-loop
 after-transition-requires c κs = (c .before .before .before .before .before .before .before .before .before .before .on-card) .ensures .0 (not-false ((c .before .before .before .before .before .before .before .before .before .before .on-card) .result) ((c .before .before .before .before .before .before .before .before .before .if2) .left))
 
--- src/index.rt:107:9
 add-t : tie.Need-add-t Inv-loop μ-loop
 add-t c = omega (arith, (c .before .before .before .before .before .before .before .before .before .before .before .before .before .loop) .inv .1)
 
--- src/index.rt:100:5
 loop-less : tie.Need-loop-less Inv-loop μ-loop
 loop-less c = omega (arith, (c .before .before .before .before .before .before .before .before .before .before .before .before .before .loop) .inv .1)
 
--- src/index.rt:100:5
 loop-again : tie.Need-loop-again Inv-loop μ-loop
 loop-again c = (
-      rw ((c .before .before .before .before .put-start2) .ensures, (c .before .before .before .before .before .before .before .before .put-start) .ensures) (set-long ((c .before .before .before .before .before .before .before .before .before .before .before .before .before .loop) .starts) _ _ (132 + (c .before .before .before .before .before .before .before .before .before .before .before .before .before .loop) .t) ((c .before .before .before .before .before .before .before .before .before .before .before .before .before .loop) .p .row) (388 + (c .before .before .before .before .before .before .before .before .before .before .before .before .before .loop) .t) ((c .before .before .before .before .before .before .before .before .before .before .before .before .before .loop) .p .bit) refl refl ∙ (c .before .before .before .before .before .before .before .before .before .before .before .before .before .loop) .inv .0),
-      omega arith,
-      (c .before .before .before .before .before .before .before .before .before .before .before .before .before .loop) .inv .2,
-      λ k s a. list-more k s (now ((c .before .before .before .before .before .before .before .before .before .before .before .before .before .before .before .before .before .args) .numbers)) (now ((c .before .before .before .before .before .before .before .before .before .before .before .before .before .before .before .before .before .args) .starts)) ((c .before .before .before .before .before .before .before .before .before .before .before .before .before .before .before .before .before .args) .from) ((c .before .before .before .before .before .before .before .before .before .before .before .before .before .before .before .before .before .args) .first) ((c .before .before .before .before .before .before .before .before .before .before .before .before .before .before .before .before .before .args) .count) a ((c .before .before .before .before .before .before .before .before .before .before .before .before .before .loop) .starts) ((c .before .before .before .before .before .before .before .before .before .before .before .before .before .loop) .p) ((c .before .before .before .before .before .before .before .before .before .before .before .before .before .loop) .t) ((c .before .before .before .before .before .before .before .before .before .before .before .before .before .loop) .inv .3 k s a) (omega (arith, (c .before .before .before .before .before .before .before .before .before .before .before .before .before .loop) .inv .2)) ((c .before .arc-count) .result) ((c .before .arc-count) .ensures) _ _ ((c .after-transition) .result) ((c .before .before .before .before .before .before .before .before .put-start) .ensures) ((c .before .before .before .before .put-start2) .ensures) ((c .after-transition) .ensures),
-    )
+  rw ((c .before .before .before .before .put-start2) .ensures, (c .before .before .before .before .before .before .before .before .put-start) .ensures) (set-long ((c .before .before .before .before .before .before .before .before .before .before .before .before .before .loop) .starts) _ _ (132 + (c .before .before .before .before .before .before .before .before .before .before .before .before .before .loop) .t) ((c .before .before .before .before .before .before .before .before .before .before .before .before .before .loop) .p .row) (388 + (c .before .before .before .before .before .before .before .before .before .before .before .before .before .loop) .t) ((c .before .before .before .before .before .before .before .before .before .before .before .before .before .loop) .p .bit) refl refl ∙ (c .before .before .before .before .before .before .before .before .before .before .before .before .before .loop) .inv .0),
+  omega arith,
+  (c .before .before .before .before .before .before .before .before .before .before .before .before .before .loop) .inv .2,
+  λ k s a. list-more k s (now ((c .before .before .before .before .before .before .before .before .before .before .before .before .before .before .before .before .before .args) .numbers)) (now ((c .before .before .before .before .before .before .before .before .before .before .before .before .before .before .before .before .before .args) .starts)) ((c .before .before .before .before .before .before .before .before .before .before .before .before .before .before .before .before .before .args) .from) ((c .before .before .before .before .before .before .before .before .before .before .before .before .before .before .before .before .before .args) .first) ((c .before .before .before .before .before .before .before .before .before .before .before .before .before .before .before .before .before .args) .count) a ((c .before .before .before .before .before .before .before .before .before .before .before .before .before .loop) .starts) ((c .before .before .before .before .before .before .before .before .before .before .before .before .before .loop) .p) ((c .before .before .before .before .before .before .before .before .before .before .before .before .before .loop) .t) ((c .before .before .before .before .before .before .before .before .before .before .before .before .before .loop) .inv .3 k s a) (omega (arith, (c .before .before .before .before .before .before .before .before .before .before .before .before .before .loop) .inv .2)) ((c .before .arc-count) .result) ((c .before .arc-count) .ensures) _ _ ((c .after-transition) .result) ((c .before .before .before .before .before .before .before .before .put-start) .ensures) ((c .before .before .before .before .put-start2) .ensures) ((c .after-transition) .ensures),
+)
 
--- src/index.rt:85:1
 same-length-2 : tie.Need-same-length-2 Inv-loop μ-loop
 same-length-2 c = (c .before .loop) .inv .0
 
--- src/index.rt:85:1
 returns-3 : tie.Need-returns-3 Inv-loop μ-loop
 returns-3 c = ((c .before .loop) .inv .0, λ k s a. list-done k s (now ((c .before .before .before .before .before .args) .numbers)) (now ((c .before .before .before .before .before .args) .starts)) ((c .before .before .before .before .before .args) .from) ((c .before .before .before .before .before .args) .first) ((c .before .before .before .before .before .args) .count) a ((c .before .loop) .starts) ((c .before .loop) .p) ((c .before .loop) .t) ((c .before .loop) .inv .3 k s a) (omega (arith, (c .before .loop) .inv .2)))
 

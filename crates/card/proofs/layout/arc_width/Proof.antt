@@ -1,33 +1,25 @@
+-- `card::layout::arc_width` meets its contract. Assumes nothing.
 use native.Mathlib.Omega.{arith}
 use Rattle.card.specs.Format.{size}
 use Rattle.card.specs.Grammar.{arc}
 use borrow.Author.Needs.{needs}
 use Rattle.card.proofs.layout.arc_width.Statement.{statement}
 use Rattle.card.proofs.layout.arc_width.Tie as tie
-use Rattle.card.proofs.layout.arc_width.Reads as reads
-use Rattle.card.proofs.layout.arc_width.Lts as lts
-use Rattle.card.proofs.layout.arc_head_width.Reads as arc-head-width-reads
-use Rattle.card.proofs.layout.width_at.Reads as width-at-reads
 
--- src/layout.rt:198:6
 arc-head-width-requires : tie.Need-arc-head-width-requires
 arc-head-width-requires c κs = search needs
 
--- src/layout.rt:198:25
 width-at-requires : tie.Need-width-at-requires
 width-at-requires c κs = search needs
 
--- src/layout.rt:198:6
 add-result : tie.Need-add-result
 unfolding arc
 add-result c = omega (arith, (c .before .arc-head-width) .ensures, (c .width-at) .ensures .0)
 
--- src/layout.rt:198:5
 cast-result : tie.Need-cast-result
 unfolding arc
 cast-result c = omega (arith, (c .before .arc-head-width) .ensures, (c .width-at) .ensures .0)
 
--- src/layout.rt:195:1
 returns : tie.Need-returns
 unfolding size arc
 returns c = (omega (arith, (c .before .arc-head-width) .ensures, (c .width-at) .ensures .0), omega (arith, (c .before .arc-head-width) .ensures, (c .width-at) .ensures .0))

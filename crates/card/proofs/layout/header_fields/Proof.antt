@@ -1,13 +1,11 @@
+-- `card::layout::header_fields` meets its contract. Assumes nothing.
 use mathlib.Core.Path.{refl}
 use native.Mathlib.Omega.{arith}
 use Rattle.card.specs.Format.{count}
 use Rattle.card.specs.Grammar.{header}
 use Rattle.card.proofs.layout.header_fields.Statement.{statement}
 use Rattle.card.proofs.layout.header_fields.Tie as tie
-use Rattle.card.proofs.layout.header_fields.Reads as reads
-use Rattle.card.proofs.layout.header_fields.Lts as lts
 
--- src/layout.rt:138:1
 returns : tie.Need-returns
 unfolding count header
 returns c = (refl, omega arith)

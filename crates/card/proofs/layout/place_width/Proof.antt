@@ -1,38 +1,29 @@
+-- `card::layout::place_width` meets its contract. Assumes nothing.
 use native.Mathlib.Omega.{arith}
 use Rattle.card.specs.Format.{size}
 use Rattle.card.specs.Grammar.{place}
 use borrow.Author.Needs.{needs}
 use Rattle.card.proofs.layout.place_width.Statement.{statement}
 use Rattle.card.proofs.layout.place_width.Tie as tie
-use Rattle.card.proofs.layout.place_width.Reads as reads
-use Rattle.card.proofs.layout.place_width.Lts as lts
-use Rattle.card.proofs.layout.width_at.Reads as width-at-reads
 
--- src/layout.rt:174:6
 width-at-requires : tie.Need-width-at-requires
 width-at-requires c κs = search needs
 
--- src/layout.rt:174:30
 width-at-requires-2 : tie.Need-width-at-requires-2
 width-at-requires-2 c κs = search needs
 
--- src/layout.rt:174:6
 add-result : tie.Need-add-result
 add-result c = search needs
 
--- src/layout.rt:174:58
 width-at-requires-3 : tie.Need-width-at-requires-3
 width-at-requires-3 c κs = search needs
 
--- src/layout.rt:174:6
 add-result-2 : tie.Need-add-result-2
 add-result-2 c = search needs
 
--- src/layout.rt:174:5
 cast-result : tie.Need-cast-result
 cast-result c = search needs
 
--- src/layout.rt:171:1
 returns : tie.Need-returns
 unfolding size place
 returns c = (omega (arith, (c .before .before .width-at) .ensures .0, (c .before .width-at2) .ensures .0, (c .width-at3) .ensures .0), omega (arith, (c .before .before .width-at) .ensures .0, (c .before .width-at2) .ensures .0, (c .width-at3) .ensures .0))

@@ -1,30 +1,23 @@
+-- `card::layout::transition_width` meets its contract. Assumes nothing.
 use native.Mathlib.Omega.{arith}
 use Rattle.card.specs.Format.{size}
 use Rattle.card.specs.Grammar.{transition}
 use borrow.Author.Needs.{needs}
 use Rattle.card.proofs.layout.transition_width.Statement.{statement}
 use Rattle.card.proofs.layout.transition_width.Tie as tie
-use Rattle.card.proofs.layout.transition_width.Reads as reads
-use Rattle.card.proofs.layout.transition_width.Lts as lts
-use Rattle.card.proofs.layout.width_at.Reads as width-at-reads
 
--- src/layout.rt:186:6
 width-at-requires : tie.Need-width-at-requires
 width-at-requires c κs = search needs
 
--- src/layout.rt:186:32
 width-at-requires-2 : tie.Need-width-at-requires-2
 width-at-requires-2 c κs = search needs
 
--- src/layout.rt:186:6
 add-result : tie.Need-add-result
 add-result c = search needs
 
--- src/layout.rt:186:5
 cast-result : tie.Need-cast-result
 cast-result c = search needs
 
--- src/layout.rt:183:1
 returns : tie.Need-returns
 unfolding size transition
 returns c = (omega (arith, (c .before .width-at) .ensures .0, (c .width-at2) .ensures .0), omega (arith, (c .before .width-at) .ensures .0, (c .width-at2) .ensures .0))

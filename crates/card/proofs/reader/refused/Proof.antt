@@ -5,7 +5,7 @@ use Rattle.card.proofs.reader.refused.Statement.{statement}
 use Rattle.card.proofs.reader.refused.Tie as tie
 
 returns : tie.Need-returns
-returns c = record { answer = refl; numbers = blank-table }
+returns c = record { answer = refl; numbers = blank-table 33026; starts = blank-table 644 }
 
 pub refused-spec : {M : Type 1} → statement M
 refused-spec = tie.close (tie.spec returns)

@@ -1,60 +1,46 @@
+-- `card::tables::arc_number` meets its contract. Assumes nothing.
 use Prim.Native.Nat.{_≤_}
-use mathlib.Core.Path.{sym, ap, _∙_}
+use mathlib.Core.Path.{_∙_}
 use native.Mathlib.Nat.{mul-le-mul-left}
 use native.Mathlib.Omega.{arith}
 use Rattle.card.specs.Index.{arcField}
 use borrow.Author.Needs.{needs}
 use Rattle.card.proofs.tables.arc_number.Statement.{statement}
 use Rattle.card.proofs.tables.arc_number.Tie as tie
-use Rattle.card.proofs.tables.arc_number.Reads as reads
-use Rattle.card.proofs.tables.arc_number.Lts as lts
-use Rattle.card.proofs.layout.arc_fields.Reads as arc-fields-reads
-use Rattle.card.proofs.layout.transition_fields.Reads as transition-fields-reads
-use Rattle.card.proofs.tables.number_at.Reads as number-at-reads
 
--- src/tables.rt:45:15
 transition-fields-requires : tie.Need-transition-fields-requires
 transition-fields-requires c κs = search needs
 
--- src/tables.rt:45:15
 cast-number-at : tie.Need-cast-number-at
 cast-number-at c = search needs
 
--- src/tables.rt:44:9
 add-number-at : tie.Need-add-number-at
 add-number-at c = search needs
 
--- src/tables.rt:46:15
 arc-fields-requires : tie.Need-arc-fields-requires
 arc-fields-requires c κs = search needs
 
--- src/tables.rt:46:15
 cast-number-at-2 : tie.Need-cast-number-at-2
 cast-number-at-2 c = search needs
 
--- src/tables.rt:46:15
 mul-number-at : tie.Need-mul-number-at
 mul-number-at c =
     let l : (c .before .before .before .args) .j ≤ 65536 = omega arith in
     omega (arith, (c .arc-fields) .ensures .1, (c .before .transition-fields) .ensures .1, mul-le-mul-left ((c .arc-fields) .result) l)
 
--- src/tables.rt:44:9
 add-number-at-2 : tie.Need-add-number-at-2
 add-number-at-2 c =
     let l : (c .before .before .before .args) .j ≤ 65536 = omega arith in
     omega (arith, (c .arc-fields) .ensures .1, (c .before .transition-fields) .ensures .1, mul-le-mul-left ((c .arc-fields) .result) l)
 
--- src/tables.rt:44:9
 add-number-at-3 : tie.Need-add-number-at-3
 add-number-at-3 c =
     let l : (c .before .before .before .args) .j ≤ 65536 = omega arith in
     omega (arith, (c .arc-fields) .ensures .1, (c .before .transition-fields) .ensures .1, mul-le-mul-left ((c .arc-fields) .result) l)
 
--- src/tables.rt:42:5
 number-at-requires : tie.Need-number-at-requires
 number-at-requires c κs = search needs
 
--- src/tables.rt:39:1
 returns : tie.Need-returns
 unfolding arcField
 returns c = (c .number-at) .ensures ∙ rw ((c .before .arc-fields) .ensures .0, (c .before .before .transition-fields) .ensures .0)

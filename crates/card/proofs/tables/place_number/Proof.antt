@@ -1,60 +1,46 @@
+-- `card::tables::place_number` meets its contract. Assumes nothing.
 use Prim.Native.Nat.{_≤_}
-use mathlib.Core.Path.{sym, ap, _∙_}
+use mathlib.Core.Path.{_∙_}
 use native.Mathlib.Nat.{mul-le-mul-left}
 use native.Mathlib.Omega.{arith}
 use Rattle.card.specs.Index.{placeField}
 use borrow.Author.Needs.{needs}
 use Rattle.card.proofs.tables.place_number.Statement.{statement}
 use Rattle.card.proofs.tables.place_number.Tie as tie
-use Rattle.card.proofs.tables.place_number.Reads as reads
-use Rattle.card.proofs.tables.place_number.Lts as lts
-use Rattle.card.proofs.layout.place_fields.Reads as place-fields-reads
-use Rattle.card.proofs.layout.subnet_fields.Reads as subnet-fields-reads
-use Rattle.card.proofs.tables.number_at.Reads as number-at-reads
 
--- src/tables.rt:34:24
 subnet-fields-requires : tie.Need-subnet-fields-requires
 subnet-fields-requires c κs = search needs
 
--- src/tables.rt:34:24
 cast-number-at : tie.Need-cast-number-at
 cast-number-at c = search needs
 
--- src/tables.rt:34:9
 add-number-at : tie.Need-add-number-at
 add-number-at c = search needs
 
--- src/tables.rt:34:51
 place-fields-requires : tie.Need-place-fields-requires
 place-fields-requires c κs = search needs
 
--- src/tables.rt:34:51
 cast-number-at-2 : tie.Need-cast-number-at-2
 cast-number-at-2 c = search needs
 
--- src/tables.rt:34:51
 mul-number-at : tie.Need-mul-number-at
 mul-number-at c =
     let l : (c .before .before .before .args) .n ≤ 65536 = omega arith in
     omega (arith, (c .place-fields) .ensures .1, (c .before .subnet-fields) .ensures .1, mul-le-mul-left ((c .place-fields) .result) l)
 
--- src/tables.rt:34:9
 add-number-at-2 : tie.Need-add-number-at-2
 add-number-at-2 c =
     let l : (c .before .before .before .args) .n ≤ 65536 = omega arith in
     omega (arith, (c .place-fields) .ensures .1, (c .before .subnet-fields) .ensures .1, mul-le-mul-left ((c .place-fields) .result) l)
 
--- src/tables.rt:34:9
 add-number-at-3 : tie.Need-add-number-at-3
 add-number-at-3 c =
     let l : (c .before .before .before .args) .n ≤ 65536 = omega arith in
     omega (arith, (c .place-fields) .ensures .1, (c .before .subnet-fields) .ensures .1, mul-le-mul-left ((c .place-fields) .result) l)
 
--- src/tables.rt:32:5
 number-at-requires : tie.Need-number-at-requires
 number-at-requires c κs = search needs
 
--- src/tables.rt:29:1
 returns : tie.Need-returns
 unfolding placeField
 returns c = (c .number-at) .ensures ∙ rw ((c .before .place-fields) .ensures .0, (c .before .before .subnet-fields) .ensures .0)

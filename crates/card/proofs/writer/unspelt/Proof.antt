@@ -5,7 +5,7 @@ use Rattle.card.proofs.writer.unspelt.Statement.{statement}
 use Rattle.card.proofs.writer.unspelt.Tie as tie
 
 returns : tie.Need-returns
-returns c = record { answer = refl; bytes = blank-table }
+returns c = record { answer = refl; bytes = blank-table 33026 }
 
 pub unspelt-spec : {M : Type 1} → statement M
 unspelt-spec = tie.close (tie.spec returns)
