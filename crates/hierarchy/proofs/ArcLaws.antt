@@ -5,18 +5,20 @@ use mathlib.Core.Bool.{Bool, true, false, not, _&&_, _||_}
 use mathlib.Core.Option.{none, some, Option·some-ne-none}
 use mathlib.Core.List.{List}
 use native.Mathlib.Omega.{arith}
+use native.Mathlib.Numerals.{add-one}
 use lib.ListN.{length, getD, List·getD-eq-default}
 use lib.Dec.{ltb, leb, eqb}
-use borrow.Author.Tests.{ltb-true, ltb-false, lt-ltb, le-ltb, lt-leb, le-leb, eq-eqb, ne-eqb}
+use borrow.Author.Tests.{ltb-true, ltb-false, lt-ltb, le-ltb, lt-leb, le-leb, eq-eqb, ne-eqb, not-true, not-false}
 use Rattle.card.proofs.TableLaws.{no-yes}
-use Rattle.card.specs.Card.{Arc, Subnet, Card, subnetAt, transitionAt, arcAt, firstTransition, placeOf}
-use Rattle.card.specs.Index.{ArcThere, Lists, Laid, Indexed, Loaded, subnetRow, transitionRow, placeField, arcField, transitionBitStart}
+use Rattle.card.specs.Card.{Arc, Subnet, Card, subnetAt, placeAt, transitionAt, arcAt, firstPlace, firstTransition, placeOf}
+use Rattle.card.specs.Index.{ArcThere, Lists, Laid, Indexed, Loaded, subnetRow, placeField, arcField, transitionBitStart, transitionRowStart, firstTransitionStart}
 use Rattle.card.specs.Format.{size}
 use Rattle.card.specs.Grammar.{transition, arc}
 use Rattle.card.specs.Writing.{transitionBit, arcBit}
 use Rattle.card.specs.Finite.{sumTo, every, any, firstOf}
-use Rattle.hierarchy.proofs.FirstLaws.{every-more, every-fails, any-more, any-holds, none-at, Walked, walk-start}
+use Rattle.hierarchy.proofs.FirstLaws.{every-more, every-fails, any-more, any-holds, none-at, Walked, walk-start, walk-on, walk-found, walk-end}
 use Rattle.hierarchy.specs.Conditions.{IsPlace}
+use Rattle.hierarchy.specs.Arcs.{Begins, PlacesThere}
 use Rattle.hierarchy.specs.Check.{seen, takes, directed, weighted, repeats, single, hasUnit, Found, arcFault, transitionFault, subnetFault}
 use Rattle.hierarchy.specs.declared.CardFault.the-variants.{Unseen, Direction, Weight, Repeated, NoUnit}
 
@@ -30,61 +32,60 @@ place-subnet c s n p = go (ltb s (length (c .subnets))) refl
         let q = ap (λ (r : Subnet). r .places) (List·getD-eq-default (c .subnets) (record { parent = 0; type = 0; places = 0; transitions = 0 }) {n = s} (ltb-false s (length (c .subnets)) e)) in
         absurd (omega (arith, p, q))
 
-module _ (c : Card) (numbers starts : List ℕ) (l : Loaded c numbers starts) where
-  -- the kind and the capacity of a place that is there
-  pub kind-is : (a : Arc) (row v : ℕ) → row ≡ getD starts (a .subnet) 0 → v ≡ getD numbers (placeField row (a .place) 0) 0 → IsPlace c (a .subnet) (a .place) → v ≡ (placeOf c a) .kind
-  kind-is a row v e f p =
-      let s = place-subnet c (a .subnet) (a .place) p in
-      f ∙ ap (λ (r : ℕ). getD numbers (placeField r (a .place) 0) 0) (e ∙ l .indexed .subnetRow (a .subnet) s) ∙ (l .laid .place (a .subnet) (a .place) s p) .kind
+module _ {c : Card} {numbers starts : List ℕ} (l : Loaded c numbers starts) where
+  -- what stands at the row of a subnet that is there
+  at-row : (g : ℕ → ℕ) (s : ℕ) {row v w : ℕ} → row ≡ getD starts s 0 → v ≡ g row → s < length (c .subnets) → g (subnetRow c s) ≡ w → v ≡ w
+  at-row g s e f m h = f ∙ ap g (e ∙ l .indexed .subnetRow s m) ∙ h
 
-  pub capacity-is : (a : Arc) (row v : ℕ) → row ≡ getD starts (a .subnet) 0 → v ≡ getD numbers (placeField row (a .place) 1) 0 → IsPlace c (a .subnet) (a .place) → v ≡ (placeOf c a) .capacity
-  capacity-is a row v e f p =
-      let s = place-subnet c (a .subnet) (a .place) p in
-      f ∙ ap (λ (r : ℕ). getD numbers (placeField r (a .place) 1) 0) (e ∙ l .indexed .subnetRow (a .subnet) s) ∙ (l .laid .place (a .subnet) (a .place) s p) .capacity
+  pub kind-is : (s n : ℕ) {row v : ℕ} → row ≡ getD starts s 0 → v ≡ getD numbers (placeField row n 0) 0 → IsPlace c s n → v ≡ (placeAt c (firstPlace c s + n)) .kind
+  kind-is s n e f p =
+      let m = place-subnet c s n p in
+      at-row (λ (r : ℕ). getD numbers (placeField r n 0) 0) s e f m ((l .laid .place s n m p) .kind)
 
-  -- the row of a subnet that is there
-  subnet-field : (s row v k w : ℕ) → row ≡ getD starts s 0 → v ≡ getD numbers (row + k) 0 → s < length (c .subnets) → getD numbers (subnetRow c s + k) 0 ≡ w → v ≡ w
-  subnet-field s row v k w e f m g = f ∙ ap (λ (r : ℕ). getD numbers (r + k) 0) (e ∙ l .indexed .subnetRow s m) ∙ g
+  pub capacity-is : (s n : ℕ) {row v : ℕ} → row ≡ getD starts s 0 → v ≡ getD numbers (placeField row n 1) 0 → IsPlace c s n → v ≡ (placeAt c (firstPlace c s + n)) .capacity
+  capacity-is s n e f p =
+      let m = place-subnet c s n p in
+      at-row (λ (r : ℕ). getD numbers (placeField r n 1) 0) s e f m ((l .laid .place s n m p) .capacity)
 
-  places-are : (s row n : ℕ) → row ≡ getD starts s 0 → n ≡ getD numbers (row + 2) 0 → s < length (c .subnets) → n ≡ (subnetAt c s) .places
-  places-are s row n e f m = subnet-field s row n 2 ((subnetAt c s) .places) e f m ((l .laid .subnet s m) .places)
+  pub places-are : (s : ℕ) {row n : ℕ} → row ≡ getD starts s 0 → n ≡ getD numbers (row + 2) 0 → s < length (c .subnets) → n ≡ (subnetAt c s) .places
+  places-are s e f m = at-row (λ (r : ℕ). getD numbers (r + 2) 0) s e f m ((l .laid .subnet s m) .places)
 
-  parent-is : (s row p : ℕ) → row ≡ getD starts s 0 → p ≡ getD numbers row 0 → s < length (c .subnets) → p ≡ (subnetAt c s) .parent
-  parent-is s row p e f m = f ∙ ap (λ (r : ℕ). getD numbers r 0) (e ∙ l .indexed .subnetRow s m) ∙ (l .laid .subnet s m) .parent
+  pub parent-is : (s : ℕ) {row p : ℕ} → row ≡ getD starts s 0 → p ≡ getD numbers row 0 → s < length (c .subnets) → p ≡ (subnetAt c s) .parent
+  parent-is s e f m = at-row (λ (r : ℕ). getD numbers r 0) s e f m ((l .laid .subnet s m) .parent)
 
   -- 10: no such subnet, no such place; an own place; a place of no child; a child's place
   module _ (i : ℕ) (a : Arc) where
     pub no-subnet : length (c .subnets) ≤ a .subnet → false ≡ seen c i a
     unfolding seen
-    no-subnet h = sym (rw (le-ltb (a .place) ((subnetAt c (a .subnet)) .places) (go (ltb (a .place) ((subnetAt c (a .subnet)) .places)) refl)))
+    no-subnet h = go (ltb (a .place) ((subnetAt c (a .subnet)) .places)) refl
       where
-        go : (b : Bool) → ltb (a .place) ((subnetAt c (a .subnet)) .places) ≡ b → (subnetAt c (a .subnet)) .places ≤ a .place
+        go : (b : Bool) → ltb (a .place) ((subnetAt c (a .subnet)) .places) ≡ b → false ≡ seen c i a
         go true e = absurd (omega (arith, h, place-subnet c (a .subnet) (a .place) (ltb-true (a .place) ((subnetAt c (a .subnet)) .places) e)))
-        go false e = ltb-false (a .place) ((subnetAt c (a .subnet)) .places) e
+        go false e = sym (rw e)
 
-    module _ (row n : ℕ) (m : a .subnet < length (c .subnets)) (e : row ≡ getD starts (a .subnet) 0) (f : n ≡ getD numbers (row + 2) 0) where
+    module _ {row n : ℕ} (m : a .subnet < length (c .subnets)) (e : row ≡ getD starts (a .subnet) 0) (f : n ≡ getD numbers (row + 2) 0) where
       pub no-place : n ≤ a .place → false ≡ seen c i a
       unfolding seen
-      no-place h = sym (rw (le-ltb (a .place) ((subnetAt c (a .subnet)) .places) (omega (arith, h, places-are (a .subnet) row n e f m))))
+      no-place h = sym (rw (le-ltb (a .place) ((subnetAt c (a .subnet)) .places) (omega (arith, h, places-are (a .subnet) e f m))))
 
       is-place : a .place < n → IsPlace c (a .subnet) (a .place)
-      is-place h = omega (arith, h, places-are (a .subnet) row n e f m)
+      is-place h = omega (arith, h, places-are (a .subnet) e f m)
 
       pub own-place : a .place < n → a .subnet ≡ i → true ≡ seen c i a
       unfolding seen
       own-place h o = sym (rw (lt-ltb (a .place) ((subnetAt c (a .subnet)) .places) (is-place h), eq-eqb (a .subnet) i o))
 
-      pub no-child : (p : ℕ) → a .place < n → (a .subnet ≡ i → ⊥) → p ≡ getD numbers row 0 → (p ≡ i → ⊥) → false ≡ seen c i a
+      pub no-child : {p : ℕ} → a .place < n → (a .subnet ≡ i → ⊥) → p ≡ getD numbers row 0 → (p ≡ i → ⊥) → false ≡ seen c i a
       unfolding seen
-      no-child p h o g q =
-          let x : eqb ((subnetAt c (a .subnet)) .parent) i ≡ false = ne-eqb ((subnetAt c (a .subnet)) .parent) i (λ z. q (parent-is (a .subnet) row p e g m ∙ z)) in
+      no-child h o g q =
+          let x : eqb ((subnetAt c (a .subnet)) .parent) i ≡ false = ne-eqb ((subnetAt c (a .subnet)) .parent) i (λ z. q (parent-is (a .subnet) e g m ∙ z)) in
           sym (rw (lt-ltb (a .place) ((subnetAt c (a .subnet)) .places) (is-place h), ne-eqb (a .subnet) i o, lt-ltb (a .subnet) (length (c .subnets)) m, x))
 
-      pub child-place : (p k : ℕ) → a .place < n → (a .subnet ≡ i → ⊥) → p ≡ getD numbers row 0 → p ≡ i → k ≡ getD numbers (placeField row (a .place) 0) 0 → not (eqb k 0) ≡ seen c i a
+      pub child-place : {p k : ℕ} → a .place < n → (a .subnet ≡ i → ⊥) → p ≡ getD numbers row 0 → p ≡ i → k ≡ getD numbers (placeField row (a .place) 0) 0 → not (eqb k 0) ≡ seen c i a
       unfolding seen
-      child-place p k h o g q d =
-          let x : eqb ((subnetAt c (a .subnet)) .parent) i ≡ true = eq-eqb ((subnetAt c (a .subnet)) .parent) i (sym (parent-is (a .subnet) row p e g m) ∙ q) in
-          sym (rw (lt-ltb (a .place) ((subnetAt c (a .subnet)) .places) (is-place h), ne-eqb (a .subnet) i o, lt-ltb (a .subnet) (length (c .subnets)) m, x, ← kind-is a row k e d (is-place h)))
+      child-place h o g q d =
+          let x : eqb ((subnetAt c (a .subnet)) .parent) i ≡ true = eq-eqb ((subnetAt c (a .subnet)) .parent) i (sym (parent-is (a .subnet) e g m) ∙ q) in
+          sym (rw (lt-ltb (a .place) ((subnetAt c (a .subnet)) .places) (is-place h), ne-eqb (a .subnet) i o, lt-ltb (a .subnet) (length (c .subnets)) m, x, ← kind-is (a .subnet) (a .place) e d (is-place h)))
 
 pub seen-place : (c : Card) (i : ℕ) (a : Arc) → seen c i a ≡ true → IsPlace c (a .subnet) (a .place)
 unfolding seen
@@ -160,96 +161,67 @@ same-place a b e f = sym (rw (e, f) (go (eqb (a .direction) (b .direction))))
     go true = refl
     go false = refl
 
-module _ (numbers : List ℕ) (row h : ℕ) (a b : Arc) (t : ArcThere numbers row h b) where
-  pub not-there : (p : ℕ) → p ≡ getD numbers (arcField row h 2) 0 → (p ≡ a .place → ⊥) → false ≡ repeats b a
-  not-there p e n = other-place b a (ne-eqb (b .place) (a .place) (λ q. n (e ∙ t .place ∙ q)))
+module _ {numbers : List ℕ} {row h : ℕ} (a : Arc) {b : Arc} (t : ArcThere numbers row h b) where
+  pub not-there : {p : ℕ} → p ≡ getD numbers (arcField row h 2) 0 → (p ≡ a .place → ⊥) → false ≡ repeats b a
+  not-there e n = other-place b a (ne-eqb (b .place) (a .place) (λ q. n (e ∙ t .place ∙ q)))
 
-  pub not-in : (s : ℕ) → s ≡ getD numbers (arcField row h 1) 0 → (s ≡ a .subnet → ⊥) → false ≡ repeats b a
-  not-in s e n = other-subnet b a (ne-eqb (b .subnet) (a .subnet) (λ q. n (e ∙ t .subnet ∙ q)))
+  pub not-in : {s : ℕ} → s ≡ getD numbers (arcField row h 1) 0 → (s ≡ a .subnet → ⊥) → false ≡ repeats b a
+  not-in e n = other-subnet b a (ne-eqb (b .subnet) (a .subnet) (λ q. n (e ∙ t .subnet ∙ q)))
 
-  pub there-too : (p s d : ℕ) → p ≡ getD numbers (arcField row h 2) 0 → p ≡ a .place → s ≡ getD numbers (arcField row h 1) 0 → s ≡ a .subnet → d ≡ getD numbers (arcField row h 0) 0 → eqb d (a .direction) ≡ repeats b a
-  there-too p s d ep p≡ es s≡ ed =
+  pub there-too : {p s d : ℕ} → p ≡ getD numbers (arcField row h 2) 0 → p ≡ a .place → s ≡ getD numbers (arcField row h 1) 0 → s ≡ a .subnet → d ≡ getD numbers (arcField row h 0) 0 → eqb d (a .direction) ≡ repeats b a
+  there-too ep p≡ es s≡ ed =
       ap (λ (x : ℕ). eqb x (a .direction)) (ed ∙ t .direction)
       ∙ same-place b a (eq-eqb (b .place) (a .place) (sym (t .place) ∙ sym ep ∙ p≡)) (eq-eqb (b .subnet) (a .subnet) (sym (t .subnet) ∙ sym es ∙ s≡))
 
--- the arcs of a transition whose row begins there
-pub record Begins (c : Card) (numbers : List ℕ) (row i t : ℕ) : Type 0 where
-  pub laid : Laid c numbers
-  pub lists : Lists c i t
-  pub at : row ≡ transitionRow c i t
-
-pub arc-there : (c : Card) (numbers : List ℕ) (row i t j : ℕ) → Begins c numbers row i t → j < (transitionAt c t) .arcs → ArcThere numbers row j (arcAt c t j)
-arc-there c numbers row i t j b l = subst (λ (r : ℕ). ArcThere numbers r j (arcAt c t j)) (sym (b .at)) (b .laid .arc i t j (b .lists) l)
+-- arc j of a transition whose row begins there
+arc-there : {c : Card} {numbers : List ℕ} {row i t : ℕ} → Laid c numbers → Begins c row i t → (j : ℕ) → j < (transitionAt c t) .arcs → ArcThere numbers row j (arcAt c t j)
+arc-there {c} {numbers} {row} {i} {t} l b j m = subst (λ (r : ℕ). ArcThere numbers r j (arcAt c t j)) (sym (b .at)) (l .arc i t j (b .lists) m)
 
 same-arc : (a b : Arc) → a .direction ≡ b .direction → a .subnet ≡ b .subnet → a .place ≡ b .place → a .weight ≡ b .weight → a ≡ b
 same-arc a b e f g h = rw (e, f, g, h)
 
-pub arc-is : (c : Card) (numbers : List ℕ) (row i t j : ℕ) (a : Arc) → Begins c numbers row i t → j < (transitionAt c t) .arcs → ArcThere numbers row j a → a ≡ arcAt c t j
-arc-is c numbers row i t j a b l h =
-    let k = arc-there c numbers row i t j b l in
+pub arc-is : {c : Card} {numbers : List ℕ} {row i t j : ℕ} {a : Arc} → Laid c numbers → Begins c row i t → j < (transitionAt c t) .arcs → ArcThere numbers row j a → a ≡ arcAt c t j
+arc-is {c} {t = t} {j = j} {a = a} l b m h =
+    let k = arc-there l b j m in
     same-arc a (arcAt c t j) (sym (h .direction) ∙ k .direction) (sym (h .subnet) ∙ k .subnet) (sym (h .place) ∙ k .place) (sym (h .weight) ∙ k .weight)
 
 -- arc j, which is a, repeats none of the arcs below h
-abbrev pub NoRepeat : (numbers : List ℕ) (row j : ℕ) (a : Arc) (h : ℕ) → Type 0
-NoRepeat numbers row j a h =
-    (c : Card) (i t : ℕ) → Begins c numbers row i t → j < (transitionAt c t) .arcs → a ≡ arcAt c t j → every h (λ g. not (repeats (arcAt c t g) (arcAt c t j))) ≡ true
+pub record NoRepeat (numbers : List ℕ) (row j : ℕ) (a : Arc) (h : ℕ) : Type 0 where
+  pub below : h ≤ j
+  pub clear : (c : Card) → Laid c numbers → (i t : ℕ) → Begins c row i t → j < (transitionAt c t) .arcs → a ≡ arcAt c t j
+      → every h (λ g. not (repeats (arcAt c t g) (arcAt c t j))) ≡ true
 
-module _ (numbers : List ℕ) (row j : ℕ) (a : Arc) where
-  pub no-repeat-start : NoRepeat numbers row j a 0
-  unfolding every
-  no-repeat-start c i t b l e = refl
+pub no-repeat-start : (numbers : List ℕ) (row j : ℕ) (a : Arc) → NoRepeat numbers row j a 0
+unfolding every
+no-repeat-start numbers row j a = record { below = omega arith; clear = λ c l i t b m q. refl }
 
-  module _ (h : ℕ) (r : Bool) (n : NoRepeat numbers row j a h) (l : h < j) (e : (b : Arc) → ArcThere numbers row h b → r ≡ repeats b a) where
-    is-repeat : (c : Card) (i t : ℕ) → Begins c numbers row i t → j < (transitionAt c t) .arcs → a ≡ arcAt c t j → r ≡ repeats (arcAt c t h) (arcAt c t j)
-    is-repeat c i t b m q = e (arcAt c t h) (arc-there c numbers row i t h b (omega arith)) ∙ ap (repeats (arcAt c t h)) q
+module _ {numbers : List ℕ} {row j : ℕ} {a : Arc} {h : ℕ} (n : NoRepeat numbers row j a h) where
+  module _ {r : Bool} (k : h < j) (e : (b : Arc) → ArcThere numbers row h b → r ≡ repeats b a) where
+    is-repeat : (c : Card) → Laid c numbers → (i t : ℕ) → Begins c row i t → j < (transitionAt c t) .arcs → a ≡ arcAt c t j → r ≡ repeats (arcAt c t h) (arcAt c t j)
+    is-repeat c l i t b m q = e (arcAt c t h) (arc-there l b h (omega arith)) ∙ ap (repeats (arcAt c t h)) q
 
     pub no-repeat-more : r ≡ false → NoRepeat numbers row j a (h + 1)
-    no-repeat-more f c i t b m q = every-more h _ (n c i t b m q) (ap not (sym (is-repeat c i t b m q) ∙ f))
+    no-repeat-more f =
+        record { below = omega arith; clear = λ c l i t b m q. every-more h _ (n .clear c l i t b m q) (ap not (sym (is-repeat c l i t b m q) ∙ f)) }
 
-    pub repeat-found : r ≡ true → (c : Card) (i t : ℕ) → Begins c numbers row i t → j < (transitionAt c t) .arcs → a ≡ arcAt c t j → false ≡ single c t j
+    pub repeat-found : r ≡ true → (c : Card) → Laid c numbers → (i t : ℕ) → Begins c row i t → j < (transitionAt c t) .arcs → a ≡ arcAt c t j → false ≡ single c t j
     unfolding single
-    repeat-found f c i t b m q = sym (every-fails j h _ l (ap not (sym (is-repeat c i t b m q) ∙ f)))
+    repeat-found f c l i t b m q = sym (every-fails j h _ k (ap not (sym (is-repeat c l i t b m q) ∙ f)))
 
-  pub no-repeat-end : (h : ℕ) → NoRepeat numbers row j a h → h ≤ j → j ≤ h → (c : Card) (i t : ℕ) → Begins c numbers row i t → j < (transitionAt c t) .arcs → a ≡ arcAt c t j → true ≡ single c t j
+  pub no-repeat-end : j ≤ h → (c : Card) → Laid c numbers → (i t : ℕ) → Begins c row i t → j < (transitionAt c t) .arcs → a ≡ arcAt c t j → true ≡ single c t j
   unfolding single
-  no-repeat-end h n l m c i t b k q = let x : h ≡ j = omega arith in sym (rw x at (n c i t b k q))
+  no-repeat-end k c l i t b m q = let x : h ≡ j = omega (arith, n .below) in sym (rw x at (n .clear c l i t b m q))
 
--- 14: the arcs below j are at places of other capacities than 1
-abbrev pub NoUnitBelow : (numbers starts : List ℕ) (row j : ℕ) → Type 0
-NoUnitBelow numbers starts row j =
-    (c : Card) (i t : ℕ) → Loaded c numbers starts → Begins c numbers row i t → j ≤ (transitionAt c t) .arcs → ((k : ℕ) → k < (transitionAt c t) .arcs → IsPlace c ((arcAt c t k) .subnet) ((arcAt c t k) .place))
-    → any j (λ k. eqb ((placeOf c (arcAt c t k)) .capacity) 1) ≡ false
+-- a test that the code made, and that it branched on
+pub passed : {r b : Bool} → r ≡ b → not r ≡ false → b ≡ true
+passed {r} e n = sym e ∙ not-false r n
 
-module _ (numbers starts : List ℕ) (row : ℕ) where
-  pub no-unit-start : NoUnitBelow numbers starts row 0
-  unfolding any
-  no-unit-start c i t l b m p = refl
-
-  module _ (j v : ℕ) (a : Arc) (n : NoUnitBelow numbers starts row j) (h : ArcThere numbers row j a)
-      (e : (c : Card) → Loaded c numbers starts → IsPlace c (a .subnet) (a .place) → v ≡ (placeOf c a) .capacity) where
-    capacity-at : (c : Card) (i t : ℕ) → Loaded c numbers starts → Begins c numbers row i t → j < (transitionAt c t) .arcs
-        → ((k : ℕ) → k < (transitionAt c t) .arcs → IsPlace c ((arcAt c t k) .subnet) ((arcAt c t k) .place)) → v ≡ (placeOf c (arcAt c t j)) .capacity
-    capacity-at c i t l b m p =
-        let q = arc-is c numbers row i t j a b m h in
-        e c l (subst (λ (x : Arc). IsPlace c (x .subnet) (x .place)) (sym q) (p j m)) ∙ ap (λ (x : Arc). (placeOf c x) .capacity) q
-
-    pub no-unit-more : (v ≡ 1 → ⊥) → NoUnitBelow numbers starts row (j + 1)
-    no-unit-more f c i t l b m p =
-        any-more j _ (n c i t l b (omega arith) p) (ne-eqb ((placeOf c (arcAt c t j)) .capacity) 1 (λ q. f (capacity-at c i t l b (omega arith) p ∙ q)))
-
-    pub unit-found : v ≡ 1 → (c : Card) (i t : ℕ) → Loaded c numbers starts → Begins c numbers row i t → j < (transitionAt c t) .arcs
-        → ((k : ℕ) → k < (transitionAt c t) .arcs → IsPlace c ((arcAt c t k) .subnet) ((arcAt c t k) .place)) → true ≡ hasUnit c t
-    unfolding hasUnit
-    unit-found f c i t l b m p = sym (any-holds ((transitionAt c t) .arcs) j _ m (eq-eqb ((placeOf c (arcAt c t j)) .capacity) 1 (sym (capacity-at c i t l b m p) ∙ f)))
-
-  pub no-unit-end : (j : ℕ) → NoUnitBelow numbers starts row j → (c : Card) (i t : ℕ) → Loaded c numbers starts → Begins c numbers row i t → j ≡ (transitionAt c t) .arcs
-      → ((k : ℕ) → k < (transitionAt c t) .arcs → IsPlace c ((arcAt c t k) .subnet) ((arcAt c t k) .place)) → false ≡ hasUnit c t
-  unfolding hasUnit
-  no-unit-end j n c i t l b m p = sym (rw m at (n c i t l b (omega arith) p))
+pub failed : {r b : Bool} → r ≡ b → not r ≡ true → b ≡ false
+failed {r} e n = sym e ∙ not-true r n
 
 -- 10 to 13 at arc j, which is a
-module _ (c : Card) (i t j : ℕ) (a : Arc) (q : a ≡ arcAt c t j) where
-  module _ (starts : List ℕ) (bit : ℕ) (x : Indexed c starts) (h : Lists c i t) (e : bit ≡ getD starts (transitionBitStart t) 0 + size (transition 0) + size arc * j) where
+module _ {c : Card} {i t : ℕ} (h : Lists c i t) (j : ℕ) {a : Arc} (q : a ≡ arcAt c t j) where
+  module _ {starts : List ℕ} {bit : ℕ} (x : Indexed c starts) (e : bit ≡ getD starts (transitionBitStart t) 0 + size (transition 0) + size arc * j) where
     bit-is : bit ≡ arcBit c i t j
     unfolding arcBit
     bit-is = e ∙ ap (λ (b : ℕ). b + size (transition 0) + size arc * j) (x .transitionBit i t h)
@@ -274,42 +246,91 @@ module _ (c : Card) (i t j : ℕ) (a : Arc) (q : a ≡ arcAt c t j) where
   unfolding arcFault
   fault-none s d w o = rw (← q, s, d, w, o)
 
--- 14 at a transition
-pub arcs-are : (c : Card) (numbers : List ℕ) (row i t n : ℕ) → Begins c numbers row i t → n ≡ getD numbers (row + 1) 0 → n ≡ (transitionAt c t) .arcs
-arcs-are c numbers row i t n b e = e ∙ ap (λ (r : ℕ). getD numbers (r + 1) 0) (b .at) ∙ (b .laid .transition i t (b .lists)) .arcs
+-- 14: the arcs below j are at places of other capacities than 1
+pub record NoUnitBelow (numbers starts : List ℕ) (row n j : ℕ) : Type 0 where
+  pub below : j ≤ n
+  pub clear : (c : Card) → Loaded c numbers starts → (i t : ℕ) → Begins c row i t → n ≡ (transitionAt c t) .arcs → PlacesThere c t → any j (λ k. eqb ((placeOf c (arcAt c t k)) .capacity) 1) ≡ false
 
--- no fault at any arc: each arc's place is there
-unseen-fault : (c : Card) (i t j : ℕ) → arcFault c i t j ≡ none → seen c i (arcAt c t j) ≡ true
+pub no-unit-start : (numbers starts : List ℕ) (row n : ℕ) → NoUnitBelow numbers starts row n 0
+unfolding any
+no-unit-start numbers starts row n = record { below = omega arith; clear = λ c l i t b m p. refl }
+
+module _ {numbers starts : List ℕ} {row n j : ℕ} (u : NoUnitBelow numbers starts row n j) where
+  module _ {v : ℕ} {a : Arc} (k : j < n) (h : ArcThere numbers row j a) (e : (c : Card) → Loaded c numbers starts → IsPlace c (a .subnet) (a .place) → v ≡ (placeOf c a) .capacity) where
+    capacity-at : (c : Card) → Loaded c numbers starts → (i t : ℕ) → Begins c row i t → n ≡ (transitionAt c t) .arcs → PlacesThere c t → v ≡ (placeOf c (arcAt c t j)) .capacity
+    capacity-at c l i t b m p =
+        let y : j < (transitionAt c t) .arcs = omega arith in
+        let q = arc-is (l .laid) b y h in
+        e c l (subst (λ (x : Arc). IsPlace c (x .subnet) (x .place)) (sym q) (p j y)) ∙ ap (λ (x : Arc). (placeOf c x) .capacity) q
+
+    pub no-unit-more : (v ≡ 1 → ⊥) → NoUnitBelow numbers starts row n (j + 1)
+    no-unit-more f =
+        record {
+          below = omega arith;
+          clear = λ c l i t b m p. any-more j _ (u .clear c l i t b m p) (ne-eqb ((placeOf c (arcAt c t j)) .capacity) 1 (λ q. f (capacity-at c l i t b m p ∙ q)));
+        }
+
+    pub unit-found : v ≡ 1 → (c : Card) → Loaded c numbers starts → (i t : ℕ) → Begins c row i t → n ≡ (transitionAt c t) .arcs → PlacesThere c t → true ≡ hasUnit c t
+    unfolding hasUnit
+    unit-found f c l i t b m p = sym (any-holds ((transitionAt c t) .arcs) j _ (omega arith) (eq-eqb ((placeOf c (arcAt c t j)) .capacity) 1 (sym (capacity-at c l i t b m p) ∙ f)))
+
+  pub no-unit-end : n ≤ j → (c : Card) → Loaded c numbers starts → (i t : ℕ) → Begins c row i t → n ≡ (transitionAt c t) .arcs → PlacesThere c t → false ≡ hasUnit c t
+  unfolding hasUnit
+  no-unit-end k c l i t b m p = let x : j ≡ (transitionAt c t) .arcs = omega (arith, u .below) in sym (rw x at (u .clear c l i t b m p))
+
+-- 10 to 14 at a transition: its row is here, it has n arcs, and those below j have no fault
+pub record NoFaultBelow (c : Card) (i t row n j : ℕ) : Type 0 where
+  pub begins : Begins c row i t
+  pub count : n ≡ (transitionAt c t) .arcs
+  pub walked : Walked (firstOf 0 ((transitionAt c t) .arcs) (arcFault c i t)) (arcFault c i t) n j
+
+pub no-fault-start : {c : Card} {numbers starts : List ℕ} {i t row n : ℕ} → Loaded c numbers starts → Lists c i t → row ≡ getD starts (transitionRowStart t) 0 → n ≡ getD numbers (row + 1) 0 → NoFaultBelow c i t row n 0
+no-fault-start {c} {numbers} {i = i} {t = t} {n = n} l p e f =
+    let q = e ∙ l .indexed .transitionRow i t p in
+    let m : n ≡ (transitionAt c t) .arcs = f ∙ ap (λ (r : ℕ). getD numbers (r + 1) 0) q ∙ (l .laid .transition i t p) .arcs in
+    record { begins = record { lists = p; at = q }; count = m; walked = walk-start (arcFault c i t) 0 ((transitionAt c t) .arcs) n (omega arith) }
+
+unfaulted-seen : (c : Card) (i t j : ℕ) → arcFault c i t j ≡ none → seen c i (arcAt c t j) ≡ true
 unfolding arcFault
-unseen-fault c i t j e = go (seen c i (arcAt c t j)) refl
+unfaulted-seen c i t j e = go (seen c i (arcAt c t j)) refl
   where
     go : (b : Bool) → seen c i (arcAt c t j) ≡ b → seen c i (arcAt c t j) ≡ true
     go true p = p
     go false p = absurd (Option·some-ne-none (record { why = Unseen; bit = arcBit c i t j }) (rw p at e))
 
-pub places-there : (c : Card) (i t : ℕ) → none ≡ firstOf 0 ((transitionAt c t) .arcs) (arcFault c i t) → (j : ℕ) → j < (transitionAt c t) .arcs → IsPlace c ((arcAt c t j) .subnet) ((arcAt c t j) .place)
-places-there c i t e j l = seen-place c i (arcAt c t j) (unseen-fault c i t j (none-at 0 ((transitionAt c t) .arcs) (arcFault c i t) (sym e) j (omega arith) (omega arith)))
+module _ {c : Card} {i t row n j : ℕ} (h : NoFaultBelow c i t row n j) where
+  pub no-fault-more : j < n → none ≡ arcFault c i t j → NoFaultBelow c i t row n (j + 1)
+  no-fault-more m e = record { begins = h .begins; count = h .count; walked = walk-on (h .walked) m e }
 
-module _ (c : Card) (i t : ℕ) where
-  pub arcs-fault : (f : Found) → some f ≡ firstOf 0 ((transitionAt c t) .arcs) (arcFault c i t) → some f ≡ transitionFault c i t
+  pub fault-found : {f : Found} → j < n → some f ≡ arcFault c i t j → some f ≡ transitionFault c i t
   unfolding transitionFault
-  arcs-fault f e = rw (← e)
+  fault-found m e = rw (← walk-found (h .walked) m e)
 
-  pub no-fault : none ≡ firstOf 0 ((transitionAt c t) .arcs) (arcFault c i t) → true ≡ hasUnit c t → none ≡ transitionFault c i t
-  unfolding transitionFault
-  no-fault e u = rw (← e, ← u)
+  module _ (m : n ≤ j) where
+    pub places-there : PlacesThere c t
+    places-there k l =
+        seen-place c i (arcAt c t k) (unfaulted-seen c i t k (none-at 0 ((transitionAt c t) .arcs) (arcFault c i t) (sym (walk-end (h .walked) m)) k (omega arith) (omega arith)))
 
-  pub unit-fault : (starts : List ℕ) (bit : ℕ) → Indexed c starts → Lists c i t → bit ≡ getD starts (transitionBitStart t) 0 → none ≡ firstOf 0 ((transitionAt c t) .arcs) (arcFault c i t)
-      → false ≡ hasUnit c t → some (record { why = NoUnit; bit = bit }) ≡ transitionFault c i t
-  unfolding transitionFault
-  unit-fault starts bit x h b e u = let q : bit ≡ transitionBit c i t = b ∙ x .transitionBit i t h in rw (← e, ← u, q)
+    pub with-unit : true ≡ hasUnit c t → none ≡ transitionFault c i t
+    unfolding transitionFault
+    with-unit u = rw (← walk-end (h .walked) m, ← u)
+
+    pub without-unit : {starts : List ℕ} {bit : ℕ} → Indexed c starts → bit ≡ getD starts (transitionBitStart t) 0 → false ≡ hasUnit c t → some (record { why = NoUnit; bit = bit }) ≡ transitionFault c i t
+    unfolding transitionFault
+    without-unit {bit = bit} x e u =
+        let q : bit ≡ transitionBit c i t = e ∙ x .transitionBit i t (h .begins .lists) in
+        rw (← walk-end (h .walked) m, ← u, q)
 
 -- the transitions of a subnet
-pub lists : (c : Card) (i t first end : ℕ) → i < length (c .subnets) → first ≡ firstTransition c i → end ≡ firstTransition c (suc i) → first ≤ t → t < end → Lists c i t
-lists c i t first end l e f m n = record { subnet = l; first = omega arith; last = omega arith }
+pub lists : {c : Card} {i t first end : ℕ} → i < length (c .subnets) → first ≡ firstTransition c i → end ≡ firstTransition c (suc i) → first ≤ t → t < end → Lists c i t
+lists l e f m n = record { subnet = l; first = omega arith; last = omega arith }
 
 pub subnet-start : (c : Card) (i first end : ℕ) → first ≡ firstTransition c i → end ≡ firstTransition c (suc i) → Walked (subnetFault c i) (transitionFault c i) end first
 unfolding subnetFault firstTransition sumTo
 subnet-start c i first end e f =
     let q : (subnetAt c i) .transitions ≡ end - first = omega arith in
     rw (← e) (walk-start (transitionFault c i) first ((subnetAt c i) .transitions) end q)
+
+-- where the transitions of subnet i end, those of the next begin
+pub next-first : {c : Card} {starts : List ℕ} {i end : ℕ} → Indexed c starts → i < length (c .subnets) → end ≡ getD starts (firstTransitionStart (i + 1)) 0 → end ≡ firstTransition c (suc i)
+next-first {c} {i = i} x m e = e ∙ x .firstTransition (i + 1) (omega arith) ∙ ap (firstTransition c) (add-one i)

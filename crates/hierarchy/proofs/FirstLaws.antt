@@ -11,24 +11,24 @@ use Rattle.card.specs.Finite.{every, any, firstOf}
 use Rattle.card.proofs.Decides.{firstOf-is}
 
 -- what a search finds is what it finds from k on, up to end
-abbrev pub Walked : {A : Type 0} (whole : Option A) (f : ℕ → Option A) (end k : ℕ) → Type 0
-Walked whole f end k = whole ≡ firstOf k (end - k) f
+pub record Walked {A : Type 0} (whole : Option A) (f : ℕ → Option A) (end k : ℕ) : Type 0 where
+  pub left : whole ≡ firstOf k (end - k) f
 
 pub walk-start : {A : Type 0} (f : ℕ → Option A) (from n end : ℕ) → n ≡ end - from → Walked (firstOf from n f) f end from
-walk-start f from n end e = ap (λ (m : ℕ). firstOf from m f) e
+walk-start f from n end e = record { left = ap (λ (m : ℕ). firstOf from m f) e }
 
-module _ {A : Type 0} (whole : Option A) (f : ℕ → Option A) (end k : ℕ) (h : Walked whole f end k) where
+module _ {A : Type 0} {whole : Option A} {f : ℕ → Option A} {end k : ℕ} (h : Walked whole f end k) where
   pub walk-on : k < end → none ≡ f k → Walked whole f end (k + 1)
   unfolding firstOf
-  walk-on l e = let q : end - k ≡ suc (end - (k + 1)) = omega arith in h ∙ rw (q, ← e, add-one)
+  walk-on l e = let q : end - k ≡ suc (end - (k + 1)) = omega arith in record { left = h .left ∙ rw (q, ← e, add-one) }
 
-  pub walk-found : (x : A) → k < end → some x ≡ f k → some x ≡ whole
+  pub walk-found : {x : A} → k < end → some x ≡ f k → some x ≡ whole
   unfolding firstOf
-  walk-found x l e = let q : end - k ≡ suc (end - (k + 1)) = omega arith in sym (h ∙ rw (q, ← e))
+  walk-found l e = let q : end - k ≡ suc (end - (k + 1)) = omega arith in sym (h .left ∙ rw (q, ← e))
 
   pub walk-end : end ≤ k → none ≡ whole
   unfolding firstOf
-  walk-end l = let q : end - k ≡ 0 = omega arith in sym (h ∙ rw q)
+  walk-end l = let q : end - k ≡ 0 = omega arith in sym (h .left ∙ rw q)
 
 -- where a search finds nothing, there is nothing at each number
 pub none-at : {A : Type 0} (from n : ℕ) (f : ℕ → Option A) → firstOf from n f ≡ none → (k : ℕ) → from ≤ k → k < from + n → f k ≡ none

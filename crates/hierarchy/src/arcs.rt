@@ -21,10 +21,10 @@ ghost use Prim.Native.Nat.{ℕ, suc, _<_};
 ghost use lib.ListN.{length};
 ghost use Rattle.card.specs.Card.{Card, Arc as CardArc, transitionAt, arcAt, firstTransition, placeOf};
 ghost use Rattle.card.specs.Finite.{firstOf};
-ghost use Rattle.card.specs.Index.{ArcThere, Lists, Laid, Loaded, transitionRow};
+ghost use Rattle.card.specs.Index.{ArcThere, Lists, Laid, Loaded};
 ghost use Rattle.hierarchy.specs.Conditions.{IsPlace};
 ghost use Rattle.hierarchy.specs.Check.{seen as isSeen, takes as takesIt, directed as isDirected, weighted as isWeighted, repeats as isRepeat, single as isSingle, hasUnit, findingOf, arcFault, transitionFault, subnetFault};
-ghost use Rattle.hierarchy.specs.Arcs.{arcOf};
+ghost use Rattle.hierarchy.specs.Arcs.{arcOf, Begins, PlacesThere};
 
 pub struct Arc {
     pub direction: u16,
@@ -127,7 +127,7 @@ fn repeats(numbers: &[u16], row: u32, h: u16, a: Arc) -> bool
 
 // Whether no lower arc of the transition has the place and the direction of its arc j, which is a.
 fn single(numbers: &[u16], row: u32, j: u16, a: Arc) -> bool
-    ensures { λ r. ⌜ ((c : Card) → Laid c (now (numbers .entry)) → (i t : ℕ) → Lists c i t → row ≡ transitionRow c i t → j < (transitionAt c t) .arcs → arcOf a ≡ arcAt c t j → r ≡ isSingle c t j) ⌝ }
+    ensures { λ r. ⌜ ((c : Card) → Laid c (now (numbers .entry)) → (i t : ℕ) → Begins c row i t → j < (transitionAt c t) .arcs → arcOf a ≡ arcAt c t j → r ≡ isSingle c t j) ⌝ }
 {
     let mut h = 0;
     while h < j {
@@ -141,7 +141,7 @@ fn single(numbers: &[u16], row: u32, j: u16, a: Arc) -> bool
 
 // Whether one of the n arcs of the transition is at a place of capacity 1.
 fn has_unit(numbers: &[u16], starts: &[u32], row: u32, n: u16) -> bool
-    ensures { λ r. ⌜ ((c : Card) → Loaded c (now (numbers .entry)) (now (starts .entry)) → (i t : ℕ) → Lists c i t → row ≡ transitionRow c i t → n ≡ (transitionAt c t) .arcs → ((j : ℕ) → j < (transitionAt c t) .arcs → IsPlace c ((arcAt c t j) .subnet) ((arcAt c t j) .place)) → r ≡ hasUnit c t) ⌝ }
+    ensures { λ r. ⌜ ((c : Card) → Loaded c (now (numbers .entry)) (now (starts .entry)) → (i t : ℕ) → Begins c row i t → n ≡ (transitionAt c t) .arcs → PlacesThere c t → r ≡ hasUnit c t) ⌝ }
 {
     let mut j = 0;
     while j < n {
@@ -164,7 +164,7 @@ fn arc_fault(
     row: u32,
     j: u16,
 ) -> Finding
-    ensures { λ r. ⌜ ((c : Card) → Loaded c (now (numbers .entry)) (now (starts .entry)) → subnets ≡ length (c .subnets) → Lists c i t → row ≡ transitionRow c i t → j < (transitionAt c t) .arcs → findingOf r ≡ arcFault c i t j) ⌝ }
+    ensures { λ r. ⌜ ((c : Card) → Loaded c (now (numbers .entry)) (now (starts .entry)) → subnets ≡ length (c .subnets) → Begins c row i t → j < (transitionAt c t) .arcs → findingOf r ≡ arcFault c i t j) ⌝ }
 {
     let a = arc_at(numbers, row, j);
     if !seen(numbers, starts, subnets, i, a) {

@@ -1,6 +1,4 @@
 -- `hierarchy::arcs::place_capacity` meets its contract. Assumes nothing.
-use denote.Ref.{now}
-use Rattle.hierarchy.specs.Arcs.{arcOf}
 use Rattle.hierarchy.proofs.ArcLaws.{capacity-is}
 use borrow.Author.Needs.{needs}
 use Rattle.hierarchy.proofs.arcs.place_capacity.Statement.{statement}
@@ -13,7 +11,7 @@ capacity-requires : tie.Need-capacity-requires
 capacity-requires c κs = search needs
 
 returns : tie.Need-returns
-returns c = let x = (c .before .before .before .before .args) in λ d l. capacity-is d (now (x .numbers)) (now (x .starts)) l (arcOf (x .a)) ((c .before .subnet-row) .result) ((c .capacity) .result) ((c .before .subnet-row) .ensures) ((c .capacity) .ensures)
+returns c = let x = c .before .before .before .before .args in λ d l. capacity-is l (x .a .subnet) (x .a .place) (c .before .subnet-row .ensures) (c .capacity .ensures)
 
 pub place-capacity-spec : {M : Type 1} → statement M
 place-capacity-spec = tie.close (tie.spec subnet-row-requires capacity-requires returns)

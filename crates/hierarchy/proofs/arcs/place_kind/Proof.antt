@@ -1,6 +1,4 @@
 -- `hierarchy::arcs::place_kind` meets its contract. Assumes nothing.
-use denote.Ref.{now}
-use Rattle.hierarchy.specs.Arcs.{arcOf}
 use Rattle.hierarchy.proofs.ArcLaws.{kind-is}
 use borrow.Author.Needs.{needs}
 use Rattle.hierarchy.proofs.arcs.place_kind.Statement.{statement}
@@ -13,7 +11,7 @@ kind-requires : tie.Need-kind-requires
 kind-requires c κs = search needs
 
 returns : tie.Need-returns
-returns c = let x = (c .before .before .before .before .args) in λ d l. kind-is d (now (x .numbers)) (now (x .starts)) l (arcOf (x .a)) ((c .before .subnet-row) .result) ((c .kind) .result) ((c .before .subnet-row) .ensures) ((c .kind) .ensures)
+returns c = let x = c .before .before .before .before .args in λ d l. kind-is l (x .a .subnet) (x .a .place) (c .before .subnet-row .ensures) (c .kind .ensures)
 
 pub place-kind-spec : {M : Type 1} → statement M
 place-kind-spec = tie.close (tie.spec subnet-row-requires kind-requires returns)

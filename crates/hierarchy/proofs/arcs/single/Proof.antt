@@ -1,5 +1,5 @@
 -- `hierarchy::arcs::single` meets its contract. Assumes nothing.
-use Prim.Native.Nat.{_-_, _≤_}
+use Prim.Native.Nat.{_-_}
 use native.Mathlib.Omega.{arith}
 use borrow.Author.Needs.{needs}
 use denote.Ref.{now}
@@ -9,31 +9,31 @@ use Rattle.hierarchy.proofs.arcs.single.Statement.{statement}
 use Rattle.hierarchy.proofs.arcs.single.Tie as tie
 
 abbrev Inv-loop : tie.InvT-loop
-Inv-loop numbers row j a h₀ h = (h ≤ j) × NoRepeat numbers row j (arcOf a) h
+Inv-loop numbers row j a h₀ h = NoRepeat numbers row j (arcOf a) h
 
 abbrev μ-loop : tie.MeasureT-loop
 μ-loop numbers row j a h₀ h = j - h
 
 loop-holds : tie.Need-loop-holds Inv-loop μ-loop
-loop-holds c = let x = (c .before .args) in (omega arith, no-repeat-start (now (x .numbers)) (x .row) (x .j) (arcOf (x .a)))
+loop-holds c = let x = c .before .args in no-repeat-start (now (x .numbers)) (x .row) (x .j) (arcOf (x .a))
 
 repeats-requires : tie.Need-repeats-requires Inv-loop μ-loop
 repeats-requires c κs = search needs
 
 returns : tie.Need-returns Inv-loop μ-loop
-returns c = let x = (c .before .before .before .before .before .args) in λ d l i t p e. repeat-found (now (x .numbers)) (x .row) (x .j) (arcOf (x .a)) ((c .before .before .before .loop) .h) ((c .before .repeats) .result) ((c .before .before .before .loop) .inv .1) ((c .before .before .loop-test) .taken) ((c .before .repeats) .ensures) ((c .if1) .taken) d i t (record { laid = l; lists = p; at = e })
+returns c = repeat-found (c .before .before .before .loop .inv) (c .before .before .loop-test .taken) (c .before .repeats .ensures) (c .if1 .taken)
 
 add-h : tie.Need-add-h Inv-loop μ-loop
-add-h c = omega (arith, (c .before .before .loop-test) .taken, (c .before .before .before .before .before .fits) .j)
+add-h c = search needs
 
 loop-less : tie.Need-loop-less Inv-loop μ-loop
-loop-less c = omega (arith, (c .before .before .loop-test) .taken)
+loop-less c = omega (arith, c .before .before .loop-test .taken)
 
 loop-again : tie.Need-loop-again Inv-loop μ-loop
-loop-again c = let x = (c .before .before .before .before .before .args) in (omega (arith, (c .before .before .loop-test) .taken), no-repeat-more (now (x .numbers)) (x .row) (x .j) (arcOf (x .a)) ((c .before .before .before .loop) .h) ((c .before .repeats) .result) ((c .before .before .before .loop) .inv .1) ((c .before .before .loop-test) .taken) ((c .before .repeats) .ensures) ((c .if1) .left))
+loop-again c = no-repeat-more (c .before .before .before .loop .inv) (c .before .before .loop-test .taken) (c .before .repeats .ensures) (c .if1 .left)
 
 returns-2 : tie.Need-returns-2 Inv-loop μ-loop
-returns-2 c = let x = (c .before .before .before .args) in λ d l i t p e. no-repeat-end (now (x .numbers)) (x .row) (x .j) (arcOf (x .a)) ((c .before .loop) .h) ((c .before .loop) .inv .1) ((c .before .loop) .inv .0) ((c .loop-test) .left) d i t (record { laid = l; lists = p; at = e })
+returns-2 c = no-repeat-end (c .before .loop .inv) (c .loop-test .left)
 
 pub single-spec : {M : Type 1} → statement M
 single-spec =

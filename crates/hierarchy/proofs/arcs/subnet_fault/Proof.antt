@@ -22,31 +22,31 @@ abbrev μ-loop : tie.MeasureT-loop
 μ-loop numbers starts subnets i first end t₀ t = end - t
 
 loop-holds : tie.Need-loop-holds Inv-loop μ-loop
-loop-holds c = let x = (c .before .before .args) in (omega arith, λ d l e m. subnet-start d (x .i) (x .first) (x .end))
+loop-holds c = let x = c .before .before .args in (omega arith, λ d l e m. subnet-start d (x .i) (x .first) (x .end))
 
 transition-fault-requires : tie.Need-transition-fault-requires Inv-loop μ-loop
 transition-fault-requires c κs = search needs
 
 enum-told : tie.Need-enum-told Inv-loop μ-loop
-enum-told c = (c .match) .keys1
+enum-told c = c .match .keys1
 
 add-t : tie.Need-add-t Inv-loop μ-loop
 add-t c = search needs
 
 loop-less : tie.Need-loop-less Inv-loop μ-loop
-loop-less c = omega (arith, (c .before .before .before .loop-test) .taken)
+loop-less c = omega (arith, c .before .before .before .loop-test .taken)
 
 loop-again : tie.Need-loop-again Inv-loop μ-loop
-loop-again c = let x = (c .before .before .before .before .before .before .before .args) in (omega (arith, (c .before .before .before .before .loop) .inv .0), λ d l e m p q. walk-on (subnetFault d (x .i)) (transitionFault d (x .i)) (x .end) ((c .before .before .before .before .loop) .t) ((c .before .before .before .before .loop) .inv .1 d l e m p q) ((c .before .before .before .loop-test) .taken) (sym (ap findingOf ((c .enum-told) .given .1)) ∙ (c .before .before .transition-fault) .ensures d l e (lists d (x .i) ((c .before .before .before .before .loop) .t) (x .first) (x .end) m p q ((c .before .before .before .before .loop) .inv .0) ((c .before .before .before .loop-test) .taken))))
+loop-again c = (omega (arith, c .before .before .before .before .loop .inv .0), λ d l e m p q. walk-on (c .before .before .before .before .loop .inv .1 d l e m p q) (c .before .before .before .loop-test .taken) (sym (ap findingOf (c .enum-told .given .1)) ∙ c .before .before .transition-fault .ensures d l e (lists m p q (c .before .before .before .before .loop .inv .0) (c .before .before .before .loop-test .taken))))
 
 enum-known-f : tie.Need-enum-known-f Inv-loop μ-loop
-enum-known-f c = (c .match) .keys2
+enum-known-f c = c .match .keys2
 
 returns : tie.Need-returns Inv-loop μ-loop
-returns c = let x = (c .before .before .before .before .before .before .before .before .args) in λ d l e m p q. walk-found (subnetFault d (x .i)) (transitionFault d (x .i)) (x .end) ((c .before .before .before .before .before .loop) .t) ((c .before .before .before .before .before .loop) .inv .1 d l e m p q) _ ((c .before .before .before .before .loop-test) .taken) (sym (ap findingOf ((c .before .f) .given .1)) ∙ (c .before .before .before .transition-fault) .ensures d l e (lists d (x .i) ((c .before .before .before .before .before .loop) .t) (x .first) (x .end) m p q ((c .before .before .before .before .before .loop) .inv .0) ((c .before .before .before .before .loop-test) .taken)))
+returns c = λ d l e m p q. walk-found (c .before .before .before .before .before .loop .inv .1 d l e m p q) (c .before .before .before .before .loop-test .taken) (sym (ap findingOf (c .before .f .given .1)) ∙ c .before .before .before .transition-fault .ensures d l e (lists m p q (c .before .before .before .before .before .loop .inv .0) (c .before .before .before .before .loop-test .taken)))
 
 returns-2 : tie.Need-returns-2 Inv-loop μ-loop
-returns-2 c = let x = (c .before .before .before .before .args) in λ d l e m p q. walk-end (subnetFault d (x .i)) (transitionFault d (x .i)) (x .end) ((c .before .loop) .t) ((c .before .loop) .inv .1 d l e m p q) ((c .loop-test) .left)
+returns-2 c = λ d l e m p q. walk-end (c .before .loop .inv .1 d l e m p q) (c .loop-test .left)
 
 pub subnet-fault-spec : {M : Type 1} → statement M
 subnet-fault-spec =

@@ -4,18 +4,15 @@ use mathlib.Core.Path.{_≡_, sym, ap, _∙_}
 use native.Mathlib.Omega.{arith}
 use lib.ListN.{length}
 use borrow.Author.Needs.{needs}
-use denote.Ref.{now}
-use Rattle.card.specs.Card.{Card, transitionAt}
-use Rattle.card.specs.Finite.{firstOf}
+use Rattle.card.specs.Card.{Card}
 use Rattle.card.specs.Index.{Lists, Loaded}
-use Rattle.hierarchy.specs.Check.{findingOf, arcFault}
-use Rattle.hierarchy.proofs.FirstLaws.{Walked, walk-start, walk-on, walk-found, walk-end}
-use Rattle.hierarchy.proofs.ArcLaws.{Begins, arcs-are, arcs-fault, no-fault, unit-fault, places-there}
+use Rattle.hierarchy.specs.Check.{findingOf}
+use Rattle.hierarchy.proofs.ArcLaws.{NoFaultBelow, no-fault-start, no-fault-more, fault-found, places-there, with-unit, without-unit}
 use Rattle.hierarchy.proofs.arcs.transition_fault.Statement.{statement}
 use Rattle.hierarchy.proofs.arcs.transition_fault.Tie as tie
 
 abbrev Inv-loop : tie.InvT-loop
-Inv-loop numbers starts subnets i t row n j₀ j = (c : Card) → Loaded c numbers starts → subnets ≡ length (c .subnets) → Lists c i t → Walked (firstOf 0 ((transitionAt c t) .arcs) (arcFault c i t)) (arcFault c i t) n j
+Inv-loop numbers starts subnets i t row n j₀ j = (c : Card) → Loaded c numbers starts → subnets ≡ length (c .subnets) → Lists c i t → NoFaultBelow c i t row n j
 
 abbrev μ-loop : tie.MeasureT-loop
 μ-loop numbers starts subnets i t row n j₀ j = n - j
@@ -27,62 +24,43 @@ arc-count-requires : tie.Need-arc-count-requires Inv-loop μ-loop
 arc-count-requires c κs = search needs
 
 loop-holds : tie.Need-loop-holds Inv-loop μ-loop
-loop-holds c =
-    let x = (c .before .before .before .before .args) in
-    let row = (c .before .transition-row) .result in
-    λ d l e p.
-    let b : Begins d (now (x .numbers)) row (x .i) (x .t) = record { laid = l .laid; lists = p; at = (c .before .transition-row) .ensures ∙ l .indexed .transitionRow (x .i) (x .t) p } in
-    let n = arcs-are d (now (x .numbers)) row (x .i) (x .t) ((c .arc-count) .result) b ((c .arc-count) .ensures) in
-    walk-start (arcFault d (x .i) (x .t)) 0 ((transitionAt d (x .t)) .arcs) ((c .arc-count) .result) (omega (arith, n))
+loop-holds c = λ d l e p. no-fault-start l p (c .before .transition-row .ensures) (c .arc-count .ensures)
 
 arc-fault-requires : tie.Need-arc-fault-requires Inv-loop μ-loop
 arc-fault-requires c κs = search needs
 
 enum-told : tie.Need-enum-told Inv-loop μ-loop
-enum-told c = (c .match) .keys1
+enum-told c = c .match .keys1
 
 add-j : tie.Need-add-j Inv-loop μ-loop
 add-j c = search needs
 
 loop-less : tie.Need-loop-less Inv-loop μ-loop
-loop-less c = omega (arith, (c .before .before .before .loop-test) .taken)
+loop-less c = omega (arith, c .before .before .before .loop-test .taken)
 
 loop-again : tie.Need-loop-again Inv-loop μ-loop
 loop-again c =
-    let x = (c .before .before .before .before .before .before .before .before .before .args) in
-    let row = (c .before .before .before .before .before .before .transition-row) .result in
     λ d l e p.
-    let b : Begins d (now (x .numbers)) row (x .i) (x .t) = record { laid = l .laid; lists = p; at = (c .before .before .before .before .before .before .transition-row) .ensures ∙ l .indexed .transitionRow (x .i) (x .t) p } in
-    let n = arcs-are d (now (x .numbers)) row (x .i) (x .t) ((c .before .before .before .before .before .arc-count) .result) b ((c .before .before .before .before .before .arc-count) .ensures) in
-    let g = sym (ap findingOf ((c .enum-told) .given .1)) ∙ (c .before .before .arc-fault) .ensures d l e p (b .at) (omega (arith, n, (c .before .before .before .loop-test) .taken)) in
-    walk-on _ (arcFault d (x .i) (x .t)) ((c .before .before .before .before .before .arc-count) .result) ((c .before .before .before .before .loop) .j) ((c .before .before .before .before .loop) .inv d l e p) ((c .before .before .before .loop-test) .taken) g
+    let h = c .before .before .before .before .loop .inv d l e p in
+    no-fault-more h (c .before .before .before .loop-test .taken) (sym (ap findingOf (c .enum-told .given .1)) ∙ c .before .before .arc-fault .ensures d l e (h .begins) (omega (arith, h .count, c .before .before .before .loop-test .taken)))
 
 enum-known-f : tie.Need-enum-known-f Inv-loop μ-loop
-enum-known-f c = (c .match) .keys2
+enum-known-f c = c .match .keys2
 
 returns : tie.Need-returns Inv-loop μ-loop
 returns c =
-    let x = (c .before .before .before .before .before .before .before .before .before .before .args) in
-    let row = (c .before .before .before .before .before .before .before .transition-row) .result in
     λ d l e p.
-    let b : Begins d (now (x .numbers)) row (x .i) (x .t) = record { laid = l .laid; lists = p; at = (c .before .before .before .before .before .before .before .transition-row) .ensures ∙ l .indexed .transitionRow (x .i) (x .t) p } in
-    let n = arcs-are d (now (x .numbers)) row (x .i) (x .t) ((c .before .before .before .before .before .before .arc-count) .result) b ((c .before .before .before .before .before .before .arc-count) .ensures) in
-    let g = sym (ap findingOf ((c .before .f) .given .1)) ∙ (c .before .before .before .arc-fault) .ensures d l e p (b .at) (omega (arith, n, (c .before .before .before .before .loop-test) .taken)) in
-    arcs-fault d (x .i) (x .t) _ (walk-found _ (arcFault d (x .i) (x .t)) ((c .before .before .before .before .before .before .arc-count) .result) ((c .before .before .before .before .before .loop) .j) ((c .before .before .before .before .before .loop) .inv d l e p) _ ((c .before .before .before .before .loop-test) .taken) g)
+    let h = c .before .before .before .before .before .loop .inv d l e p in
+    fault-found h (c .before .before .before .before .loop-test .taken) (sym (ap findingOf (c .before .f .given .1)) ∙ c .before .before .before .arc-fault .ensures d l e (h .begins) (omega (arith, h .count, c .before .before .before .before .loop-test .taken)))
 
 has-unit-requires : tie.Need-has-unit-requires Inv-loop μ-loop
 has-unit-requires c κs = search needs
 
 returns-2 : tie.Need-returns-2 Inv-loop μ-loop
 returns-2 c =
-    let x = (c .before .before .before .before .before .before .before .before .args) in
-    let row = (c .before .before .before .before .before .transition-row) .result in
     λ d l e p.
-    let b : Begins d (now (x .numbers)) row (x .i) (x .t) = record { laid = l .laid; lists = p; at = (c .before .before .before .before .before .transition-row) .ensures ∙ l .indexed .transitionRow (x .i) (x .t) p } in
-    let n = arcs-are d (now (x .numbers)) row (x .i) (x .t) ((c .before .before .before .before .arc-count) .result) b ((c .before .before .before .before .arc-count) .ensures) in
-    let w = walk-end _ (arcFault d (x .i) (x .t)) ((c .before .before .before .before .arc-count) .result) ((c .before .before .before .loop) .j) ((c .before .before .before .loop) .inv d l e p) ((c .before .before .loop-test) .left) in
-    let u = (c .before .has-unit) .ensures d l (x .i) (x .t) p (b .at) n (places-there d (x .i) (x .t) w) in
-    no-fault d (x .i) (x .t) w (sym ((c .if1) .taken) ∙ u)
+    let h = c .before .before .before .loop .inv d l e p in
+    with-unit h (c .before .before .loop-test .left) (sym (c .if1 .taken) ∙ c .before .has-unit .ensures d l (c .before .before .before .before .before .before .before .before .args .i) (c .before .before .before .before .before .before .before .before .args .t) (h .begins) (h .count) (places-there h (c .before .before .loop-test .left)))
 
 transition-bit-requires : tie.Need-transition-bit-requires Inv-loop μ-loop
 transition-bit-requires c κs = search needs
@@ -92,14 +70,9 @@ cast-t16 c = search needs
 
 returns-3 : tie.Need-returns-3 Inv-loop μ-loop
 returns-3 c =
-    let x = (c .before .before .before .before .before .before .before .before .before .args) in
-    let row = (c .before .before .before .before .before .before .transition-row) .result in
     λ d l e p.
-    let b : Begins d (now (x .numbers)) row (x .i) (x .t) = record { laid = l .laid; lists = p; at = (c .before .before .before .before .before .before .transition-row) .ensures ∙ l .indexed .transitionRow (x .i) (x .t) p } in
-    let n = arcs-are d (now (x .numbers)) row (x .i) (x .t) ((c .before .before .before .before .before .arc-count) .result) b ((c .before .before .before .before .before .arc-count) .ensures) in
-    let w = walk-end _ (arcFault d (x .i) (x .t)) ((c .before .before .before .before .before .arc-count) .result) ((c .before .before .before .before .loop) .j) ((c .before .before .before .before .loop) .inv d l e p) ((c .before .before .before .loop-test) .left) in
-    let u = (c .before .before .has-unit) .ensures d l (x .i) (x .t) p (b .at) n (places-there d (x .i) (x .t) w) in
-    unit-fault d (x .i) (x .t) (now (x .starts)) ((c .transition-bit) .result) (l .indexed) p ((c .transition-bit) .ensures) w (sym ((c .before .if1) .left) ∙ u)
+    let h = c .before .before .before .before .loop .inv d l e p in
+    without-unit h (c .before .before .before .loop-test .left) (l .indexed) (c .transition-bit .ensures) (sym (c .before .if1 .left) ∙ c .before .before .has-unit .ensures d l (c .before .before .before .before .before .before .before .before .before .args .i) (c .before .before .before .before .before .before .before .before .before .args .t) (h .begins) (h .count) (places-there h (c .before .before .before .loop-test .left)))
 
 pub transition-fault-spec : {M : Type 1} → statement M
 transition-fault-spec =
