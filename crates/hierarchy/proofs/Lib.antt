@@ -1,3 +1,5 @@
 pub mod Agree
 pub mod Sharing
 pub mod Accepted
+pub mod FirstLaws
+pub mod ArcLaws

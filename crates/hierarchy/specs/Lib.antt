@@ -3,3 +3,4 @@ pub mod Numbers
 pub mod Check
 pub mod Judgement
 pub mod Output
+pub mod Arcs

@@ -1,0 +1,70 @@
+-- Searching and testing number after number. Assumes nothing.
+use Prim.Native.Nat.{ℕ, zero, suc, _+_, _-_, _≤_, _<_}
+use mathlib.Core.Path.{_≡_, refl, sym, ap, _∙_}
+use mathlib.Core.Bool.{Bool, true, false}
+use mathlib.Core.Option.{Option, none, some}
+use native.Mathlib.Omega.{arith}
+use native.Mathlib.Numerals.{add-one}
+use lib.Dec.{eqb}
+use borrow.Author.Tests.{eqb-true, eqb-false}
+use Rattle.card.specs.Finite.{every, any, firstOf}
+use Rattle.card.proofs.Decides.{firstOf-is}
+
+-- what a search finds is what it finds from k on, up to end
+pub record Walked {A : Type 0} (whole : Option A) (f : ℕ → Option A) (end k : ℕ) : Type 0 where
+  pub left : whole ≡ firstOf k (end - k) f
+
+pub walk-start : {A : Type 0} (f : ℕ → Option A) (from n end : ℕ) → n ≡ end - from → Walked (firstOf from n f) f end from
+walk-start f from n end e = record { left = ap (λ (m : ℕ). firstOf from m f) e }
+
+module _ {A : Type 0} {whole : Option A} {f : ℕ → Option A} {end k : ℕ} (h : Walked whole f end k) where
+  pub walk-on : k < end → none ≡ f k → Walked whole f end (k + 1)
+  unfolding firstOf
+  walk-on l e = let q : end - k ≡ suc (end - (k + 1)) = omega arith in record { left = h .left ∙ rw (q, ← e, add-one) }
+
+  pub walk-found : {x : A} → k < end → some x ≡ f k → some x ≡ whole
+  unfolding firstOf
+  walk-found l e = let q : end - k ≡ suc (end - (k + 1)) = omega arith in sym (h .left ∙ rw (q, ← e))
+
+  pub walk-end : end ≤ k → none ≡ whole
+  unfolding firstOf
+  walk-end l = let q : end - k ≡ 0 = omega arith in sym (h .left ∙ rw q)
+
+-- where a search finds nothing, there is nothing at each number
+pub none-at : {A : Type 0} (from n : ℕ) (f : ℕ → Option A) → firstOf from n f ≡ none → (k : ℕ) → from ≤ k → k < from + n → f k ≡ none
+none-at from n f e = firstOf-is from n f (λ k. f k ≡ none) (λ k. (λ h. h, λ h. h)) .0 e
+
+-- a test of all numbers below k, and of k; a test of some
+pub every-more : (k : ℕ) (f : ℕ → Bool) → every k f ≡ true → f k ≡ true → every (k + 1) f ≡ true
+unfolding every
+every-more k f h e = rw (add-one, h, e)
+
+pub every-fails : (n k : ℕ) (f : ℕ → Bool) → k < n → f k ≡ false → every n f ≡ false
+unfolding every
+every-fails zero k f l e = absurd (omega arith)
+every-fails (suc n) k f l e = go (eqb k n) refl (every-fails n k f)
+  where
+    right : (b : Bool) → every n f ≡ b → f n ≡ false → every (suc n) f ≡ false
+    right true p q = rw (p, q)
+    right false p q = rw p
+
+    go : (b : Bool) → eqb k n ≡ b → (k < n → f k ≡ false → every n f ≡ false) → every (suc n) f ≡ false
+    go true p h = let q : k ≡ n = eqb-true k n p in right (every n f) refl (rw q at e)
+    go false p h = rw (h (omega (arith, eqb-false k n p)) e)
+
+pub any-more : (k : ℕ) (f : ℕ → Bool) → any k f ≡ false → f k ≡ false → any (k + 1) f ≡ false
+unfolding any
+any-more k f h e = rw (add-one, h, e)
+
+pub any-holds : (n k : ℕ) (f : ℕ → Bool) → k < n → f k ≡ true → any n f ≡ true
+unfolding any
+any-holds zero k f l e = absurd (omega arith)
+any-holds (suc n) k f l e = go (eqb k n) refl (any-holds n k f)
+  where
+    right : (b : Bool) → any n f ≡ b → f n ≡ true → any (suc n) f ≡ true
+    right true p q = rw p
+    right false p q = rw (p, q)
+
+    go : (b : Bool) → eqb k n ≡ b → (k < n → f k ≡ true → any n f ≡ true) → any (suc n) f ≡ true
+    go true p h = let q : k ≡ n = eqb-true k n p in right (any n f) refl (rw q at e)
+    go false p h = rw (h (omega (arith, eqb-false k n p)) e)

@@ -1,0 +1,251 @@
+// Pass two over a card's arcs: 10 to 13 at an arc, 14 after a transition's arcs. The card is in its two tables, which any slices may be:
+// what is found says something of a card only where they hold one.
+use crate::CardFault;
+use crate::Finding;
+use card::tables::arc_bit;
+use card::tables::arc_count;
+use card::tables::arc_direction;
+use card::tables::arc_place;
+use card::tables::arc_subnet;
+use card::tables::arc_weight;
+use card::tables::capacity;
+use card::tables::first_transition;
+use card::tables::kind;
+use card::tables::parent;
+use card::tables::place_count;
+use card::tables::subnet_row;
+use card::tables::transition_bit;
+use card::tables::transition_row;
+ghost use mathlib.Core.Path.{_≡_};
+ghost use Prim.Native.Nat.{ℕ, suc, _<_};
+ghost use lib.ListN.{length};
+ghost use Rattle.card.specs.Card.{Card, Arc as CardArc, transitionAt, arcAt, firstTransition, placeOf};
+ghost use Rattle.card.specs.Finite.{firstOf};
+ghost use Rattle.card.specs.Index.{ArcThere, Lists, Laid, Loaded};
+ghost use Rattle.hierarchy.specs.Conditions.{IsPlace};
+ghost use Rattle.hierarchy.specs.Check.{seen as isSeen, takes as takesIt, directed as isDirected, weighted as isWeighted, repeats as isRepeat, single as isSingle, hasUnit, findingOf, arcFault, transitionFault, subnetFault};
+ghost use Rattle.hierarchy.specs.Arcs.{arcOf, Begins, PlacesThere};
+
+pub struct Arc {
+    pub direction: u16,
+    pub subnet: u16,
+    pub place: u16,
+    pub weight: u16,
+}
+
+// Arc j of the transition whose row begins at row.
+fn arc_at(numbers: &[u16], row: u32, j: u16) -> Arc
+    ensures { λ r. ⌜ ArcThere (now (numbers .entry)) row j (arcOf r) ⌝ }
+{
+    Arc {
+        direction: arc_direction(numbers, row, j),
+        subnet: arc_subnet(numbers, row, j),
+        place: arc_place(numbers, row, j),
+        weight: arc_weight(numbers, row, j),
+    }
+}
+
+// Whether subnet i sees the place that the arc names.
+fn seen(numbers: &[u16], starts: &[u32], subnets: u16, i: u16, a: Arc) -> bool
+    ensures { λ r. ⌜ ((c : Card) → Loaded c (now (numbers .entry)) (now (starts .entry)) → subnets ≡ length (c .subnets) → r ≡ isSeen c i (arcOf a)) ⌝ }
+{
+    if subnets <= a.subnet {
+        return false;
+    }
+    let row = subnet_row(starts, a.subnet);
+    if place_count(numbers, row) <= a.place {
+        return false;
+    }
+    if a.subnet == i {
+        return true;
+    }
+    if parent(numbers, row) != i {
+        return false;
+    }
+    kind(numbers, row, a.place) != 0
+}
+
+// The kind and the capacity of the place that an arc names, where there is one.
+fn place_kind(numbers: &[u16], starts: &[u32], a: Arc) -> u16
+    ensures { λ r. ⌜ ((c : Card) → Loaded c (now (numbers .entry)) (now (starts .entry)) → IsPlace c (a .subnet) (a .place) → r ≡ (placeOf c (arcOf a)) .kind) ⌝ }
+{
+    kind(numbers, subnet_row(starts, a.subnet), a.place)
+}
+
+fn place_capacity(numbers: &[u16], starts: &[u32], a: Arc) -> u16
+    ensures { λ r. ⌜ ((c : Card) → Loaded c (now (numbers .entry)) (now (starts .entry)) → IsPlace c (a .subnet) (a .place) → r ≡ (placeOf c (arcOf a)) .capacity) ⌝ }
+{
+    capacity(numbers, subnet_row(starts, a.subnet), a.place)
+}
+
+// Whether a child's place of this kind takes an arc of this direction.
+fn takes(kind: u16, direction: u16) -> bool
+    ensures { λ r. ⌜ r ≡ takesIt kind direction ⌝ }
+{
+    if kind == 3 {
+        return true;
+    }
+    if direction == 0 {
+        return kind == 2;
+    }
+    if direction == 1 {
+        return kind == 1;
+    }
+    true
+}
+
+fn directed(numbers: &[u16], starts: &[u32], i: u16, a: Arc) -> bool
+    ensures { λ r. ⌜ ((c : Card) → Loaded c (now (numbers .entry)) (now (starts .entry)) → IsPlace c (a .subnet) (a .place) → r ≡ isDirected c i (arcOf a)) ⌝ }
+{
+    if a.subnet == i {
+        return true;
+    }
+    takes(place_kind(numbers, starts, a), a.direction)
+}
+
+fn weighted(numbers: &[u16], starts: &[u32], a: Arc) -> bool
+    ensures { λ r. ⌜ ((c : Card) → Loaded c (now (numbers .entry)) (now (starts .entry)) → IsPlace c (a .subnet) (a .place) → r ≡ isWeighted c (arcOf a)) ⌝ }
+{
+    if a.weight < 1 {
+        return false;
+    }
+    a.weight <= place_capacity(numbers, starts, a)
+}
+
+// Whether arc h of the transition has the place and the direction of a. Places differ most often, so they are compared first.
+fn repeats(numbers: &[u16], row: u32, h: u16, a: Arc) -> bool
+    ensures { λ r. ⌜ ((b : CardArc) → ArcThere (now (numbers .entry)) row h b → r ≡ isRepeat b (arcOf a)) ⌝ }
+{
+    if arc_place(numbers, row, h) != a.place {
+        return false;
+    }
+    if arc_subnet(numbers, row, h) != a.subnet {
+        return false;
+    }
+    arc_direction(numbers, row, h) == a.direction
+}
+
+// Whether no lower arc of the transition has the place and the direction of its arc j, which is a.
+fn single(numbers: &[u16], row: u32, j: u16, a: Arc) -> bool
+    ensures { λ r. ⌜ ((c : Card) → Laid c (now (numbers .entry)) → (i t : ℕ) → Begins c row i t → j < (transitionAt c t) .arcs → arcOf a ≡ arcAt c t j → r ≡ isSingle c t j) ⌝ }
+{
+    let mut h = 0;
+    while h < j {
+        if repeats(numbers, row, h, a) {
+            return false;
+        }
+        h += 1;
+    }
+    true
+}
+
+// Whether one of the n arcs of the transition is at a place of capacity 1.
+fn has_unit(numbers: &[u16], starts: &[u32], row: u32, n: u16) -> bool
+    ensures { λ r. ⌜ ((c : Card) → Loaded c (now (numbers .entry)) (now (starts .entry)) → (i t : ℕ) → Begins c row i t → n ≡ (transitionAt c t) .arcs → PlacesThere c t → r ≡ hasUnit c t) ⌝ }
+{
+    let mut j = 0;
+    while j < n {
+        let a = arc_at(numbers, row, j);
+        if place_capacity(numbers, starts, a) == 1 {
+            return true;
+        }
+        j += 1;
+    }
+    false
+}
+
+// The first fault of 10 to 13 at arc j of transition t of subnet i. The transition's row begins at row.
+fn arc_fault(
+    numbers: &[u16],
+    starts: &[u32],
+    subnets: u16,
+    i: u16,
+    t: u32,
+    row: u32,
+    j: u16,
+) -> Finding
+    ensures { λ r. ⌜ ((c : Card) → Loaded c (now (numbers .entry)) (now (starts .entry)) → subnets ≡ length (c .subnets) → Begins c row i t → j < (transitionAt c t) .arcs → findingOf r ≡ arcFault c i t j) ⌝ }
+{
+    let a = arc_at(numbers, row, j);
+    if !seen(numbers, starts, subnets, i, a) {
+        return Finding::Fault(CardFault::Unseen, arc_bit(starts, t, j));
+    }
+    if !directed(numbers, starts, i, a) {
+        return Finding::Fault(CardFault::Direction, arc_bit(starts, t, j));
+    }
+    if !weighted(numbers, starts, a) {
+        return Finding::Fault(CardFault::Weight, arc_bit(starts, t, j));
+    }
+    if !single(numbers, row, j, a) {
+        return Finding::Fault(CardFault::Repeated, arc_bit(starts, t, j));
+    }
+    Finding::Nothing
+}
+
+// The first fault of 10 to 14 at transition t of subnet i.
+fn transition_fault(numbers: &[u16], starts: &[u32], subnets: u16, i: u16, t: u32) -> Finding
+    ensures { λ r. ⌜ ((c : Card) → Loaded c (now (numbers .entry)) (now (starts .entry)) → subnets ≡ length (c .subnets) → Lists c i t → findingOf r ≡ transitionFault c i t) ⌝ }
+{
+    let row = transition_row(starts, t);
+    let n = arc_count(numbers, row);
+    let mut j = 0;
+    while j < n {
+        match arc_fault(numbers, starts, subnets, i, t, row, j) {
+            Finding::Nothing => {
+                j += 1;
+            }
+            Finding::Fault(f, at) => {
+                return Finding::Fault(f, at);
+            }
+        }
+    }
+    if has_unit(numbers, starts, row, n) {
+        return Finding::Nothing;
+    }
+    Finding::Fault(CardFault::NoUnit, transition_bit(starts, t) as usize)
+}
+
+// The same over the transitions of subnet i, from first on up to end.
+fn subnet_fault(
+    numbers: &[u16],
+    starts: &[u32],
+    subnets: u16,
+    i: u16,
+    first: u32,
+    end: u32,
+) -> Finding
+    ensures { λ r. ⌜ ((c : Card) → Loaded c (now (numbers .entry)) (now (starts .entry)) → subnets ≡ length (c .subnets) → i < length (c .subnets) → first ≡ firstTransition c i → end ≡ firstTransition c (suc i) → findingOf r ≡ subnetFault c i) ⌝ }
+{
+    let mut t = first;
+    while t < end {
+        match transition_fault(numbers, starts, subnets, i, t) {
+            Finding::Nothing => {
+                t += 1;
+            }
+            Finding::Fault(f, at) => {
+                return Finding::Fault(f, at);
+            }
+        }
+    }
+    Finding::Nothing
+}
+
+// The first fault of 10 to 14 over all subnets, by subnet, transition and arc.
+pub fn arcs_fault(numbers: &[u16], starts: &[u32], subnets: u16) -> Finding
+    ensures { λ r. ⌜ ((c : Card) → Loaded c (now (numbers .entry)) (now (starts .entry)) → subnets ≡ length (c .subnets) → findingOf r ≡ firstOf 0 (length (c .subnets)) (subnetFault c)) ⌝ }
+{
+    let mut i = 0;
+    while i < subnets {
+        let first = first_transition(starts, i);
+        let end = first_transition(starts, i + 1);
+        match subnet_fault(numbers, starts, subnets, i, first, end) {
+            Finding::Nothing => {
+                i += 1;
+            }
+            Finding::Fault(f, at) => {
+                return Finding::Fault(f, at);
+            }
+        }
+    }
+    Finding::Nothing
+}
