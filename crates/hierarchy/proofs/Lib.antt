@@ -1,3 +1,7 @@
+pub mod WalkLaws
+pub mod ChildLaws
+pub mod LoadedLaws
+pub mod TypeLaws
 pub mod Agree
 pub mod Sharing
 pub mod Accepted

@@ -1,4 +1,5 @@
 pub mod Conditions
+pub mod Ranks
 pub mod Numbers
 pub mod Check
 pub mod Judgement

@@ -1,6 +1,8 @@
 // Layer 2: the conditions on a card's hierarchy. specs/ says what they are, what the check answers and what the writer leaves.
 
 mod arcs;
+mod interfaces;
+mod types;
 
 // Why a card is turned back: its format is at fault, or its hierarchy is. specs/Numbers.antt gives the paper's number of each.
 pub enum CardFault {
