@@ -20,6 +20,7 @@ pub mod PushLaws
 pub mod RunLaws
 pub mod RowNumbers
 pub mod Positions
+pub mod Length
 pub mod IndexLaws
 pub mod ReadLaws
 pub mod WriteTurn

@@ -186,7 +186,7 @@ module _ (c : Card) (w : Wellformed c) where
   pub counted : Counted c
   counted = record { places = w .rows .placeCount; transitions = w .rows .transitionCount; arcs = w .rows .arcCount }
 
-  numbers-few : length (numbersOf c) ≤ 33026
+  pub numbers-few : length (numbersOf c) ≤ 33026
   numbers-few =
       omega (arith, numbers-long c counted, w .fewSubnets, w .rows .fewPlaces, w .rows .fewTransitions, w .rows .arcCount, arcs-few c (length (c .transitions)) (w .rows .transitions) (omega arith))
 
