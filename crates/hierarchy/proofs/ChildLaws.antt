@@ -5,15 +5,16 @@ use mathlib.Core.Bool.{Bool, true, false, not, _&&_, cond, false≢true}
 use mathlib.Core.List.{List, _∷_}
 use native.Mathlib.Omega.{arith}
 use native.Mathlib.Nat.{zero-add}
-use lib.ListN.{length, getD}
+use lib.ListN.{length, getD, set}
+use lib.Seq.{getD-set-same, getD-set-other}
 use lib.Dec.{ltb, eqb}
-use borrow.Author.Tests.{ltb-true, eqb-true, eq-eqb}
+use borrow.Author.Tests.{ltb-true, eqb-true, eqb-false, eq-eqb}
 use Rattle.card.specs.Finite.{sumTo, any, table, keep}
 use Rattle.card.specs.Card.{Card, subnetAt}
 use Rattle.card.proofs.Sums.{sum-same, sum-front, sum-below}
 use Rattle.card.proofs.Decides.{Decides, Some, and-is, eq-is, any-is}
 use Rattle.hierarchy.specs.Conditions.{isChild, children, child}
-use Rattle.hierarchy.specs.Ranks.{one, rank}
+use Rattle.hierarchy.specs.Ranks.{one, rank, Ranked}
 use Rattle.hierarchy.proofs.WalkLaws.{Below}
 
 module _ (test : ℕ → Bool) where
@@ -94,6 +95,9 @@ child-below c i j e =
     let there : Bool = ltb j (length (c .subnets)) in
     ltb-true j (length (c .subnets)) (and-parts other there (and-parts (other && there) (eqb ((subnetAt c j) .parent) i) e .0) .1)
 
+child-parent : (c : Card) (i j : ℕ) → isChild c i j ≡ true → (subnetAt c j) .parent ≡ i
+child-parent c i j e = eqb-true ((subnetAt c j) .parent) i (and-parts (not (eqb j i) && ltb j (length (c .subnets))) (eqb ((subnetAt c j) .parent) i) e .1)
+
 -- a child is the one of its rank
 pub child-at : (c : Card) (i j : ℕ) → isChild c i j ≡ true → child c i (rank c i j) ≡ j
 unfolding children
@@ -123,8 +127,11 @@ child-is c i k l = go (kept-of (isChild c i) 0 (length (c .subnets)) k l)
     go h = found (h .0) (subst (λ (m : ℕ). isChild c i m ≡ true) (zero-add (h .0)) (h .2 .0)) (rank-passing c i (h .0) ∙ h .2 .1)
 
 -- a is the k-th child of r and b that of s, for one k
+abbrev pub bothKth : Card → (r s a b : ℕ) → Bool
+bothKth c r s a b = any (length (children c r)) (λ k. eqb a (child c r k) && eqb b (child c s k))
+
 pub both-kth : (c : Card) (r s a b : ℕ) → length (children c r) ≡ length (children c s)
-    → any (length (children c r)) (λ k. eqb a (child c r k) && eqb b (child c s k)) ≡ isChild c r a && (isChild c s b && eqb (rank c s b) (rank c r a))
+    → bothKth c r s a b ≡ isChild c r a && (isChild c s b && eqb (rank c s b) (rank c r a))
 both-kth c r s a b e =
     same-test _ _ _ _ (any-is (length (children c r)) _ _ (λ k. and-is _ _ _ _ (eq-is a (child c r k)) (eq-is b (child c s k))))
     (and-is _ _ _ _ (itself (isChild c r a)) (and-is _ _ _ _ (itself (isChild c s b)) (eq-is (rank c s b) (rank c r a)))) forth back
@@ -189,3 +196,20 @@ kth-passed c n i k j e l m h =
     let p : Kth c i k x = child-is c i k l in
     let q : isKth c i k x ≡ true = rw (p .child, eq-eqb (rank c i x) k (p .rank)) in
     absurd (false≢true (sym (h x (omega (arith, e, m, kth-below c i k x l refl))) ∙ q))
+
+-- a table of ranks, filled below j
+abbrev pub RankedTo : Card → List ℕ → ℕ → Type 0
+RankedTo c ranks j = (i h : ℕ) → h < j → isChild c i h ≡ true → getD ranks h 0 ≡ rank c i h
+
+pub ranked-more : (c : Card) (ranks : List ℕ) (j p x : ℕ) → RankedTo c ranks j → j < length ranks → p ≡ (subnetAt c j) .parent → x ≡ rank c p j → RankedTo c (set ranks j x) (j + 1)
+ranked-more c ranks j p x w l e f i h m q = go (eqb h j) refl
+  where
+    go : (t : Bool) → eqb h j ≡ t → getD (set ranks j x) h 0 ≡ rank c i h
+    go true z =
+        let s : h ≡ j = eqb-true h j z in
+        let u : p ≡ i = e ∙ ap (λ (k : ℕ). (subnetAt c k) .parent) (sym s) ∙ child-parent c i h q in
+        rw s (getD-set-same ranks j x 0 l ∙ f ∙ ap (λ (k : ℕ). rank c k j) u)
+    go false z = getD-set-other ranks j h x 0 (eqb-false h j z) ∙ w i h (omega (arith, eqb-false h j z)) q
+
+pub ranked-end : (c : Card) (ranks : List ℕ) (j : ℕ) → RankedTo c ranks j → length (c .subnets) ≤ j → Ranked c ranks
+ranked-end c ranks j w l i h e = w i h (omega (arith, child-below c i h e)) e

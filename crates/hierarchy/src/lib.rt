@@ -1,5 +1,6 @@
 // Layer 2: the conditions on a card's hierarchy. specs/ says what they are, what the check answers and what the writer leaves.
 
+mod children;
 mod interfaces;
 mod types;
 
