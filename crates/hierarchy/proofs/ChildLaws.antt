@@ -8,14 +8,14 @@ use native.Mathlib.Nat.{zero-add}
 use lib.ListN.{length, getD, set}
 use lib.Seq.{getD-set-same, getD-set-other}
 use lib.Dec.{ltb, eqb}
-use borrow.Author.Tests.{ltb-true, eqb-true, eqb-false, eq-eqb}
+use borrow.Author.Tests.{ltb-true, lt-ltb, le-ltb, eqb-true, eqb-false, eq-eqb, ne-eqb}
 use Rattle.card.specs.Finite.{sumTo, any, table, keep}
 use Rattle.card.specs.Card.{Card, subnetAt}
 use Rattle.card.proofs.Sums.{sum-same, sum-front, sum-below}
 use Rattle.card.proofs.Decides.{Decides, Some, and-is, eq-is, any-is}
 use Rattle.hierarchy.specs.Conditions.{isChild, children, child}
 use Rattle.hierarchy.specs.Ranks.{one, rank, Ranked}
-use Rattle.hierarchy.proofs.WalkLaws.{Below}
+use Rattle.hierarchy.proofs.WalkLaws.{Below, and-no}
 
 module _ (test : ℕ → Bool) where
   -- how many of from, from + 1, .., n of them, pass
@@ -213,3 +213,13 @@ ranked-more c ranks j p x w l e f i h m q = go (eqb h j) refl
 
 pub ranked-end : (c : Card) (ranks : List ℕ) (j : ℕ) → RankedTo c ranks j → length (c .subnets) ≤ j → Ranked c ranks
 ranked-end c ranks j w l i h e = w i h (omega (arith, child-below c i h e)) e
+
+-- testing for a child
+pub not-itself : (c : Card) (i j : ℕ) → j ≡ i → false ≡ isChild c i j
+not-itself c i j e = rw (eq-eqb j i e)
+
+pub not-there : (c : Card) (n i j : ℕ) → n ≡ length (c .subnets) → n ≤ j → false ≡ isChild c i j
+not-there c n i j e l = rw (le-ltb j (length (c .subnets)) (omega arith), and-no (not (eqb j i)))
+
+pub child-named : (c : Card) (n i j x : ℕ) → n ≡ length (c .subnets) → (j ≡ i → ⊥) → j < n → x ≡ (subnetAt c j) .parent → eqb x i ≡ isChild c i j
+child-named c n i j x e d l f = rw (ne-eqb j i d, lt-ltb j (length (c .subnets)) (omega arith), f)

@@ -1,4 +1,4 @@
--- What each function of src/interfaces.rt and src/types.rt finds, over plain numbers. Assumes nothing.
+-- What the functions of src/interfaces.rt and src/types.rt find, over plain numbers. Assumes nothing.
 use Prim.Native.Nat.{ℕ, suc, _+_, _≤_, _<_}
 use mathlib.Core.Path.{_≡_, refl, sym, _∙_}
 use mathlib.Core.Bool.{Bool, true, false, not, _&&_, _||_}
@@ -6,11 +6,11 @@ use mathlib.Core.List.{List}
 use native.Mathlib.Omega.{arith}
 use lib.ListN.{length, getD}
 use lib.Dec.{eqb}
-use borrow.Author.Tests.{eqb-true, eq-eqb, ne-eqb, lt-ltb, le-ltb, not-true, not-false}
+use borrow.Author.Tests.{eqb-true, eq-eqb, ne-eqb, not-true, not-false}
 use Rattle.card.specs.Finite.{sumTo, every, any}
 use Rattle.card.specs.Card.{Card, Arc, normal, subnetAt, placeAt, arcAt, firstPlace, firstTransition}
 use Rattle.card.specs.Index.{Indexed, Lists, firstTransitionStart, transitionRowStart, transitionRow}
-use Rattle.hierarchy.specs.Conditions.{kindOf, isChild, children, child}
+use Rattle.hierarchy.specs.Conditions.{kindOf, children, child}
 use Rattle.hierarchy.specs.Check.{hasInterface, alikePlaces, alikeArcs, alikeTransitions, sameType, alike, likeLower}
 use Rattle.hierarchy.proofs.WalkLaws.{Below, every-none, every-all, any-one, any-none, and-no, below-start, below-more}
 use Rattle.hierarchy.proofs.ChildLaws.{and-parts}
@@ -42,16 +42,6 @@ main-interfaced c = below-more 0 (interfaced c) true (below-start (interfaced c)
 
 pub later-interfaced : (c : Card) (i : ℕ) → 1 ≤ i → interfaced c i ≡ hasInterface c i
 later-interfaced c i l = rw (ne-eqb i 0 (λ e. omega (arith, e, l)))
-
--- a child
-pub not-itself : (c : Card) (i j : ℕ) → j ≡ i → false ≡ isChild c i j
-not-itself c i j e = rw (eq-eqb j i e)
-
-pub not-there : (c : Card) (n i j : ℕ) → n ≡ length (c .subnets) → n ≤ j → false ≡ isChild c i j
-not-there c n i j e l = rw (le-ltb j (length (c .subnets)) (omega arith), and-no (not (eqb j i)))
-
-pub child-named : (c : Card) (n i j x : ℕ) → n ≡ length (c .subnets) → (j ≡ i → ⊥) → j < n → x ≡ (subnetAt c j) .parent → eqb x i ≡ isChild c i j
-child-named c n i j x e d l f = rw (ne-eqb j i d, lt-ltb j (length (c .subnets)) (omega arith), f)
 
 -- places
 abbrev pub placesAlike : Card → (r s n : ℕ) → Bool

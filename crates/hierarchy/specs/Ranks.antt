@@ -1,4 +1,4 @@
--- A child's rank: what a code without lists counts instead of the list of a subnet's children.
+-- A child's rank, which the code counts where the definitions make a list of a subnet's children.
 use Prim.Native.Nat.{ℕ}
 use mathlib.Core.Path.{_≡_}
 use mathlib.Core.Bool.{Bool, true, false}

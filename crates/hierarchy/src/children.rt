@@ -43,7 +43,8 @@ pub fn rank(numbers: &[u16], starts: &[u32], subnets: u16, i: u16, j: u16) -> u1
     n
 }
 
-// The rank of each subnet among the children of its parent. A card has at most 32 subnets.
+// The rank of each subnet among the children of its parent, made once, so that comparing two arcs counts no children. A card has at most 32
+// subnets.
 pub fn all_ranks(numbers: &[u16], starts: &[u32], subnets: u16) -> [u16; 32]
     ensures { λ x. ⌜ ((c : Card) → Loaded c (now (numbers .entry)) (now (starts .entry)) → subnets ≡ length (c .subnets) → length (c .subnets) ≤ 32 → Ranked c x) ⌝ }
 {

@@ -144,7 +144,7 @@ fn alike_arc(
     alike_subnets(numbers, starts, subnets, ranks, r, s, a, b)
 }
 
-// Where transition k of subnet s begins.
+// Where transition k of subnet s begins. Tables that are no card's may start it past all numbers.
 fn row_of_transition(starts: &[u32], s: u16, k: u16) -> u32
     ensures { λ x. ⌜ ((c : Card) → Indexed c (now (starts .entry)) → s < length (c .subnets) → k < (subnetAt c s) .transitions → x ≡ transitionRow c s (firstTransition c s + k)) ⌝ }
 {

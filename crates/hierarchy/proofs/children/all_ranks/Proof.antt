@@ -7,7 +7,6 @@ use denote.Ref.{now}
 use borrow.Author.Needs.{needs}
 use Rattle.card.specs.Card.{Card}
 use Rattle.card.specs.Index.{Loaded}
-use Rattle.hierarchy.specs.Conditions.{children}
 use Rattle.hierarchy.proofs.LoadedLaws.{parent-of}
 use Rattle.hierarchy.proofs.ChildLaws.{RankedTo, ranked-more, ranked-end}
 use Rattle.hierarchy.proofs.children.all_ranks.Statement.{statement}

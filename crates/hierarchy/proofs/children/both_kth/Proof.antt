@@ -2,7 +2,7 @@
 use Prim.Native.Nat.{ℕ, _-_}
 use mathlib.Core.Path.{sym, ap, _∙_}
 use borrow.Author.Needs.{needs}
-use Rattle.hierarchy.specs.Conditions.{isChild, children}
+use Rattle.hierarchy.specs.Conditions.{isChild}
 use Rattle.hierarchy.specs.Ranks.{rank}
 use Rattle.hierarchy.proofs.WalkLaws.{part-fails, part-holds, test-holds}
 use Rattle.hierarchy.proofs.ChildLaws.{isKth, both-kth}

@@ -3,9 +3,8 @@ use Prim.Native.Nat.{_-_}
 use native.Mathlib.Omega.{arith}
 use denote.Ref.{now}
 use borrow.Author.Needs.{needs}
-use Rattle.hierarchy.specs.Conditions.{children}
 use Rattle.hierarchy.proofs.LoadedLaws.{parent-of}
-use Rattle.hierarchy.proofs.TypeLaws.{not-itself, not-there, child-named}
+use Rattle.hierarchy.proofs.ChildLaws.{not-itself, not-there, child-named}
 use Rattle.hierarchy.proofs.children.is_child.Statement.{statement}
 use Rattle.hierarchy.proofs.children.is_child.Tie as tie
 

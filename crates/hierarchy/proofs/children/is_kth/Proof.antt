@@ -3,7 +3,7 @@ use Prim.Native.Nat.{ℕ, _-_}
 use mathlib.Core.Path.{ap, _∙_}
 use lib.Dec.{eqb}
 use borrow.Author.Needs.{needs}
-use Rattle.hierarchy.specs.Conditions.{isChild, children}
+use Rattle.hierarchy.specs.Conditions.{isChild}
 use Rattle.hierarchy.specs.Ranks.{rank}
 use Rattle.hierarchy.proofs.WalkLaws.{part-fails, part-holds, test-holds}
 use Rattle.hierarchy.proofs.children.is_kth.Statement.{statement}

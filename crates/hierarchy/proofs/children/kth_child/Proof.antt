@@ -7,7 +7,6 @@ use lib.ListN.{length}
 use borrow.Author.Needs.{needs}
 use Rattle.card.specs.Card.{Card}
 use Rattle.card.specs.Index.{Loaded}
-use Rattle.hierarchy.specs.Conditions.{children}
 use Rattle.hierarchy.specs.Ranks.{Ranked}
 use Rattle.hierarchy.proofs.WalkLaws.{found, Below, below-start, below-more}
 use Rattle.hierarchy.proofs.ChildLaws.{isKth, kth-found, kth-passed}

@@ -6,8 +6,7 @@ use lib.ListN.{length}
 use borrow.Author.Needs.{needs}
 use Rattle.card.specs.Card.{Card}
 use Rattle.card.specs.Index.{Loaded}
-use Rattle.hierarchy.specs.Conditions.{children}
-use Rattle.hierarchy.specs.Ranks.{one, rank}
+use Rattle.hierarchy.specs.Ranks.{rank}
 use Rattle.hierarchy.proofs.ChildLaws.{rank-start, rank-more, rank-last, one-le}
 use Rattle.hierarchy.proofs.children.rank.Statement.{statement}
 use Rattle.hierarchy.proofs.children.rank.Tie as tie
@@ -45,7 +44,10 @@ loop-again c =
     (omega (arith, z .inv .0, one-le (x .result), y .ensures), omega (arith, c .before .before .loop-test .taken), λ d l e. rank-more d (a .i) (z .h) (z .n) (y .result) (x .result) (z .inv .2 d l e) (x .ensures d l e) (y .ensures))
 
 returns : tie.Need-returns Inv-loop μ-loop
-returns c = λ d l e. rank-last d (c .before .before .before .before .args .i) (c .before .before .before .before .args .j) (c .before .loop .h) (c .before .loop .n) (c .before .loop .inv .2 d l e) (omega (arith, c .before .loop .inv .1, c .loop-test .left))
+returns c =
+    let a = c .before .before .before .before .args in
+    let z = c .before .loop in
+    λ d l e. rank-last d (a .i) (a .j) (z .h) (z .n) (z .inv .2 d l e) (omega (arith, z .inv .1, c .loop-test .left))
 
 pub rank-spec : {M : Type 1} → statement M
 rank-spec =

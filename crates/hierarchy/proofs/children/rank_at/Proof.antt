@@ -4,7 +4,6 @@ use mathlib.Core.Path.{sym}
 use lib.ListN.{List·getD-eq-default}
 use denote.Ref.{now}
 use borrow.Author.Needs.{needs}
-use Rattle.hierarchy.specs.Conditions.{children}
 use Rattle.hierarchy.proofs.children.rank_at.Statement.{statement}
 use Rattle.hierarchy.proofs.children.rank_at.Tie as tie
 

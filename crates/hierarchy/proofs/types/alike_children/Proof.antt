@@ -7,7 +7,7 @@ use borrow.Author.Needs.{needs}
 use Rattle.card.specs.Card.{Card}
 use Rattle.card.specs.Index.{Loaded}
 use Rattle.hierarchy.specs.Conditions.{children, child}
-use Rattle.hierarchy.specs.Ranks.{rank, Ranked}
+use Rattle.hierarchy.specs.Ranks.{Ranked}
 use Rattle.hierarchy.proofs.WalkLaws.{test-fails, test-holds, counts-differ, Walked, walked-start, walked-more, walked-fails, walked-end}
 use Rattle.hierarchy.proofs.ChildLaws.{kth-below, child-counted}
 use Rattle.hierarchy.proofs.TypeLaws.{typesAlike, types-at}
