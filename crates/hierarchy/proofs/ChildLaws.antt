@@ -9,12 +9,13 @@ use lib.ListN.{length, getD, set}
 use lib.Seq.{getD-set-same, getD-set-other}
 use lib.Dec.{ltb, eqb}
 use borrow.Author.Tests.{ltb-true, lt-ltb, le-ltb, eqb-true, eqb-false, eq-eqb, ne-eqb}
-use Rattle.card.specs.Finite.{sumTo, any, table, keep}
+use Rattle.card.specs.Finite.{sumTo, table, keep}
 use Rattle.card.specs.Card.{Card, subnetAt}
 use Rattle.card.proofs.Sums.{sum-same, sum-front, sum-below}
 use Rattle.card.proofs.Decides.{Decides, Some, and-is, eq-is, any-is}
 use Rattle.hierarchy.specs.Conditions.{isChild, children, child}
 use Rattle.hierarchy.specs.Ranks.{one, rank, Ranked}
+use Rattle.hierarchy.specs.Likeness.{bothKth}
 use Rattle.hierarchy.proofs.WalkLaws.{Below, and-no}
 
 module _ (test : ℕ → Bool) where
@@ -126,10 +127,7 @@ child-is c i k l = go (kept-of (isChild c i) 0 (length (c .subnets)) k l)
     go : Some (length (c .subnets)) (λ j. (isChild c i (0 + j) ≡ true) × (passing (isChild c i) 0 j ≡ k)) → Kth c i k (child c i k)
     go h = found (h .0) (subst (λ (m : ℕ). isChild c i m ≡ true) (zero-add (h .0)) (h .2 .0)) (rank-passing c i (h .0) ∙ h .2 .1)
 
--- a is the k-th child of r and b that of s, for one k
-abbrev pub bothKth : Card → (r s a b : ℕ) → Bool
-bothKth c r s a b = any (length (children c r)) (λ k. eqb a (child c r k) && eqb b (child c s k))
-
+-- by their ranks
 pub both-kth : (c : Card) (r s a b : ℕ) → length (children c r) ≡ length (children c s)
     → bothKth c r s a b ≡ isChild c r a && (isChild c s b && eqb (rank c s b) (rank c r a))
 both-kth c r s a b e =

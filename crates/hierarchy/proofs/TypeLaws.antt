@@ -8,10 +8,11 @@ use lib.ListN.{length, getD}
 use lib.Dec.{eqb}
 use borrow.Author.Tests.{eqb-true, eq-eqb, ne-eqb, not-true, not-false}
 use Rattle.card.specs.Finite.{sumTo, every, any}
-use Rattle.card.specs.Card.{Card, Arc, normal, subnetAt, placeAt, arcAt, firstPlace, firstTransition}
+use Rattle.card.specs.Card.{Card, Arc, normal, subnetAt, placeAt, firstPlace, firstTransition}
 use Rattle.card.specs.Index.{Indexed, Lists, firstTransitionStart, transitionRowStart, transitionRow}
 use Rattle.hierarchy.specs.Conditions.{kindOf, children, child}
-use Rattle.hierarchy.specs.Check.{hasInterface, alikePlaces, alikeArcs, alikeTransitions, sameType, alike, likeLower}
+use Rattle.hierarchy.specs.Check.{hasInterface, alikeArcs, sameType, alike, likeLower}
+use Rattle.hierarchy.specs.Likeness.{placeAlike, childAlike, transitionAlike, placesAlike, childrenAlike, transitionsAlike}
 use Rattle.hierarchy.proofs.WalkLaws.{Below, every-none, every-all, any-one, any-none, and-no, below-start, below-more}
 use Rattle.hierarchy.proofs.ChildLaws.{and-parts}
 
@@ -44,9 +45,6 @@ pub later-interfaced : (c : Card) (i : ℕ) → 1 ≤ i → interfaced c i ≡ h
 later-interfaced c i l = rw (ne-eqb i 0 (λ e. omega (arith, e, l)))
 
 -- places
-abbrev pub placesAlike : Card → (r s n : ℕ) → Bool
-placesAlike c r s n = alikePlaces (placeAt c (firstPlace c r + n)) (placeAt c (firstPlace c s + n))
-
 abbrev pub capacityOf : Card → (j n : ℕ) → ℕ
 capacityOf c j n = (placeAt c (firstPlace c j + n)) .capacity
 
@@ -57,13 +55,13 @@ other-type c r s x y e f d = rw (← e, ← f, ne-eqb x y d)
 pub one-type : (c : Card) (r s x y : ℕ) → x ≡ (subnetAt c r) .type → y ≡ (subnetAt c s) .type → x ≡ y → not (eqb y 0) ≡ sameType c r s
 one-type c r s x y e f q = rw (← e, ← f, eq-eqb x y q)
 
-pub kinds-differ : (c : Card) (r s n x y : ℕ) → x ≡ kindOf c r n → y ≡ kindOf c s n → (x ≡ y → ⊥) → placesAlike c r s n ≡ false
+pub kinds-differ : (c : Card) (r s n x y : ℕ) → x ≡ kindOf c r n → y ≡ kindOf c s n → (x ≡ y → ⊥) → placeAlike c r s n ≡ false
 kinds-differ c r s n x y e f d = rw (← e, ← f, ne-eqb x y d)
 
-pub capacities-differ : (c : Card) (r s n x y : ℕ) → x ≡ capacityOf c r n → y ≡ capacityOf c s n → (x ≡ y → ⊥) → placesAlike c r s n ≡ false
+pub capacities-differ : (c : Card) (r s n x y : ℕ) → x ≡ capacityOf c r n → y ≡ capacityOf c s n → (x ≡ y → ⊥) → placeAlike c r s n ≡ false
 capacities-differ c r s n x y e f d = rw (← e, ← f, ne-eqb x y d) (and-no (eqb (kindOf c r n) (kindOf c s n)))
 
-pub places-alike : (c : Card) (r s n x y v w : ℕ) → x ≡ kindOf c r n → y ≡ kindOf c s n → x ≡ y → v ≡ capacityOf c r n → w ≡ capacityOf c s n → v ≡ w → placesAlike c r s n ≡ true
+pub places-alike : (c : Card) (r s n x y v w : ℕ) → x ≡ kindOf c r n → y ≡ kindOf c s n → x ≡ y → v ≡ capacityOf c r n → w ≡ capacityOf c s n → v ≡ w → placeAlike c r s n ≡ true
 places-alike c r s n x y v w e f p g h q = rw (← e, ← f, ← g, ← h, eq-eqb x y p, eq-eqb v w q)
 
 -- an arc's subnet
@@ -108,25 +106,6 @@ transition-fits c starts h s k x l m e =
     let next : s + 1 ≡ suc s = omega arith in
     rw next (omega (arith, e, m, h .firstTransition s (omega arith), h .firstTransition (suc s) (omega arith)))
 
--- what two subnets' transitions compare, and two subnets
-abbrev pub arcsAlike : Card → (r s t u j : ℕ) → Bool
-arcsAlike c r s t u j = alikeArcs c r s (arcAt c t j) (arcAt c u j)
-
-abbrev pub typesAlike : Card → (r s k : ℕ) → Bool
-typesAlike c r s k = sameType c (child c r k) (child c s k)
-
-abbrev pub transitionsAlike : Card → (r s k : ℕ) → Bool
-transitionsAlike c r s k = alikeTransitions c r s (firstTransition c r + k) (firstTransition c s + k)
-
-abbrev pub allPlaces : Card → (r s : ℕ) → Bool
-allPlaces c r s = eqb ((subnetAt c r) .places) ((subnetAt c s) .places) && every ((subnetAt c r) .places) (placesAlike c r s)
-
-abbrev pub allChildren : Card → (r s : ℕ) → Bool
-allChildren c r s = eqb (length (children c r)) (length (children c s)) && every (length (children c r)) (typesAlike c r s)
-
-abbrev pub allTransitions : Card → (r s : ℕ) → Bool
-allTransitions c r s = eqb ((subnetAt c r) .transitions) ((subnetAt c s) .transitions) && every ((subnetAt c r) .transitions) (transitionsAlike c r s)
-
 and-pairs : (a b c d e f : Bool) → (a && b && c && d && e && f) ≡ (a && b) && ((c && d) && (e && f))
 and-pairs true true true true e f = refl
 and-pairs true true true false e f = refl
@@ -134,18 +113,18 @@ and-pairs true true false d e f = refl
 and-pairs true false c d e f = refl
 and-pairs false b c d e f = refl
 
-pub alike-parts : (c : Card) (r s : ℕ) → alike c r s ≡ allPlaces c r s && (allChildren c r s && allTransitions c r s)
+pub alike-parts : (c : Card) (r s : ℕ) → alike c r s ≡ placesAlike c r s && (childrenAlike c r s && transitionsAlike c r s)
 unfolding alike
 alike-parts c r s =
-    and-pairs (eqb ((subnetAt c r) .places) ((subnetAt c s) .places)) (every ((subnetAt c r) .places) (placesAlike c r s))
-    (eqb (length (children c r)) (length (children c s))) (every (length (children c r)) (typesAlike c r s))
-    (eqb ((subnetAt c r) .transitions) ((subnetAt c s) .transitions)) (every ((subnetAt c r) .transitions) (transitionsAlike c r s))
+    and-pairs (eqb ((subnetAt c r) .places) ((subnetAt c s) .places)) (every ((subnetAt c r) .places) (placeAlike c r s))
+    (eqb (length (children c r)) (length (children c s))) (every (length (children c r)) (childAlike c r s))
+    (eqb ((subnetAt c r) .transitions) ((subnetAt c s) .transitions)) (every ((subnetAt c r) .transitions) (transitionAlike c r s))
 
-pub child-counts : (c : Card) (r s : ℕ) → allChildren c r s ≡ true → length (children c r) ≡ length (children c s)
+pub child-counts : (c : Card) (r s : ℕ) → childrenAlike c r s ≡ true → length (children c r) ≡ length (children c s)
 child-counts c r s e =
-    eqb-true (length (children c r)) (length (children c s)) (and-parts (eqb (length (children c r)) (length (children c s))) (every (length (children c r)) (typesAlike c r s)) e .0)
+    eqb-true (length (children c r)) (length (children c s)) (and-parts (eqb (length (children c r)) (length (children c s))) (every (length (children c r)) (childAlike c r s)) e .0)
 
-pub types-at : (c : Card) (r s k x y : ℕ) (b : Bool) → x ≡ child c r k → y ≡ child c s k → b ≡ sameType c x y → b ≡ typesAlike c r s k
+pub types-at : (c : Card) (r s k x y : ℕ) (b : Bool) → x ≡ child c r k → y ≡ child c s k → b ≡ sameType c x y → b ≡ childAlike c r s k
 types-at c r s k x y b e f g = rw (← e, ← f) g
 
 -- like a lower subnet of its type

@@ -2,5 +2,6 @@ pub mod Conditions
 pub mod Ranks
 pub mod Numbers
 pub mod Check
+pub mod Likeness
 pub mod Judgement
 pub mod Output

@@ -6,11 +6,11 @@ ghost use mathlib.Core.Bool.{_&&_};
 ghost use Prim.Native.Nat.{_≤_, _<_};
 ghost use lib.ListN.{length, getD};
 ghost use lib.Dec.{eqb};
-ghost use Rattle.card.specs.Finite.{any};
 ghost use Rattle.card.specs.Card.{Card};
 ghost use Rattle.card.specs.Index.{Loaded};
 ghost use Rattle.hierarchy.specs.Conditions.{isChild, children, child};
 ghost use Rattle.hierarchy.specs.Ranks.{one, rank, Ranked};
+ghost use Rattle.hierarchy.specs.Likeness.{bothKth};
 
 fn one(yes: bool) -> u16
     ensures { λ x. ⌜ x ≡ one yes ⌝ }
@@ -119,7 +119,7 @@ pub fn both_kth(
     a: u16,
     b: u16,
 ) -> bool
-    ensures { λ x. ⌜ ((c : Card) → Loaded c (now (numbers .entry)) (now (starts .entry)) → subnets ≡ length (c .subnets) → Ranked c (now (ranks .entry)) → length (children c r) ≡ length (children c s) → x ≡ any (length (children c r)) (λ k. eqb a (child c r k) && eqb b (child c s k))) ⌝ }
+    ensures { λ x. ⌜ ((c : Card) → Loaded c (now (numbers .entry)) (now (starts .entry)) → subnets ≡ length (c .subnets) → Ranked c (now (ranks .entry)) → length (children c r) ≡ length (children c s) → x ≡ bothKth c r s a b) ⌝ }
 {
     if !is_child(numbers, starts, subnets, r, a) {
         return false;

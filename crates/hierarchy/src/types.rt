@@ -20,17 +20,18 @@ use card::tables::subnet_type;
 use card::tables::transition_count;
 use card::tables::transition_row;
 ghost use mathlib.Core.Path.{_≡_};
-ghost use mathlib.Core.Bool.{Bool, not, _&&_, _||_};
+ghost use mathlib.Core.Bool.{not, _&&_, _||_};
 ghost use Prim.Native.Nat.{ℕ, _+_, _≤_, _<_};
 ghost use lib.ListN.{length};
 ghost use lib.Dec.{eqb};
-ghost use Rattle.card.specs.Finite.{every, any, firstOf};
-ghost use Rattle.card.specs.Card.{Card, Arc, subnetAt, placeAt, firstPlace, firstTransition};
+ghost use Rattle.card.specs.Finite.{firstOf};
+ghost use Rattle.card.specs.Card.{Card, Arc, subnetAt, firstTransition};
 ghost use Rattle.card.specs.Index.{Loaded, Indexed, Lists, ArcThere, transitionRow};
 ghost use Rattle.card.specs.Writing.{subnetBit};
-ghost use Rattle.hierarchy.specs.Conditions.{children, child};
+ghost use Rattle.hierarchy.specs.Conditions.{children};
 ghost use Rattle.hierarchy.specs.Ranks.{Ranked};
-ghost use Rattle.hierarchy.specs.Check.{alikePlaces, alikeArcs, alikeTransitions, sameType, alike, likeLower, faultUnless, findingOf};
+ghost use Rattle.hierarchy.specs.Check.{alikeArcs, alikeTransitions, sameType, alike, likeLower, faultUnless, findingOf};
+ghost use Rattle.hierarchy.specs.Likeness.{placesAlike, childrenAlike, transitionsAlike, bothKth};
 ghost use Rattle.hierarchy.specs.declared.CardFault.the-variants.{Unlike};
 
 fn same_type(numbers: &[u16], starts: &[u32], r: u16, s: u16) -> bool
@@ -46,7 +47,7 @@ fn same_type(numbers: &[u16], starts: &[u32], r: u16, s: u16) -> bool
 
 // Whether subnets r and s have as many places, of equal kinds and capacities.
 fn alike_places(numbers: &[u16], starts: &[u32], r: u16, s: u16) -> bool
-    ensures { λ x. ⌜ ((c : Card) → Loaded c (now (numbers .entry)) (now (starts .entry)) → r < length (c .subnets) → s < length (c .subnets) → x ≡ eqb ((subnetAt c r) .places) ((subnetAt c s) .places) && every ((subnetAt c r) .places) (λ n. alikePlaces (placeAt c (firstPlace c r + n)) (placeAt c (firstPlace c s + n)))) ⌝ }
+    ensures { λ x. ⌜ ((c : Card) → Loaded c (now (numbers .entry)) (now (starts .entry)) → r < length (c .subnets) → s < length (c .subnets) → x ≡ placesAlike c r s) ⌝ }
 {
     let lower = subnet_row(starts, r);
     let upper = subnet_row(starts, s);
@@ -76,7 +77,7 @@ fn alike_children(
     r: u16,
     s: u16,
 ) -> bool
-    ensures { λ x. ⌜ ((c : Card) → Loaded c (now (numbers .entry)) (now (starts .entry)) → subnets ≡ length (c .subnets) → Ranked c (now (ranks .entry)) → x ≡ eqb (length (children c r)) (length (children c s)) && every (length (children c r)) (λ k. sameType c (child c r k) (child c s k))) ⌝ }
+    ensures { λ x. ⌜ ((c : Card) → Loaded c (now (numbers .entry)) (now (starts .entry)) → subnets ≡ length (c .subnets) → Ranked c (now (ranks .entry)) → x ≡ childrenAlike c r s) ⌝ }
 {
     let count = rank(numbers, starts, subnets, r, subnets);
     if count != rank(numbers, starts, subnets, s, subnets) {
@@ -105,7 +106,7 @@ fn alike_subnets(
     a: u16,
     b: u16,
 ) -> bool
-    ensures { λ x. ⌜ ((c : Card) → Loaded c (now (numbers .entry)) (now (starts .entry)) → subnets ≡ length (c .subnets) → Ranked c (now (ranks .entry)) → length (children c r) ≡ length (children c s) → x ≡ eqb a r && eqb b s || any (length (children c r)) (λ k. eqb a (child c r k) && eqb b (child c s k))) ⌝ }
+    ensures { λ x. ⌜ ((c : Card) → Loaded c (now (numbers .entry)) (now (starts .entry)) → subnets ≡ length (c .subnets) → Ranked c (now (ranks .entry)) → length (children c r) ≡ length (children c s) → x ≡ eqb a r && eqb b s || bothKth c r s a b) ⌝ }
 {
     if a != r {
         return both_kth(numbers, starts, subnets, ranks, r, s, a, b);
@@ -191,7 +192,7 @@ fn alike_transitions(
     r: u16,
     s: u16,
 ) -> bool
-    ensures { λ x. ⌜ ((c : Card) → Loaded c (now (numbers .entry)) (now (starts .entry)) → subnets ≡ length (c .subnets) → Ranked c (now (ranks .entry)) → length (children c r) ≡ length (children c s) → r < length (c .subnets) → s < length (c .subnets) → x ≡ eqb ((subnetAt c r) .transitions) ((subnetAt c s) .transitions) && every ((subnetAt c r) .transitions) (λ k. alikeTransitions c r s (firstTransition c r + k) (firstTransition c s + k))) ⌝ }
+    ensures { λ x. ⌜ ((c : Card) → Loaded c (now (numbers .entry)) (now (starts .entry)) → subnets ≡ length (c .subnets) → Ranked c (now (ranks .entry)) → length (children c r) ≡ length (children c s) → r < length (c .subnets) → s < length (c .subnets) → x ≡ transitionsAlike c r s) ⌝ }
 {
     let transitions = transition_count(numbers, subnet_row(starts, r));
     if transitions != transition_count(numbers, subnet_row(starts, s)) {
