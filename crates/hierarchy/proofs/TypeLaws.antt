@@ -7,12 +7,12 @@ use native.Mathlib.Omega.{arith}
 use lib.ListN.{length, getD}
 use lib.Dec.{eqb}
 use borrow.Author.Tests.{eqb-true, eq-eqb, ne-eqb, not-true, not-false}
-use Rattle.card.specs.Finite.{sumTo, every, any}
+use Rattle.card.specs.Finite.{sumTo, every}
 use Rattle.card.specs.Card.{Card, Arc, normal, subnetAt, placeAt, firstPlace, firstTransition}
 use Rattle.card.specs.Index.{Indexed, Lists, firstTransitionStart, transitionRowStart, transitionRow}
 use Rattle.hierarchy.specs.Conditions.{kindOf, children, child}
 use Rattle.hierarchy.specs.Check.{hasInterface, alikeArcs, sameType, alike, likeLower}
-use Rattle.hierarchy.specs.Likeness.{placeAlike, childAlike, transitionAlike, placesAlike, childrenAlike, transitionsAlike}
+use Rattle.hierarchy.specs.Likeness.{placeAlike, childAlike, transitionAlike, placesAlike, childrenAlike, transitionsAlike, bothKth}
 use Rattle.hierarchy.proofs.WalkLaws.{Below, every-none, every-all, any-one, any-none, and-no, below-start, below-more}
 use Rattle.hierarchy.proofs.ChildLaws.{and-parts}
 
@@ -44,16 +44,16 @@ main-interfaced c = below-more 0 (interfaced c) true (below-start (interfaced c)
 pub later-interfaced : (c : Card) (i : ℕ) → 1 ≤ i → interfaced c i ≡ hasInterface c i
 later-interfaced c i l = rw (ne-eqb i 0 (λ e. omega (arith, e, l)))
 
--- places
-abbrev pub capacityOf : Card → (j n : ℕ) → ℕ
-capacityOf c j n = (placeAt c (firstPlace c j + n)) .capacity
-
 -- of one type
 pub other-type : (c : Card) (r s x y : ℕ) → x ≡ (subnetAt c r) .type → y ≡ (subnetAt c s) .type → (x ≡ y → ⊥) → false ≡ sameType c r s
 other-type c r s x y e f d = rw (← e, ← f, ne-eqb x y d)
 
 pub one-type : (c : Card) (r s x y : ℕ) → x ≡ (subnetAt c r) .type → y ≡ (subnetAt c s) .type → x ≡ y → not (eqb y 0) ≡ sameType c r s
 one-type c r s x y e f q = rw (← e, ← f, eq-eqb x y q)
+
+-- a place
+abbrev pub capacityOf : Card → (j n : ℕ) → ℕ
+capacityOf c j n = (placeAt c (firstPlace c j + n)) .capacity
 
 pub kinds-differ : (c : Card) (r s n x y : ℕ) → x ≡ kindOf c r n → y ≡ kindOf c s n → (x ≡ y → ⊥) → placeAlike c r s n ≡ false
 kinds-differ c r s n x y e f d = rw (← e, ← f, ne-eqb x y d)
@@ -85,7 +85,7 @@ pub numbers-differ : (c : Card) (r s : ℕ) (a b : Arc) (x y : ℕ) → x ≡ a 
 numbers-differ c r s a b x y e f d = rw (← e, ← f, ne-eqb x y d, and-no (eqb (a .direction) (b .direction) && eqb (a .weight) (b .weight)))
 
 pub arcs-alike : (c : Card) (r s : ℕ) (a b : Arc) (x : Bool) → a .direction ≡ b .direction → a .weight ≡ b .weight → a .place ≡ b .place
-    → x ≡ eqb (a .subnet) r && eqb (b .subnet) s || any (length (children c r)) (λ k. eqb (a .subnet) (child c r k) && eqb (b .subnet) (child c s k)) → x ≡ alikeArcs c r s a b
+    → x ≡ eqb (a .subnet) r && eqb (b .subnet) s || bothKth c r s (a .subnet) (b .subnet) → x ≡ alikeArcs c r s a b
 arcs-alike c r s a b x e f g h = rw (eq-eqb (a .direction) (b .direction) e, eq-eqb (a .weight) (b .weight) f, eq-eqb (a .place) (b .place) g, h)
 
 -- a transition of a subnet, by its number there
@@ -106,6 +106,7 @@ transition-fits c starts h s k x l m e =
     let next : s + 1 ≡ suc s = omega arith in
     rw next (omega (arith, e, m, h .firstTransition s (omega arith), h .firstTransition (suc s) (omega arith)))
 
+-- two subnets
 and-pairs : (a b c d e f : Bool) → (a && b && c && d && e && f) ≡ (a && b) && ((c && d) && (e && f))
 and-pairs true true true true e f = refl
 and-pairs true true true false e f = refl
