@@ -5,16 +5,18 @@ use mathlib.Core.Bool.{Bool, true, false, not, _&&_, cond, false≢true}
 use mathlib.Core.List.{List, _∷_}
 use native.Mathlib.Omega.{arith}
 use native.Mathlib.Nat.{zero-add}
-use lib.ListN.{length, getD}
+use lib.ListN.{length, getD, set}
+use lib.Seq.{getD-set-same, getD-set-other}
 use lib.Dec.{ltb, eqb}
-use borrow.Author.Tests.{ltb-true, eqb-true, eq-eqb}
-use Rattle.card.specs.Finite.{sumTo, any, table, keep}
+use borrow.Author.Tests.{ltb-true, lt-ltb, le-ltb, eqb-true, eqb-false, eq-eqb, ne-eqb}
+use Rattle.card.specs.Finite.{sumTo, table, keep}
 use Rattle.card.specs.Card.{Card, subnetAt}
 use Rattle.card.proofs.Sums.{sum-same, sum-front, sum-below}
 use Rattle.card.proofs.Decides.{Decides, Some, and-is, eq-is, any-is}
 use Rattle.hierarchy.specs.Conditions.{isChild, children, child}
-use Rattle.hierarchy.specs.Ranks.{one, rank}
-use Rattle.hierarchy.proofs.WalkLaws.{Below}
+use Rattle.hierarchy.specs.Ranks.{one, rank, Ranked}
+use Rattle.hierarchy.specs.Likeness.{bothKth}
+use Rattle.hierarchy.proofs.WalkLaws.{Below, and-no}
 
 module _ (test : ℕ → Bool) where
   -- how many of from, from + 1, .., n of them, pass
@@ -94,6 +96,9 @@ child-below c i j e =
     let there : Bool = ltb j (length (c .subnets)) in
     ltb-true j (length (c .subnets)) (and-parts other there (and-parts (other && there) (eqb ((subnetAt c j) .parent) i) e .0) .1)
 
+child-parent : (c : Card) (i j : ℕ) → isChild c i j ≡ true → (subnetAt c j) .parent ≡ i
+child-parent c i j e = eqb-true ((subnetAt c j) .parent) i (and-parts (not (eqb j i) && ltb j (length (c .subnets))) (eqb ((subnetAt c j) .parent) i) e .1)
+
 -- a child is the one of its rank
 pub child-at : (c : Card) (i j : ℕ) → isChild c i j ≡ true → child c i (rank c i j) ≡ j
 unfolding children
@@ -122,9 +127,9 @@ child-is c i k l = go (kept-of (isChild c i) 0 (length (c .subnets)) k l)
     go : Some (length (c .subnets)) (λ j. (isChild c i (0 + j) ≡ true) × (passing (isChild c i) 0 j ≡ k)) → Kth c i k (child c i k)
     go h = found (h .0) (subst (λ (m : ℕ). isChild c i m ≡ true) (zero-add (h .0)) (h .2 .0)) (rank-passing c i (h .0) ∙ h .2 .1)
 
--- a is the k-th child of r and b that of s, for one k
+-- by their ranks
 pub both-kth : (c : Card) (r s a b : ℕ) → length (children c r) ≡ length (children c s)
-    → any (length (children c r)) (λ k. eqb a (child c r k) && eqb b (child c s k)) ≡ isChild c r a && (isChild c s b && eqb (rank c s b) (rank c r a))
+    → bothKth c r s a b ≡ isChild c r a && (isChild c s b && eqb (rank c s b) (rank c r a))
 both-kth c r s a b e =
     same-test _ _ _ _ (any-is (length (children c r)) _ _ (λ k. and-is _ _ _ _ (eq-is a (child c r k)) (eq-is b (child c s k))))
     (and-is _ _ _ _ (itself (isChild c r a)) (and-is _ _ _ _ (itself (isChild c s b)) (eq-is (rank c s b) (rank c r a)))) forth back
@@ -189,3 +194,30 @@ kth-passed c n i k j e l m h =
     let p : Kth c i k x = child-is c i k l in
     let q : isKth c i k x ≡ true = rw (p .child, eq-eqb (rank c i x) k (p .rank)) in
     absurd (false≢true (sym (h x (omega (arith, e, m, kth-below c i k x l refl))) ∙ q))
+
+-- a table of ranks, filled below j
+abbrev pub RankedTo : Card → List ℕ → ℕ → Type 0
+RankedTo c ranks j = (i h : ℕ) → h < j → isChild c i h ≡ true → getD ranks h 0 ≡ rank c i h
+
+pub ranked-more : (c : Card) (ranks : List ℕ) (j p x : ℕ) → RankedTo c ranks j → j < length ranks → p ≡ (subnetAt c j) .parent → x ≡ rank c p j → RankedTo c (set ranks j x) (j + 1)
+ranked-more c ranks j p x w l e f i h m q = go (eqb h j) refl
+  where
+    go : (t : Bool) → eqb h j ≡ t → getD (set ranks j x) h 0 ≡ rank c i h
+    go true z =
+        let s : h ≡ j = eqb-true h j z in
+        let u : p ≡ i = e ∙ ap (λ (k : ℕ). (subnetAt c k) .parent) (sym s) ∙ child-parent c i h q in
+        rw s (getD-set-same ranks j x 0 l ∙ f ∙ ap (λ (k : ℕ). rank c k j) u)
+    go false z = getD-set-other ranks j h x 0 (eqb-false h j z) ∙ w i h (omega (arith, eqb-false h j z)) q
+
+pub ranked-end : (c : Card) (ranks : List ℕ) (j : ℕ) → RankedTo c ranks j → length (c .subnets) ≤ j → Ranked c ranks
+ranked-end c ranks j w l i h e = w i h (omega (arith, child-below c i h e)) e
+
+-- testing for a child
+pub not-itself : (c : Card) (i j : ℕ) → j ≡ i → false ≡ isChild c i j
+not-itself c i j e = rw (eq-eqb j i e)
+
+pub not-there : (c : Card) (n i j : ℕ) → n ≡ length (c .subnets) → n ≤ j → false ≡ isChild c i j
+not-there c n i j e l = rw (le-ltb j (length (c .subnets)) (omega arith), and-no (not (eqb j i)))
+
+pub child-named : (c : Card) (n i j x : ℕ) → n ≡ length (c .subnets) → (j ≡ i → ⊥) → j < n → x ≡ (subnetAt c j) .parent → eqb x i ≡ isChild c i j
+child-named c n i j x e d l f = rw (ne-eqb j i d, lt-ltb j (length (c .subnets)) (omega arith), f)

@@ -1,4 +1,4 @@
--- What each function of src/interfaces.rt and src/types.rt finds, over plain numbers. Assumes nothing.
+-- What the functions of src/interfaces.rt and src/types.rt find, over plain numbers. Assumes nothing.
 use Prim.Native.Nat.{ℕ, suc, _+_, _≤_, _<_}
 use mathlib.Core.Path.{_≡_, refl, sym, _∙_}
 use mathlib.Core.Bool.{Bool, true, false, not, _&&_, _||_}
@@ -6,12 +6,13 @@ use mathlib.Core.List.{List}
 use native.Mathlib.Omega.{arith}
 use lib.ListN.{length, getD}
 use lib.Dec.{eqb}
-use borrow.Author.Tests.{eqb-true, eq-eqb, ne-eqb, lt-ltb, le-ltb, not-true, not-false}
-use Rattle.card.specs.Finite.{sumTo, every, any}
-use Rattle.card.specs.Card.{Card, Arc, normal, subnetAt, placeAt, arcAt, firstPlace, firstTransition}
+use borrow.Author.Tests.{eqb-true, eq-eqb, ne-eqb, not-true, not-false}
+use Rattle.card.specs.Finite.{sumTo, every}
+use Rattle.card.specs.Card.{Card, Arc, normal, subnetAt, placeAt, firstPlace, firstTransition}
 use Rattle.card.specs.Index.{Indexed, Lists, firstTransitionStart, transitionRowStart, transitionRow}
-use Rattle.hierarchy.specs.Conditions.{kindOf, isChild, children, child}
-use Rattle.hierarchy.specs.Check.{hasInterface, alikePlaces, alikeArcs, alikeTransitions, sameType, alike, likeLower}
+use Rattle.hierarchy.specs.Conditions.{kindOf, children, child}
+use Rattle.hierarchy.specs.Check.{hasInterface, alikeArcs, sameType, alike, likeLower}
+use Rattle.hierarchy.specs.Likeness.{placeAlike, childAlike, transitionAlike, placesAlike, childrenAlike, transitionsAlike, bothKth}
 use Rattle.hierarchy.proofs.WalkLaws.{Below, every-none, every-all, any-one, any-none, and-no, below-start, below-more}
 use Rattle.hierarchy.proofs.ChildLaws.{and-parts}
 
@@ -43,23 +44,6 @@ main-interfaced c = below-more 0 (interfaced c) true (below-start (interfaced c)
 pub later-interfaced : (c : Card) (i : ℕ) → 1 ≤ i → interfaced c i ≡ hasInterface c i
 later-interfaced c i l = rw (ne-eqb i 0 (λ e. omega (arith, e, l)))
 
--- a child
-pub not-itself : (c : Card) (i j : ℕ) → j ≡ i → false ≡ isChild c i j
-not-itself c i j e = rw (eq-eqb j i e)
-
-pub not-there : (c : Card) (n i j : ℕ) → n ≡ length (c .subnets) → n ≤ j → false ≡ isChild c i j
-not-there c n i j e l = rw (le-ltb j (length (c .subnets)) (omega arith), and-no (not (eqb j i)))
-
-pub child-named : (c : Card) (n i j x : ℕ) → n ≡ length (c .subnets) → (j ≡ i → ⊥) → j < n → x ≡ (subnetAt c j) .parent → eqb x i ≡ isChild c i j
-child-named c n i j x e d l f = rw (ne-eqb j i d, lt-ltb j (length (c .subnets)) (omega arith), f)
-
--- places
-abbrev pub placesAlike : Card → (r s n : ℕ) → Bool
-placesAlike c r s n = alikePlaces (placeAt c (firstPlace c r + n)) (placeAt c (firstPlace c s + n))
-
-abbrev pub capacityOf : Card → (j n : ℕ) → ℕ
-capacityOf c j n = (placeAt c (firstPlace c j + n)) .capacity
-
 -- of one type
 pub other-type : (c : Card) (r s x y : ℕ) → x ≡ (subnetAt c r) .type → y ≡ (subnetAt c s) .type → (x ≡ y → ⊥) → false ≡ sameType c r s
 other-type c r s x y e f d = rw (← e, ← f, ne-eqb x y d)
@@ -67,13 +51,17 @@ other-type c r s x y e f d = rw (← e, ← f, ne-eqb x y d)
 pub one-type : (c : Card) (r s x y : ℕ) → x ≡ (subnetAt c r) .type → y ≡ (subnetAt c s) .type → x ≡ y → not (eqb y 0) ≡ sameType c r s
 one-type c r s x y e f q = rw (← e, ← f, eq-eqb x y q)
 
-pub kinds-differ : (c : Card) (r s n x y : ℕ) → x ≡ kindOf c r n → y ≡ kindOf c s n → (x ≡ y → ⊥) → placesAlike c r s n ≡ false
+-- a place
+abbrev pub capacityOf : Card → (j n : ℕ) → ℕ
+capacityOf c j n = (placeAt c (firstPlace c j + n)) .capacity
+
+pub kinds-differ : (c : Card) (r s n x y : ℕ) → x ≡ kindOf c r n → y ≡ kindOf c s n → (x ≡ y → ⊥) → placeAlike c r s n ≡ false
 kinds-differ c r s n x y e f d = rw (← e, ← f, ne-eqb x y d)
 
-pub capacities-differ : (c : Card) (r s n x y : ℕ) → x ≡ capacityOf c r n → y ≡ capacityOf c s n → (x ≡ y → ⊥) → placesAlike c r s n ≡ false
+pub capacities-differ : (c : Card) (r s n x y : ℕ) → x ≡ capacityOf c r n → y ≡ capacityOf c s n → (x ≡ y → ⊥) → placeAlike c r s n ≡ false
 capacities-differ c r s n x y e f d = rw (← e, ← f, ne-eqb x y d) (and-no (eqb (kindOf c r n) (kindOf c s n)))
 
-pub places-alike : (c : Card) (r s n x y v w : ℕ) → x ≡ kindOf c r n → y ≡ kindOf c s n → x ≡ y → v ≡ capacityOf c r n → w ≡ capacityOf c s n → v ≡ w → placesAlike c r s n ≡ true
+pub places-alike : (c : Card) (r s n x y v w : ℕ) → x ≡ kindOf c r n → y ≡ kindOf c s n → x ≡ y → v ≡ capacityOf c r n → w ≡ capacityOf c s n → v ≡ w → placeAlike c r s n ≡ true
 places-alike c r s n x y v w e f p g h q = rw (← e, ← f, ← g, ← h, eq-eqb x y p, eq-eqb v w q)
 
 -- an arc's subnet
@@ -97,7 +85,7 @@ pub numbers-differ : (c : Card) (r s : ℕ) (a b : Arc) (x y : ℕ) → x ≡ a 
 numbers-differ c r s a b x y e f d = rw (← e, ← f, ne-eqb x y d, and-no (eqb (a .direction) (b .direction) && eqb (a .weight) (b .weight)))
 
 pub arcs-alike : (c : Card) (r s : ℕ) (a b : Arc) (x : Bool) → a .direction ≡ b .direction → a .weight ≡ b .weight → a .place ≡ b .place
-    → x ≡ eqb (a .subnet) r && eqb (b .subnet) s || any (length (children c r)) (λ k. eqb (a .subnet) (child c r k) && eqb (b .subnet) (child c s k)) → x ≡ alikeArcs c r s a b
+    → x ≡ eqb (a .subnet) r && eqb (b .subnet) s || bothKth c r s (a .subnet) (b .subnet) → x ≡ alikeArcs c r s a b
 arcs-alike c r s a b x e f g h = rw (eq-eqb (a .direction) (b .direction) e, eq-eqb (a .weight) (b .weight) f, eq-eqb (a .place) (b .place) g, h)
 
 -- a transition of a subnet, by its number there
@@ -118,25 +106,7 @@ transition-fits c starts h s k x l m e =
     let next : s + 1 ≡ suc s = omega arith in
     rw next (omega (arith, e, m, h .firstTransition s (omega arith), h .firstTransition (suc s) (omega arith)))
 
--- what two subnets' transitions compare, and two subnets
-abbrev pub arcsAlike : Card → (r s t u j : ℕ) → Bool
-arcsAlike c r s t u j = alikeArcs c r s (arcAt c t j) (arcAt c u j)
-
-abbrev pub typesAlike : Card → (r s k : ℕ) → Bool
-typesAlike c r s k = sameType c (child c r k) (child c s k)
-
-abbrev pub transitionsAlike : Card → (r s k : ℕ) → Bool
-transitionsAlike c r s k = alikeTransitions c r s (firstTransition c r + k) (firstTransition c s + k)
-
-abbrev pub allPlaces : Card → (r s : ℕ) → Bool
-allPlaces c r s = eqb ((subnetAt c r) .places) ((subnetAt c s) .places) && every ((subnetAt c r) .places) (placesAlike c r s)
-
-abbrev pub allChildren : Card → (r s : ℕ) → Bool
-allChildren c r s = eqb (length (children c r)) (length (children c s)) && every (length (children c r)) (typesAlike c r s)
-
-abbrev pub allTransitions : Card → (r s : ℕ) → Bool
-allTransitions c r s = eqb ((subnetAt c r) .transitions) ((subnetAt c s) .transitions) && every ((subnetAt c r) .transitions) (transitionsAlike c r s)
-
+-- two subnets
 and-pairs : (a b c d e f : Bool) → (a && b && c && d && e && f) ≡ (a && b) && ((c && d) && (e && f))
 and-pairs true true true true e f = refl
 and-pairs true true true false e f = refl
@@ -144,18 +114,18 @@ and-pairs true true false d e f = refl
 and-pairs true false c d e f = refl
 and-pairs false b c d e f = refl
 
-pub alike-parts : (c : Card) (r s : ℕ) → alike c r s ≡ allPlaces c r s && (allChildren c r s && allTransitions c r s)
+pub alike-parts : (c : Card) (r s : ℕ) → alike c r s ≡ placesAlike c r s && (childrenAlike c r s && transitionsAlike c r s)
 unfolding alike
 alike-parts c r s =
-    and-pairs (eqb ((subnetAt c r) .places) ((subnetAt c s) .places)) (every ((subnetAt c r) .places) (placesAlike c r s))
-    (eqb (length (children c r)) (length (children c s))) (every (length (children c r)) (typesAlike c r s))
-    (eqb ((subnetAt c r) .transitions) ((subnetAt c s) .transitions)) (every ((subnetAt c r) .transitions) (transitionsAlike c r s))
+    and-pairs (eqb ((subnetAt c r) .places) ((subnetAt c s) .places)) (every ((subnetAt c r) .places) (placeAlike c r s))
+    (eqb (length (children c r)) (length (children c s))) (every (length (children c r)) (childAlike c r s))
+    (eqb ((subnetAt c r) .transitions) ((subnetAt c s) .transitions)) (every ((subnetAt c r) .transitions) (transitionAlike c r s))
 
-pub child-counts : (c : Card) (r s : ℕ) → allChildren c r s ≡ true → length (children c r) ≡ length (children c s)
+pub child-counts : (c : Card) (r s : ℕ) → childrenAlike c r s ≡ true → length (children c r) ≡ length (children c s)
 child-counts c r s e =
-    eqb-true (length (children c r)) (length (children c s)) (and-parts (eqb (length (children c r)) (length (children c s))) (every (length (children c r)) (typesAlike c r s)) e .0)
+    eqb-true (length (children c r)) (length (children c s)) (and-parts (eqb (length (children c r)) (length (children c s))) (every (length (children c r)) (childAlike c r s)) e .0)
 
-pub types-at : (c : Card) (r s k x y : ℕ) (b : Bool) → x ≡ child c r k → y ≡ child c s k → b ≡ sameType c x y → b ≡ typesAlike c r s k
+pub types-at : (c : Card) (r s k x y : ℕ) (b : Bool) → x ≡ child c r k → y ≡ child c s k → b ≡ sameType c x y → b ≡ childAlike c r s k
 types-at c r s k x y b e f g = rw (← e, ← f) g
 
 -- like a lower subnet of its type

@@ -1,6 +1,9 @@
 // Layer 2: the conditions on a card's hierarchy. specs/ says what they are, what the check answers and what the writer leaves.
 
 mod arcs;
+mod children;
+mod interfaces;
+mod types;
 mod interfaces;
 mod types;
 

@@ -1,6 +1,10 @@
 // Fault 16: a subnet that is unlike a lower one of its type.
 use crate::CardFault;
 use crate::Finding;
+use crate::children::all_ranks;
+use crate::children::both_kth;
+use crate::children::kth_child;
+use crate::children::rank;
 use card::tables::arc_count;
 use card::tables::arc_direction;
 use card::tables::arc_place;
@@ -9,7 +13,6 @@ use card::tables::arc_weight;
 use card::tables::capacity;
 use card::tables::first_transition;
 use card::tables::kind;
-use card::tables::parent;
 use card::tables::place_count;
 use card::tables::subnet_bit;
 use card::tables::subnet_row;
@@ -17,72 +20,19 @@ use card::tables::subnet_type;
 use card::tables::transition_count;
 use card::tables::transition_row;
 ghost use mathlib.Core.Path.{_≡_};
-ghost use mathlib.Core.Bool.{Bool, not, _&&_, _||_};
-ghost use Prim.Native.Nat.{ℕ, _+_, _<_};
+ghost use mathlib.Core.Bool.{not, _&&_, _||_};
+ghost use Prim.Native.Nat.{ℕ, _+_, _≤_, _<_};
 ghost use lib.ListN.{length};
 ghost use lib.Dec.{eqb};
-ghost use Rattle.card.specs.Finite.{every, any, firstOf};
-ghost use Rattle.card.specs.Card.{Card, Arc, subnetAt, placeAt, firstPlace, firstTransition};
-ghost use Rattle.card.specs.Index.{Loaded, Indexed, ArcThere, transitionRow};
+ghost use Rattle.card.specs.Finite.{firstOf};
+ghost use Rattle.card.specs.Card.{Card, Arc, subnetAt, firstTransition};
+ghost use Rattle.card.specs.Index.{Loaded, Indexed, Lists, ArcThere, transitionRow};
 ghost use Rattle.card.specs.Writing.{subnetBit};
-ghost use Rattle.hierarchy.specs.Conditions.{isChild, children, child};
-ghost use Rattle.hierarchy.specs.Ranks.{one, rank};
-ghost use Rattle.hierarchy.specs.Check.{alikePlaces, alikeArcs, alikeTransitions, sameType, alike, likeLower, faultUnless, findingOf};
+ghost use Rattle.hierarchy.specs.Conditions.{children};
+ghost use Rattle.hierarchy.specs.Ranks.{Ranked};
+ghost use Rattle.hierarchy.specs.Check.{alikeArcs, alikeTransitions, sameType, alike, likeLower, faultUnless, findingOf};
+ghost use Rattle.hierarchy.specs.Likeness.{placesAlike, childrenAlike, transitionsAlike, bothKth};
 ghost use Rattle.hierarchy.specs.declared.CardFault.the-variants.{Unlike};
-
-fn one(yes: bool) -> u16
-    ensures { λ x. ⌜ x ≡ one yes ⌝ }
-{
-    if yes { 1 } else { 0 }
-}
-
-fn is_child(numbers: &[u16], starts: &[u32], subnets: u16, i: u16, j: u16) -> bool
-    ensures { λ x. ⌜ ((c : Card) → Loaded c (now (numbers .entry)) (now (starts .entry)) → subnets ≡ length (c .subnets) → x ≡ isChild c i j) ⌝ }
-{
-    if j == i {
-        return false;
-    }
-    if subnets <= j {
-        return false;
-    }
-    parent(numbers, subnet_row(starts, j)) == i
-}
-
-// How many children of subnet i are below j.
-fn rank(numbers: &[u16], starts: &[u32], subnets: u16, i: u16, j: u16) -> u16
-    ensures { λ x. ⌜ ((c : Card) → Loaded c (now (numbers .entry)) (now (starts .entry)) → subnets ≡ length (c .subnets) → x ≡ rank c i j) ⌝ }
-{
-    let mut n = 0;
-    let mut h = 0;
-    while h < j {
-        n += one(is_child(numbers, starts, subnets, i, h));
-        h += 1;
-    }
-    n
-}
-
-fn kth_child(numbers: &[u16], starts: &[u32], subnets: u16, i: u16, k: u16) -> u16
-    ensures { λ x. ⌜ ((c : Card) → Loaded c (now (numbers .entry)) (now (starts .entry)) → subnets ≡ length (c .subnets) → k < length (children c i) → x ≡ child c i k) ⌝ }
-{
-    let mut j = 0;
-    while j < subnets {
-        if is_kth(numbers, starts, subnets, i, k, j) {
-            return j;
-        }
-        j += 1;
-    }
-    0
-}
-
-// Whether subnet j is the k-th child of subnet i.
-fn is_kth(numbers: &[u16], starts: &[u32], subnets: u16, i: u16, k: u16, j: u16) -> bool
-    ensures { λ x. ⌜ ((c : Card) → Loaded c (now (numbers .entry)) (now (starts .entry)) → subnets ≡ length (c .subnets) → x ≡ isChild c i j && eqb (rank c i j) k) ⌝ }
-{
-    if !is_child(numbers, starts, subnets, i, j) {
-        return false;
-    }
-    rank(numbers, starts, subnets, i, j) == k
-}
 
 fn same_type(numbers: &[u16], starts: &[u32], r: u16, s: u16) -> bool
     ensures { λ x. ⌜ ((c : Card) → Loaded c (now (numbers .entry)) (now (starts .entry)) → r < length (c .subnets) → s < length (c .subnets) → x ≡ sameType c r s) ⌝ }
@@ -97,7 +47,7 @@ fn same_type(numbers: &[u16], starts: &[u32], r: u16, s: u16) -> bool
 
 // Whether subnets r and s have as many places, of equal kinds and capacities.
 fn alike_places(numbers: &[u16], starts: &[u32], r: u16, s: u16) -> bool
-    ensures { λ x. ⌜ ((c : Card) → Loaded c (now (numbers .entry)) (now (starts .entry)) → r < length (c .subnets) → s < length (c .subnets) → x ≡ eqb ((subnetAt c r) .places) ((subnetAt c s) .places) && every ((subnetAt c r) .places) (λ n. alikePlaces (placeAt c (firstPlace c r + n)) (placeAt c (firstPlace c s + n)))) ⌝ }
+    ensures { λ x. ⌜ ((c : Card) → Loaded c (now (numbers .entry)) (now (starts .entry)) → r < length (c .subnets) → s < length (c .subnets) → x ≡ placesAlike c r s) ⌝ }
 {
     let lower = subnet_row(starts, r);
     let upper = subnet_row(starts, s);
@@ -119,8 +69,15 @@ fn alike_places(numbers: &[u16], starts: &[u32], r: u16, s: u16) -> bool
 }
 
 // Whether subnets r and s have as many children, the k-th two of equal nonzero type.
-fn alike_children(numbers: &[u16], starts: &[u32], subnets: u16, r: u16, s: u16) -> bool
-    ensures { λ x. ⌜ ((c : Card) → Loaded c (now (numbers .entry)) (now (starts .entry)) → subnets ≡ length (c .subnets) → x ≡ eqb (length (children c r)) (length (children c s)) && every (length (children c r)) (λ k. sameType c (child c r k) (child c s k))) ⌝ }
+fn alike_children(
+    numbers: &[u16],
+    starts: &[u32],
+    subnets: u16,
+    ranks: &[u16],
+    r: u16,
+    s: u16,
+) -> bool
+    ensures { λ x. ⌜ ((c : Card) → Loaded c (now (numbers .entry)) (now (starts .entry)) → subnets ≡ length (c .subnets) → Ranked c (now (ranks .entry)) → x ≡ childrenAlike c r s) ⌝ }
 {
     let count = rank(numbers, starts, subnets, r, subnets);
     if count != rank(numbers, starts, subnets, s, subnets) {
@@ -128,8 +85,8 @@ fn alike_children(numbers: &[u16], starts: &[u32], subnets: u16, r: u16, s: u16)
     }
     let mut k = 0;
     while k < count {
-        let lower = kth_child(numbers, starts, subnets, r, k);
-        let upper = kth_child(numbers, starts, subnets, s, k);
+        let lower = kth_child(numbers, starts, subnets, ranks, r, k);
+        let upper = kth_child(numbers, starts, subnets, ranks, s, k);
         if !same_type(numbers, starts, lower, upper) {
             return false;
         }
@@ -138,34 +95,24 @@ fn alike_children(numbers: &[u16], starts: &[u32], subnets: u16, r: u16, s: u16)
     true
 }
 
-// Whether subnet a is the k-th child of r and b the k-th of s, for one k.
-fn both_kth(numbers: &[u16], starts: &[u32], subnets: u16, r: u16, s: u16, a: u16, b: u16) -> bool
-    ensures { λ x. ⌜ ((c : Card) → Loaded c (now (numbers .entry)) (now (starts .entry)) → subnets ≡ length (c .subnets) → length (children c r) ≡ length (children c s) → x ≡ any (length (children c r)) (λ k. eqb a (child c r k) && eqb b (child c s k))) ⌝ }
-{
-    if !is_child(numbers, starts, subnets, r, a) {
-        return false;
-    }
-    let k = rank(numbers, starts, subnets, r, a);
-    is_kth(numbers, starts, subnets, s, k, b)
-}
-
 // Whether subnets a and b are r and s themselves, or the k-th child of both.
 fn alike_subnets(
     numbers: &[u16],
     starts: &[u32],
     subnets: u16,
+    ranks: &[u16],
     r: u16,
     s: u16,
     a: u16,
     b: u16,
 ) -> bool
-    ensures { λ x. ⌜ ((c : Card) → Loaded c (now (numbers .entry)) (now (starts .entry)) → subnets ≡ length (c .subnets) → length (children c r) ≡ length (children c s) → x ≡ eqb a r && eqb b s || any (length (children c r)) (λ k. eqb a (child c r k) && eqb b (child c s k))) ⌝ }
+    ensures { λ x. ⌜ ((c : Card) → Loaded c (now (numbers .entry)) (now (starts .entry)) → subnets ≡ length (c .subnets) → Ranked c (now (ranks .entry)) → length (children c r) ≡ length (children c s) → x ≡ eqb a r && eqb b s || bothKth c r s a b) ⌝ }
 {
     if a != r {
-        return both_kth(numbers, starts, subnets, r, s, a, b);
+        return both_kth(numbers, starts, subnets, ranks, r, s, a, b);
     }
     if b != s {
-        return both_kth(numbers, starts, subnets, r, s, a, b);
+        return both_kth(numbers, starts, subnets, ranks, r, s, a, b);
     }
     true
 }
@@ -175,13 +122,14 @@ fn alike_arc(
     numbers: &[u16],
     starts: &[u32],
     subnets: u16,
+    ranks: &[u16],
     r: u16,
     s: u16,
     t: u32,
     u: u32,
     j: u16,
 ) -> bool
-    ensures { λ x. ⌜ ((c : Card) → Loaded c (now (numbers .entry)) (now (starts .entry)) → subnets ≡ length (c .subnets) → length (children c r) ≡ length (children c s) → (a b : Arc) → ArcThere (now (numbers .entry)) t j a → ArcThere (now (numbers .entry)) u j b → x ≡ alikeArcs c r s a b) ⌝ }
+    ensures { λ x. ⌜ ((c : Card) → Loaded c (now (numbers .entry)) (now (starts .entry)) → subnets ≡ length (c .subnets) → Ranked c (now (ranks .entry)) → length (children c r) ≡ length (children c s) → (a b : Arc) → ArcThere (now (numbers .entry)) t j a → ArcThere (now (numbers .entry)) u j b → x ≡ alikeArcs c r s a b) ⌝ }
 {
     if arc_direction(numbers, t, j) != arc_direction(numbers, u, j) {
         return false;
@@ -194,10 +142,10 @@ fn alike_arc(
     }
     let a = arc_subnet(numbers, t, j);
     let b = arc_subnet(numbers, u, j);
-    alike_subnets(numbers, starts, subnets, r, s, a, b)
+    alike_subnets(numbers, starts, subnets, ranks, r, s, a, b)
 }
 
-// Where transition k of subnet s begins.
+// Where transition k of subnet s begins. Tables that are no card's may start it past all numbers.
 fn row_of_transition(starts: &[u32], s: u16, k: u16) -> u32
     ensures { λ x. ⌜ ((c : Card) → Indexed c (now (starts .entry)) → s < length (c .subnets) → k < (subnetAt c s) .transitions → x ≡ transitionRow c s (firstTransition c s + k)) ⌝ }
 {
@@ -208,19 +156,26 @@ fn row_of_transition(starts: &[u32], s: u16, k: u16) -> u32
     0
 }
 
-// Whether transition k is alike in subnets r and s.
-fn alike_transition(numbers: &[u16], starts: &[u32], subnets: u16, r: u16, s: u16, k: u16) -> bool
-    ensures { λ x. ⌜ ((c : Card) → Loaded c (now (numbers .entry)) (now (starts .entry)) → subnets ≡ length (c .subnets) → length (children c r) ≡ length (children c s) → r < length (c .subnets) → s < length (c .subnets) → k < (subnetAt c r) .transitions → k < (subnetAt c s) .transitions → x ≡ alikeTransitions c r s (firstTransition c r + k) (firstTransition c s + k)) ⌝ }
+// Whether the transitions, of subnets r and s, whose rows begin at t and u have as many arcs, each two alike.
+fn alike_arcs(
+    numbers: &[u16],
+    starts: &[u32],
+    subnets: u16,
+    ranks: &[u16],
+    r: u16,
+    s: u16,
+    t: u32,
+    u: u32,
+) -> bool
+    ensures { λ x. ⌜ ((c : Card) → Loaded c (now (numbers .entry)) (now (starts .entry)) → subnets ≡ length (c .subnets) → Ranked c (now (ranks .entry)) → length (children c r) ≡ length (children c s) → (v w : ℕ) → Lists c r v → Lists c s w → t ≡ transitionRow c r v → u ≡ transitionRow c s w → x ≡ alikeTransitions c r s v w) ⌝ }
 {
-    let t = row_of_transition(starts, r, k);
-    let u = row_of_transition(starts, s, k);
     let arcs = arc_count(numbers, t);
     if arcs != arc_count(numbers, u) {
         return false;
     }
     let mut j = 0;
     while j < arcs {
-        if !alike_arc(numbers, starts, subnets, r, s, t, u, j) {
+        if !alike_arc(numbers, starts, subnets, ranks, r, s, t, u, j) {
             return false;
         }
         j += 1;
@@ -229,8 +184,15 @@ fn alike_transition(numbers: &[u16], starts: &[u32], subnets: u16, r: u16, s: u1
 }
 
 // Whether subnets r and s have as many transitions, each two alike.
-fn alike_transitions(numbers: &[u16], starts: &[u32], subnets: u16, r: u16, s: u16) -> bool
-    ensures { λ x. ⌜ ((c : Card) → Loaded c (now (numbers .entry)) (now (starts .entry)) → subnets ≡ length (c .subnets) → length (children c r) ≡ length (children c s) → r < length (c .subnets) → s < length (c .subnets) → x ≡ eqb ((subnetAt c r) .transitions) ((subnetAt c s) .transitions) && every ((subnetAt c r) .transitions) (λ k. alikeTransitions c r s (firstTransition c r + k) (firstTransition c s + k))) ⌝ }
+fn alike_transitions(
+    numbers: &[u16],
+    starts: &[u32],
+    subnets: u16,
+    ranks: &[u16],
+    r: u16,
+    s: u16,
+) -> bool
+    ensures { λ x. ⌜ ((c : Card) → Loaded c (now (numbers .entry)) (now (starts .entry)) → subnets ≡ length (c .subnets) → Ranked c (now (ranks .entry)) → length (children c r) ≡ length (children c s) → r < length (c .subnets) → s < length (c .subnets) → x ≡ transitionsAlike c r s) ⌝ }
 {
     let transitions = transition_count(numbers, subnet_row(starts, r));
     if transitions != transition_count(numbers, subnet_row(starts, s)) {
@@ -238,7 +200,9 @@ fn alike_transitions(numbers: &[u16], starts: &[u32], subnets: u16, r: u16, s: u
     }
     let mut k = 0;
     while k < transitions {
-        if !alike_transition(numbers, starts, subnets, r, s, k) {
+        let t = row_of_transition(starts, r, k);
+        let u = row_of_transition(starts, s, k);
+        if !alike_arcs(numbers, starts, subnets, ranks, r, s, t, u) {
             return false;
         }
         k += 1;
@@ -246,35 +210,35 @@ fn alike_transitions(numbers: &[u16], starts: &[u32], subnets: u16, r: u16, s: u
     true
 }
 
-fn alike(numbers: &[u16], starts: &[u32], subnets: u16, r: u16, s: u16) -> bool
-    ensures { λ x. ⌜ ((c : Card) → Loaded c (now (numbers .entry)) (now (starts .entry)) → subnets ≡ length (c .subnets) → r < length (c .subnets) → s < length (c .subnets) → x ≡ alike c r s) ⌝ }
+fn alike(numbers: &[u16], starts: &[u32], subnets: u16, ranks: &[u16], r: u16, s: u16) -> bool
+    ensures { λ x. ⌜ ((c : Card) → Loaded c (now (numbers .entry)) (now (starts .entry)) → subnets ≡ length (c .subnets) → Ranked c (now (ranks .entry)) → r < length (c .subnets) → s < length (c .subnets) → x ≡ alike c r s) ⌝ }
 {
     if !alike_places(numbers, starts, r, s) {
         return false;
     }
-    if !alike_children(numbers, starts, subnets, r, s) {
+    if !alike_children(numbers, starts, subnets, ranks, r, s) {
         return false;
     }
-    alike_transitions(numbers, starts, subnets, r, s)
+    alike_transitions(numbers, starts, subnets, ranks, r, s)
 }
 
 // Whether subnet s is of another type than r, or of type 0, or like it.
-fn like(numbers: &[u16], starts: &[u32], subnets: u16, r: u16, s: u16) -> bool
-    ensures { λ x. ⌜ ((c : Card) → Loaded c (now (numbers .entry)) (now (starts .entry)) → subnets ≡ length (c .subnets) → r < length (c .subnets) → s < length (c .subnets) → x ≡ not (sameType c r s) || alike c r s) ⌝ }
+fn like(numbers: &[u16], starts: &[u32], subnets: u16, ranks: &[u16], r: u16, s: u16) -> bool
+    ensures { λ x. ⌜ ((c : Card) → Loaded c (now (numbers .entry)) (now (starts .entry)) → subnets ≡ length (c .subnets) → Ranked c (now (ranks .entry)) → r < length (c .subnets) → s < length (c .subnets) → x ≡ not (sameType c r s) || alike c r s) ⌝ }
 {
     if !same_type(numbers, starts, r, s) {
         return true;
     }
-    alike(numbers, starts, subnets, r, s)
+    alike(numbers, starts, subnets, ranks, r, s)
 }
 
 // Whether subnet s is like each lower one of its type.
-fn like_lower(numbers: &[u16], starts: &[u32], subnets: u16, s: u16) -> bool
-    ensures { λ x. ⌜ ((c : Card) → Loaded c (now (numbers .entry)) (now (starts .entry)) → subnets ≡ length (c .subnets) → s < length (c .subnets) → x ≡ likeLower c s) ⌝ }
+fn like_lower(numbers: &[u16], starts: &[u32], subnets: u16, ranks: &[u16], s: u16) -> bool
+    ensures { λ x. ⌜ ((c : Card) → Loaded c (now (numbers .entry)) (now (starts .entry)) → subnets ≡ length (c .subnets) → Ranked c (now (ranks .entry)) → s < length (c .subnets) → x ≡ likeLower c s) ⌝ }
 {
     let mut r = 0;
     while r < s {
-        if !like(numbers, starts, subnets, r, s) {
+        if !like(numbers, starts, subnets, ranks, r, s) {
             return false;
         }
         r += 1;
@@ -284,11 +248,12 @@ fn like_lower(numbers: &[u16], starts: &[u32], subnets: u16, s: u16) -> bool
 
 // The first subnet that is unlike a lower one of its type.
 pub fn types_fault(numbers: &[u16], starts: &[u32], subnets: u16) -> Finding
-    ensures { λ r. ⌜ ((c : Card) → Loaded c (now (numbers .entry)) (now (starts .entry)) → subnets ≡ length (c .subnets) → findingOf r ≡ firstOf 0 (length (c .subnets)) (λ s. faultUnless (subnetBit c s) (likeLower c s) Unlike)) ⌝ }
+    ensures { λ r. ⌜ ((c : Card) → Loaded c (now (numbers .entry)) (now (starts .entry)) → subnets ≡ length (c .subnets) → length (c .subnets) ≤ 32 → findingOf r ≡ firstOf 0 (length (c .subnets)) (λ s. faultUnless (subnetBit c s) (likeLower c s) Unlike)) ⌝ }
 {
+    let ranks = all_ranks(numbers, starts, subnets);
     let mut s = 0;
     while s < subnets {
-        if !like_lower(numbers, starts, subnets, s) {
+        if !like_lower(numbers, starts, subnets, &ranks, s) {
             return Finding::Fault(CardFault::Unlike, subnet_bit(starts, s) as usize);
         }
         s += 1;

@@ -36,35 +36,35 @@ cast-t9 c = search needs
 
 returns : tie.Need-returns Inv-loop μ-loop
 returns c =
-    let a = (c .before .before .before .before .before .before .before .args) in
-    let x = (c .before .before .has-interface) in
-    let z = (c .before .before .before .before .loop) in
-    let y = (c .subnet-bit) in
-    λ d h e. let l : z .i < length (d .subnets) = omega (arith, e, (c .before .before .before .loop-test) .taken) in
+    let a = c .before .before .before .before .before .before .before .args in
+    let x = c .before .before .has-interface in
+    let z = c .before .before .before .before .loop in
+    let y = c .subnet-bit in
+    λ d h e. let l : z .i < length (d .subnets) = omega (arith, e, c .before .before .before .loop-test .taken) in
     first-fails (length (d .subnets)) (z .i) (subnetBit d) (interfaced d) NoInterface (y .result) (z .inv .1 d h e) l
-    (later-interfaced d (z .i) (z .inv .0) ∙ test-fails (x .result) _ (x .ensures d h l) ((c .before .if1) .taken))
+    (later-interfaced d (z .i) (z .inv .0) ∙ test-fails (x .result) _ (x .ensures d h l) (c .before .if1 .taken))
     (bit-of d (now (a .numbers)) (now (a .starts)) h (z .i) (y .result) l (y .ensures))
 
 add-i : tie.Need-add-i Inv-loop μ-loop
 add-i c = search needs
 
 loop-less : tie.Need-loop-less Inv-loop μ-loop
-loop-less c = omega (arith, (c .before .before .loop-test) .taken)
+loop-less c = omega (arith, c .before .before .loop-test .taken)
 
 loop-again : tie.Need-loop-again Inv-loop μ-loop
 loop-again c =
-    let a = (c .before .before .before .before .before .before .args) in
-    let x = (c .before .has-interface) in
-    let z = (c .before .before .before .loop) in (
+    let a = c .before .before .before .before .before .before .args in
+    let x = c .before .has-interface in
+    let z = c .before .before .before .loop in (
       omega arith,
       λ d h e. below-more (z .i) (interfaced d) true (z .inv .1 d h e)
-          (later-interfaced d (z .i) (z .inv .0) ∙ test-holds (x .result) _ (x .ensures d h (omega (arith, e, (c .before .before .loop-test) .taken))) ((c .if1) .left)),
+          (later-interfaced d (z .i) (z .inv .0) ∙ test-holds (x .result) _ (x .ensures d h (omega (arith, e, c .before .before .loop-test .taken))) (c .if1 .left)),
     )
 
 returns-2 : tie.Need-returns-2 Inv-loop μ-loop
 returns-2 c =
-    let z = (c .before .loop) in
-    λ d h e. first-passes (length (d .subnets)) (z .i) (subnetBit d) (interfaced d) NoInterface (z .inv .1 d h e) (omega (arith, e, (c .loop-test) .left))
+    let z = c .before .loop in
+    λ d h e. first-passes (length (d .subnets)) (z .i) (subnetBit d) (interfaced d) NoInterface (z .inv .1 d h e) (omega (arith, e, c .loop-test .left))
 
 pub interfaces-fault-spec : {M : Type 1} → statement M
 interfaces-fault-spec =

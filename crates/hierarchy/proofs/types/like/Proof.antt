@@ -11,19 +11,19 @@ same-type-requires c κs = search needs
 
 returns : tie.Need-returns
 returns c =
-    let a = (c .before .before .before .before .args) in
-    let x = (c .before .same-type) in
-    λ d h e l m. of-another (x .result) (sameType d (a .r) (a .s)) (alike d (a .r) (a .s)) (x .ensures d h l m) ((c .if1) .taken)
+    let a = c .before .before .before .before .before .args in
+    let x = c .before .same-type in
+    λ d h e k l m. of-another (x .result) (sameType d (a .r) (a .s)) (alike d (a .r) (a .s)) (x .ensures d h l m) (c .if1 .taken)
 
 alike-requires : tie.Need-alike-requires
 alike-requires c κs = search needs
 
 returns-2 : tie.Need-returns-2
 returns-2 c =
-    let a = (c .before .before .before .before .before .args) in
-    let x = (c .before .before .same-type) in
-    let y = (c .alike) in
-    λ d h e l m. of-its (x .result) (y .result) (sameType d (a .r) (a .s)) (alike d (a .r) (a .s)) (x .ensures d h l m) ((c .before .if1) .left) (y .ensures d h e l m)
+    let a = c .before .before .before .before .before .before .args in
+    let x = c .before .before .same-type in
+    let y = c .alike in
+    λ d h e k l m. of-its (x .result) (y .result) (sameType d (a .r) (a .s)) (alike d (a .r) (a .s)) (x .ensures d h l m) (c .before .if1 .left) (y .ensures d h e k l m)
 
 pub like-spec : {M : Type 1} → statement M
 like-spec = tie.close (tie.spec same-type-requires returns alike-requires returns-2)

@@ -25,16 +25,16 @@ transition-row-requires c κs = search needs
 
 returns : tie.Need-returns
 returns c =
-    let a = (c .before .before .before .before .args) in
-    let x = (c .before .before .first-transition) in
-    let y = (c .transition-row) in
+    let a = c .before .before .before .before .args in
+    let x = c .before .before .first-transition in
+    let y = c .transition-row in
     λ d h l m. y .ensures ∙ transition-start d (now (a .starts)) h (a .s) (a .k) (x .result) l m (x .ensures)
 
 returns-2 : tie.Need-returns-2
 returns-2 c =
-    let a = (c .before .before .before .args) in
-    let x = (c .before .first-transition) in
-    λ d h l m. absurd (omega (arith, (c .if1) .left, (c .before .before .shared-slice-known) .given (99 + (a .s + 1)), transition-fits d (now (a .starts)) h (a .s) (a .k) (x .result) l m (x .ensures)))
+    let a = c .before .before .before .args in
+    let x = c .before .first-transition in
+    λ d h l m. absurd (omega (arith, c .if1 .left, c .before .before .shared-slice-known .given (99 + (a .s + 1)), transition-fits d (now (a .starts)) h (a .s) (a .k) (x .result) l m (x .ensures)))
 
 pub row-of-transition-spec : {M : Type 1} → statement M
 row-of-transition-spec =

@@ -21,27 +21,27 @@ subnet-type-requires-2 c κs = search needs
 
 returns : tie.Need-returns
 returns c =
-    let a = (c .before .before .before .before .before .before .before .args) in
-    let p = (c .before .before .before .before .subnet-row) in
-    let q = (c .before .before .subnet-row2) in
-    let x = (c .before .before .before .subnet-type) in
-    let y = (c .before .subnet-type2) in
+    let a = c .before .before .before .before .before .before .before .args in
+    let p = c .before .before .before .before .subnet-row in
+    let q = c .before .before .subnet-row2 in
+    let x = c .before .before .before .subnet-type in
+    let y = c .before .subnet-type2 in
     λ d h l m. other-type d (a .r) (a .s) (x .result) (y .result)
     (type-of d (now (a .numbers)) (now (a .starts)) h (a .r) (p .result) (x .result) l (p .ensures) (x .ensures))
     (type-of d (now (a .numbers)) (now (a .starts)) h (a .s) (q .result) (y .result) m (q .ensures) (y .ensures))
-    ((c .if1) .taken)
+    (c .if1 .taken)
 
 returns-2 : tie.Need-returns-2
 returns-2 c =
-    let a = (c .before .before .before .before .before .before .before .args) in
-    let p = (c .before .before .before .before .subnet-row) in
-    let q = (c .before .before .subnet-row2) in
-    let x = (c .before .before .before .subnet-type) in
-    let y = (c .before .subnet-type2) in
+    let a = c .before .before .before .before .before .before .before .args in
+    let p = c .before .before .before .before .subnet-row in
+    let q = c .before .before .subnet-row2 in
+    let x = c .before .before .before .subnet-type in
+    let y = c .before .subnet-type2 in
     λ d h l m. one-type d (a .r) (a .s) (x .result) (y .result)
     (type-of d (now (a .numbers)) (now (a .starts)) h (a .r) (p .result) (x .result) l (p .ensures) (x .ensures))
     (type-of d (now (a .numbers)) (now (a .starts)) h (a .s) (q .result) (y .result) m (q .ensures) (y .ensures))
-    ((c .if1) .left)
+    (c .if1 .left)
 
 pub same-type-spec : {M : Type 1} → statement M
 same-type-spec =

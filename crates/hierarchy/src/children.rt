@@ -1,0 +1,129 @@
+// The children of a subnet, by their ranks.
+use card::tables::parent;
+use card::tables::subnet_row;
+ghost use mathlib.Core.Path.{_≡_};
+ghost use mathlib.Core.Bool.{_&&_};
+ghost use Prim.Native.Nat.{_≤_, _<_};
+ghost use lib.ListN.{length, getD};
+ghost use lib.Dec.{eqb};
+ghost use Rattle.card.specs.Card.{Card};
+ghost use Rattle.card.specs.Index.{Loaded};
+ghost use Rattle.hierarchy.specs.Conditions.{isChild, children, child};
+ghost use Rattle.hierarchy.specs.Ranks.{one, rank, Ranked};
+ghost use Rattle.hierarchy.specs.Likeness.{bothKth};
+
+fn one(yes: bool) -> u16
+    ensures { λ x. ⌜ x ≡ one yes ⌝ }
+{
+    if yes { 1 } else { 0 }
+}
+
+pub fn is_child(numbers: &[u16], starts: &[u32], subnets: u16, i: u16, j: u16) -> bool
+    ensures { λ x. ⌜ ((c : Card) → Loaded c (now (numbers .entry)) (now (starts .entry)) → subnets ≡ length (c .subnets) → x ≡ isChild c i j) ⌝ }
+{
+    if j == i {
+        return false;
+    }
+    if subnets <= j {
+        return false;
+    }
+    parent(numbers, subnet_row(starts, j)) == i
+}
+
+// How many children of subnet i are below j.
+pub fn rank(numbers: &[u16], starts: &[u32], subnets: u16, i: u16, j: u16) -> u16
+    ensures { λ x. ⌜ ((c : Card) → Loaded c (now (numbers .entry)) (now (starts .entry)) → subnets ≡ length (c .subnets) → x ≡ rank c i j) ⌝ }
+{
+    let mut n = 0;
+    let mut h = 0;
+    while h < j {
+        n += one(is_child(numbers, starts, subnets, i, h));
+        h += 1;
+    }
+    n
+}
+
+// The rank of each subnet among the children of its parent, made once, so that comparing two arcs counts no children. A card has at most 32
+// subnets.
+pub fn all_ranks(numbers: &[u16], starts: &[u32], subnets: u16) -> [u16; 32]
+    ensures { λ x. ⌜ ((c : Card) → Loaded c (now (numbers .entry)) (now (starts .entry)) → subnets ≡ length (c .subnets) → length (c .subnets) ≤ 32 → Ranked c x) ⌝ }
+{
+    let mut ranks = [0; 32];
+    let mut j = 0;
+    while j < subnets {
+        if 32 <= j {
+            return ranks;
+        }
+        let i = parent(numbers, subnet_row(starts, j));
+        ranks[j as usize] = rank(numbers, starts, subnets, i, j);
+        j += 1;
+    }
+    ranks
+}
+
+fn rank_at(ranks: &[u16], j: u16) -> u16
+    ensures { λ x. ⌜ x ≡ getD (now (ranks .entry)) j 0 ⌝ }
+{
+    if (j as usize) < ranks.len() {
+        return ranks[j as usize];
+    }
+    0
+}
+
+// Whether subnet j is the k-th child of subnet i.
+fn is_kth(
+    numbers: &[u16],
+    starts: &[u32],
+    subnets: u16,
+    ranks: &[u16],
+    i: u16,
+    k: u16,
+    j: u16,
+) -> bool
+    ensures { λ x. ⌜ ((c : Card) → Loaded c (now (numbers .entry)) (now (starts .entry)) → subnets ≡ length (c .subnets) → Ranked c (now (ranks .entry)) → x ≡ isChild c i j && eqb (rank c i j) k) ⌝ }
+{
+    if !is_child(numbers, starts, subnets, i, j) {
+        return false;
+    }
+    rank_at(ranks, j) == k
+}
+
+pub fn kth_child(
+    numbers: &[u16],
+    starts: &[u32],
+    subnets: u16,
+    ranks: &[u16],
+    i: u16,
+    k: u16,
+) -> u16
+    ensures { λ x. ⌜ ((c : Card) → Loaded c (now (numbers .entry)) (now (starts .entry)) → subnets ≡ length (c .subnets) → Ranked c (now (ranks .entry)) → k < length (children c i) → x ≡ child c i k) ⌝ }
+{
+    let mut j = 0;
+    while j < subnets {
+        if is_kth(numbers, starts, subnets, ranks, i, k, j) {
+            return j;
+        }
+        j += 1;
+    }
+    0
+}
+
+// Whether subnet a is the k-th child of r and b the k-th of s, for one k.
+pub fn both_kth(
+    numbers: &[u16],
+    starts: &[u32],
+    subnets: u16,
+    ranks: &[u16],
+    r: u16,
+    s: u16,
+    a: u16,
+    b: u16,
+) -> bool
+    ensures { λ x. ⌜ ((c : Card) → Loaded c (now (numbers .entry)) (now (starts .entry)) → subnets ≡ length (c .subnets) → Ranked c (now (ranks .entry)) → length (children c r) ≡ length (children c s) → x ≡ bothKth c r s a b) ⌝ }
+{
+    if !is_child(numbers, starts, subnets, r, a) {
+        return false;
+    }
+    let k = rank_at(ranks, a);
+    is_kth(numbers, starts, subnets, ranks, s, k, b)
+}
