@@ -230,7 +230,8 @@ fn subnet_fault(
     Finding::Nothing
 }
 
-// The first fault of 10 to 14 over all subnets, by subnet, transition and arc.
+// The first fault of 10 to 14 over all subnets, by subnet, transition and arc. Two wrong passes that this rules out: one that lets a subnet
+// see the interface places of its children's children, and one that tests weights before directions.
 pub fn arcs_fault(numbers: &[u16], starts: &[u32], subnets: u16) -> Finding
     ensures { λ r. ⌜ ((c : Card) → Loaded c (now (numbers .entry)) (now (starts .entry)) → subnets ≡ length (c .subnets) → findingOf r ≡ firstOf 0 (length (c .subnets)) (subnetFault c)) ⌝ }
 {

@@ -4,8 +4,6 @@ mod arcs;
 mod children;
 mod interfaces;
 mod types;
-mod interfaces;
-mod types;
 
 // Why a card is turned back: its format is at fault, or its hierarchy is. specs/Numbers.antt gives the paper's number of each.
 pub enum CardFault {

@@ -25,13 +25,13 @@ parent-requires : tie.Need-parent-requires
 parent-requires c κs = search needs
 
 returns-4 : tie.Need-returns-4
-returns-4 c = let x = c .before .before .before .before .before .before .before .before .before .before .before .before .args in λ d l e. no-child l (x .i) (arcOf (x .a)) (omega (arith, c .before .before .before .before .before .before .before .before .if1 .left, e)) (c .before .before .before .before .before .before .before .subnet-row .ensures) (c .before .before .before .before .before .before .place-count .ensures) (c .before .before .before .before .if2 .left) (c .before .before .if3 .left) (c .before .parent .ensures) (c .if4 .taken)
+returns-4 c = let x = c .before .before .before .before .before .before .before .before .before .before .before .before .args in λ d l e. no-child l (x .i) (arcOf (x .a)) (omega (arith, c .before .before .before .before .before .before .before .before .if1 .left, e)) (c .before .before .before .before .before .before .before .subnet-row .ensures) (c .before .before .before .before .before .before .place-count .ensures) (c .before .before .before .before .if2 .left) (c .before .before .if3 .left) (c .before .parent .ensures) (λ z. omega (arith, z, c .if4 .taken))
 
 kind-requires : tie.Need-kind-requires
 kind-requires c κs = search needs
 
 returns-5 : tie.Need-returns-5
-returns-5 c = let x = c .before .before .before .before .before .before .before .before .before .before .before .before .before .args in λ d l e. child-place l (x .i) (arcOf (x .a)) (omega (arith, c .before .before .before .before .before .before .before .before .before .if1 .left, e)) (c .before .before .before .before .before .before .before .before .subnet-row .ensures) (c .before .before .before .before .before .before .before .place-count .ensures) (c .before .before .before .before .before .if2 .left) (c .before .before .before .if3 .left) (c .before .before .parent .ensures) (c .before .if4 .left) (c .kind .ensures)
+returns-5 c = let x = c .before .before .before .before .before .before .before .before .before .before .before .before .before .args in λ d l e. child-place l (x .i) (arcOf (x .a)) (omega (arith, c .before .before .before .before .before .before .before .before .before .if1 .left, e)) (c .before .before .before .before .before .before .before .before .subnet-row .ensures) (c .before .before .before .before .before .before .before .place-count .ensures) (c .before .before .before .before .before .if2 .left) (c .before .before .before .if3 .left) (c .before .before .parent .ensures) (omega (arith, c .before .if4 .left)) (c .kind .ensures)
 
 pub seen-spec : {M : Type 1} → statement M
 seen-spec =
