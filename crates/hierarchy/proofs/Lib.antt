@@ -7,3 +7,4 @@ pub mod Sharing
 pub mod Accepted
 pub mod FirstLaws
 pub mod ArcLaws
+pub mod CheckLaws

@@ -1,15 +1,25 @@
 -- What becomes of a card's bytes, and of the tables of a card to be written: pass one, then pass two ('Why a card is turned back').
 use Prim.Native.Nat.{ℕ}
+use mathlib.Core.Path.{_≡_}
 use mathlib.Core.List.{List}
 use mathlib.Core.Option.{Option, none, some}
 use lib.ListN.{length}
+use Rattle.card.specs.Finite.{table}
 use Rattle.card.specs.Card.{Card}
+use Rattle.card.specs.Tables.{tableSize}
+use Rattle.card.specs.Index.{startsSize, Loaded}
 use Rattle.card.specs.Reading.{Reading, readCard}
 use Rattle.card.specs.Reading
 use Rattle.card.specs.Writing.{readTables}
-use Rattle.hierarchy.specs.Numbers.{number, CheckOutcome}
+use Rattle.hierarchy.specs.Numbers.{number, CheckOutcome, checkOutcome}
 use Rattle.hierarchy.specs.Numbers
 use Rattle.hierarchy.specs.Check.{Found, check}
+use Rattle.card.specs.declared.reader.ReadAnswer.{ReadAnswer}
+use Rattle.card.specs.declared.reader.ReadAnswer.the-variants.{Whole, Refused as NotRead}
+use Rattle.hierarchy.specs.declared.Answer.the-variants.{Refused}
+use Rattle.hierarchy.specs.declared.CardFault.{CardFault}
+use Rattle.hierarchy.specs.declared.CardFault.the-variants.{Format}
+use Rattle.hierarchy.specs.declared.check.CheckedCard.{CheckedCard}
 
 -- accepted: the card; refused: the paper's number and the bit
 pub data Judgement : Type 0 where
@@ -39,3 +49,22 @@ outcomeOf (refused n at) = Numbers.CheckOutcome.refused n at
 -- the check's answer
 abbrev pub answer : (bytes : List ℕ) → CheckOutcome
 answer bytes = outcomeOf (judge bytes)
+
+-- the tables of an accepted card, for the layer above; of a refused one, zeros
+abbrev pub Tables : Judgement → (numbers starts : List ℕ) → Type 0
+Tables (accepted c) numbers starts = Loaded c numbers starts
+Tables (refused n at) numbers starts = (numbers ≡ table 0 tableSize (λ i. 0)) × (starts ≡ table 0 startsSize (λ i. 0))
+
+pub record IsChecked (x : Judgement) (r : CheckedCard) : Type 0 where
+  pub answer : checkOutcome (r .answer) ≡ outcomeOf x
+  pub tables : Tables x (r .numbers) (r .starts)
+
+-- a refusal, with empty tables; and one of the layer below
+pub record IsTurnedBack (f : CardFault) (at : ℕ) (r : CheckedCard) : Type 0 where
+  pub answer : r .answer ≡ Refused f at
+  pub numbers : r .numbers ≡ table 0 tableSize (λ i. 0)
+  pub starts : r .starts ≡ table 0 startsSize (λ i. 0)
+
+abbrev pub HandedOn : ReadAnswer → CheckedCard → Type 0
+HandedOn (NotRead f at) r = IsTurnedBack (Format f) at r
+HandedOn (Whole k) r = Unit {0}

@@ -2,26 +2,32 @@
 -- sentence).
 use Prim.Native.Nat.{ℕ}
 use mathlib.Core.Bool.{Bool, true, false}
-use mathlib.Core.List.{List, _++_}
-use lib.ListN.{length, drop}
-use lib.Dec.{ltb}
+use mathlib.Core.List.{List}
+use lib.ListN.{length}
+use lib.Dec.{leb}
 use Rattle.card.specs.Card.{Card}
 use Rattle.card.specs.Writing.{encode}
+use Rattle.card.specs.Rows.{readRows}
+use Rattle.card.specs.Spelling.{putInto}
 use Rattle.hierarchy.specs.Numbers.{WriteOutcome, writeOutcome}
 use Rattle.hierarchy.specs.Numbers
-use Rattle.hierarchy.specs.Judgement.{Judgement, accepted, refused, judgeTables}
+use Rattle.hierarchy.specs.Judgement.{Judgement, accepted, refused, judged, judgeTables}
 use Rattle.hierarchy.specs.declared.Written.the-variants.{Wrote, Short}
 
--- 24 output buffer too short, with the length needed. A success leaves output bytes past the card's length untouched.
-abbrev pub putting : (short : Bool) → (bytes buffer : List ℕ) → WriteOutcome × List ℕ
-putting true bytes buffer = (writeOutcome (Short (length bytes)), buffer)
-putting false bytes buffer = (writeOutcome (Wrote (length bytes)), bytes ++ drop (length bytes) buffer)
+-- 24 output buffer too short, with the length needed
+abbrev pub fitted : (fits : Bool) → (length : ℕ) → WriteOutcome
+fitted true n = writeOutcome (Wrote n)
+fitted false n = writeOutcome (Short n)
 
--- Flattening and writing test 24 last. A refusal leaves buffers untouched.
+-- Flattening and writing test 24 last. A refusal leaves buffers untouched, a short buffer too.
 abbrev pub delivered : Judgement → (Card → List ℕ) → (buffer : List ℕ) → WriteOutcome × List ℕ
-delivered (accepted c) bytes buffer = putting (ltb (length buffer) (length (bytes c))) (bytes c) buffer
+delivered (accepted c) bytes buffer = (fitted (leb (length (bytes c)) (length buffer)) (length (bytes c)), putInto (bytes c) buffer)
 delivered (refused n at) bytes buffer = (Numbers.WriteOutcome.refused n at, buffer)
 
 -- the writer
 unfoldable pub write : (tables : Card) → (buffer : List ℕ) → WriteOutcome × List ℕ
 write c buffer = delivered (judgeTables c) encode buffer
+
+-- the writer, with the tables in lent slices, row after row; a slice that ends inside a row is 17 too
+unfoldable pub writeRows : (version signals : ℕ) → (subnets places transitions arcs buffer : List ℕ) → WriteOutcome × List ℕ
+writeRows version signals subnets places transitions arcs buffer = delivered (judged (readRows version signals subnets places transitions arcs)) encode buffer

@@ -1,0 +1,79 @@
+-- `hierarchy::check::load` meets its contract. Assumes nothing.
+use mathlib.Core.Path.{sym, ap, subst, _∙_}
+use denote.Ref.{now}
+use Rattle.card.specs.declared.reader.ReadAnswer.{ReadAnswer}
+use Rattle.hierarchy.specs.Judgement.{HandedOn}
+use Rattle.hierarchy.specs.Check.{findingOf}
+use Rattle.hierarchy.proofs.CheckLaws.{read-refused, check-refused, check-accepted}
+use borrow.Author.Needs.{needs}
+use Rattle.hierarchy.proofs.check.load.Statement.{statement}
+use Rattle.hierarchy.proofs.check.load.Tie as tie
+
+read-requires : tie.Need-read-requires
+read-requires c κs = search needs
+
+enum-known-a : tie.Need-enum-known-a
+enum-known-a c = search needs
+
+enum-told : tie.Need-enum-told
+enum-told c = search needs
+
+handed-on-requires : tie.Need-handed-on-requires
+handed-on-requires c κs = search needs
+
+returns : tie.Need-returns
+returns c = read-refused (now ((c .before .before .before .before .before .args) .card)) ((c .before .before .before .read) .result) ((c .before .before .before .read) .ensures) _ _ ((c .handed-on) .result) ((c .before .enum-told) .given .1) (subst (λ (x : ReadAnswer). HandedOn x ((c .handed-on) .result)) ((c .before .enum-told) .given .1) ((c .handed-on) .ensures))
+
+slice-aggregate-first-fault : tie.Need-slice-aggregate-first-fault
+slice-aggregate-first-fault c = search needs
+
+slice-aggregate-first-fault-2 : tie.Need-slice-aggregate-first-fault-2
+slice-aggregate-first-fault-2 c = search needs
+
+first-fault-requires : tie.Need-first-fault-requires
+first-fault-requires c κs = search needs
+
+enum-known-f : tie.Need-enum-known-f
+enum-known-f c = search needs
+
+turned-back-requires : tie.Need-turned-back-requires
+turned-back-requires c κs = search needs
+
+enum-told-2 : tie.Need-enum-told-2
+enum-told-2 c = search needs
+
+cast-t15 : tie.Need-cast-t15
+cast-t15 c = search needs
+
+cast-t16 : tie.Need-cast-t16
+cast-t16 c = search needs
+
+cast-t17 : tie.Need-cast-t17
+cast-t17 c = search needs
+
+returns-2 : tie.Need-returns-2
+returns-2 c = check-refused (now ((c .before .before .before .before .before .before .before .before .before .before .before .before .before .before .args) .card)) ((c .before .before .before .before .before .before .before .before .before .before .before .before .read) .result) ((c .before .before .before .before .before .before .before .before .before .before .before .before .read) .ensures) _ ((c .before .before .before .before .before .before .before .before .before .before .a) .given .1) _ _ ((c .turned-back) .result) (λ d l s w. sym (ap findingOf ((c .before .before .f) .given .1)) ∙ (c .before .before .before .before .first-fault) .ensures d l s w) ((c .turned-back) .ensures)
+
+returns-3 : tie.Need-returns-3
+returns-3 c = check-accepted (now ((c .before .before .before .before .before .before .before .before .before .before .before .before .before .before .before .args) .card)) ((c .before .before .before .before .before .before .before .before .before .before .before .before .before .read) .result) ((c .before .before .before .before .before .before .before .before .before .before .before .before .before .read) .ensures) _ ((c .before .before .before .before .before .before .before .before .before .before .before .a) .given .1) (λ d l s w. sym (ap findingOf ((c .before .before .before .enum-told2) .given .1)) ∙ (c .before .before .before .before .before .first-fault) .ensures d l s w)
+
+pub load-spec : {M : Type 1} → statement M
+load-spec =
+    tie.close
+    (tie.spec
+    read-requires
+    enum-known-a
+    enum-told
+    handed-on-requires
+    returns
+    slice-aggregate-first-fault
+    slice-aggregate-first-fault-2
+    first-fault-requires
+    enum-known-f
+    turned-back-requires
+    enum-told-2
+    cast-t15
+    cast-t16
+    cast-t17
+    returns-2
+    returns-3)

@@ -1,0 +1,93 @@
+// The check: pass one by the layer below, then pass two.
+use crate::Answer;
+use crate::CardFault;
+use crate::Finding;
+use crate::arcs::arcs_fault;
+use crate::interfaces::interfaces_fault;
+use crate::types::types_fault;
+use card::reader::ReadAnswer;
+use card::reader::read;
+ghost use mathlib.Core.Path.{_≡_};
+ghost use Prim.Native.Nat.{_≤_};
+ghost use lib.ListN.{length};
+ghost use Rattle.card.specs.Card.{Card};
+ghost use Rattle.card.specs.Index.{Loaded};
+ghost use Rattle.hierarchy.specs.Numbers.{checkOutcome};
+ghost use Rattle.hierarchy.specs.Check.{findingOf, check as firstFault};
+ghost use Rattle.hierarchy.specs.Judgement.{judge, answer, IsChecked, IsTurnedBack, HandedOn};
+
+// The answer, and an accepted card's two tables (see card::tables): its numbers, and where its rows begin.
+pub struct CheckedCard {
+    pub answer: Answer,
+    pub numbers: [u16; 33026],
+    pub starts: [u32; 644],
+}
+
+// The first fault of pass two.
+fn first_fault(numbers: &[u16], starts: &[u32], subnets: u16) -> Finding
+    ensures { λ r. ⌜ ((c : Card) → Loaded c (now (numbers .entry)) (now (starts .entry)) → subnets ≡ length (c .subnets) → length (c .subnets) ≤ 32 → findingOf r ≡ firstFault c) ⌝ }
+{
+    let a = arcs_fault(numbers, starts, subnets);
+    let Finding::Nothing = a else {
+        return a;
+    };
+    let b = interfaces_fault(numbers, starts, subnets);
+    let Finding::Nothing = b else {
+        return b;
+    };
+    types_fault(numbers, starts, subnets)
+}
+
+fn turned_back(f: CardFault, at: usize) -> CheckedCard
+    ensures { λ r. ⌜ IsTurnedBack f at r ⌝ }
+{
+    CheckedCard {
+        answer: Answer::Refused(f, at),
+        numbers: [0; 33026],
+        starts: [0; 644],
+    }
+}
+
+// A refusal of the layer below, handed on.
+fn handed_on(a: ReadAnswer) -> CheckedCard
+    ensures { λ r. ⌜ HandedOn a r ⌝ }
+{
+    match a {
+        ReadAnswer::Refused(f, at) => turned_back(CardFault::Format(f), at),
+        ReadAnswer::Whole(_k) => turned_back(CardFault::Format(card::FormatFault::Truncated), 0),
+    }
+}
+
+// Checks a card, for a caller that goes on with its tables. Two wrong checks that this rules out: one that hands on the tables of a card
+// that it refused, and one that looks at the types of subnets before their interface places.
+pub fn load(card: &[u8]) -> CheckedCard
+    ensures { λ r. ⌜ IsChecked (judge (now (card .entry))) r ⌝ }
+{
+    let r = read(card);
+    let a = r.answer;
+    let ReadAnswer::Whole(k) = a else {
+        return handed_on(a);
+    };
+    let numbers = r.numbers;
+    let starts = r.starts;
+    match first_fault(&numbers, &starts, k.subnets) {
+        Finding::Fault(f, at) => turned_back(f, at),
+        Finding::Nothing => CheckedCard {
+            answer: Answer::Accepted(
+                k.subnets as usize,
+                k.places as usize,
+                k.transitions as usize,
+            ),
+            numbers: numbers,
+            starts: starts,
+        },
+    }
+}
+
+// Checks a card. Two wrong checks that this rules out: one that invents the counts, and one that answers with a later fault.
+pub fn check(card: &[u8]) -> Answer
+    ensures { λ r. ⌜ checkOutcome r ≡ answer (now (card .entry)) ⌝ }
+{
+    let r = load(card);
+    r.answer
+}
