@@ -8,3 +8,4 @@ pub mod Accepted
 pub mod FirstLaws
 pub mod ArcLaws
 pub mod CheckLaws
+pub mod WriteLaws

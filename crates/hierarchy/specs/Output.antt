@@ -1,6 +1,7 @@
 -- A card's bytes in a lent buffer: the answer, and every byte that the buffer then holds ('Why a call is turned back', 24 and its last
 -- sentence).
 use Prim.Native.Nat.{ℕ}
+use mathlib.Core.Path.{_≡_}
 use mathlib.Core.Bool.{Bool, true, false}
 use mathlib.Core.List.{List}
 use lib.ListN.{length}
@@ -12,7 +13,13 @@ use Rattle.card.specs.Spelling.{putInto}
 use Rattle.hierarchy.specs.Numbers.{WriteOutcome, writeOutcome}
 use Rattle.hierarchy.specs.Numbers
 use Rattle.hierarchy.specs.Judgement.{Judgement, accepted, refused, judged, judgeTables}
-use Rattle.hierarchy.specs.declared.Written.the-variants.{Wrote, Short}
+use Rattle.hierarchy.specs.declared.Written.{Written}
+use Rattle.hierarchy.specs.declared.Written.the-variants.{Wrote, Refused as NotWritten, Short}
+use Rattle.hierarchy.specs.declared.Answer.{Answer}
+use Rattle.hierarchy.specs.declared.Answer.the-variants.{Accepted, Refused}
+use Rattle.hierarchy.specs.declared.CardFault.the-variants.{Format}
+use Rattle.card.specs.declared.writer.SpellAnswer.{SpellAnswer}
+use Rattle.card.specs.declared.writer.SpellAnswer.the-variants.{Whole, Refused as Unspelt}
 
 -- 24 output buffer too short, with the length needed
 abbrev pub fitted : (fits : Bool) → (length : ℕ) → WriteOutcome
@@ -31,3 +38,17 @@ write c buffer = delivered (judgeTables c) encode buffer
 -- the writer, with the tables in lent slices, row after row; a slice that ends inside a row is 17 too
 unfoldable pub writeRows : (version signals : ℕ) → (subnets places transitions arcs buffer : List ℕ) → WriteOutcome × List ℕ
 writeRows version signals subnets places transitions arcs buffer = delivered (judged (readRows version signals subnets places transitions arcs)) encode buffer
+
+-- an answer of the code, and what the buffer holds after the call
+pub record IsWritten (x : WriteOutcome × List ℕ) (r : Written) (buffer : List ℕ) : Type 0 where
+  pub answer : writeOutcome r ≡ x .0
+  pub bytes : buffer ≡ x .1
+
+-- refusals of the two halves, handed on
+abbrev pub SpellRefused : SpellAnswer → Written → Type 0
+SpellRefused (Unspelt f at) r = r ≡ NotWritten (Format f) at
+SpellRefused (Whole n) r = Unit {0}
+
+abbrev pub CheckRefused : Answer → Written → Type 0
+CheckRefused (Refused f at) r = r ≡ NotWritten f at
+CheckRefused (Accepted s p t) r = Unit {0}

@@ -5,6 +5,7 @@ pub mod check;
 mod children;
 mod interfaces;
 mod types;
+pub mod write;
 
 // Why a card is turned back: its format is at fault, or its hierarchy is. specs/Numbers.antt gives the paper's number of each.
 pub enum CardFault {
