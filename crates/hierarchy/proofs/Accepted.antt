@@ -1,6 +1,6 @@
 -- A card is accepted just where it is well formed and meets the conditions. Assumes nothing.
 use Prim.Native.Nat.{ℕ, _<_}
-use mathlib.Core.Path.{_≡_, refl, subst}
+use mathlib.Core.Path.{_≡_, refl, sym, ap, subst, _∙_}
 use mathlib.Core.List.{List}
 use mathlib.Core.Option.{Option, none, some}
 use mathlib.Core.Logic.{_↔_}
@@ -9,9 +9,9 @@ use lib.ListN.{getD}
 use Rattle.card.specs.Card.{Card}
 use Rattle.card.specs.Reading.{Reading, readCard}
 use Rattle.card.specs.Reading
-use Rattle.card.specs.Writing.{encode}
+use Rattle.card.specs.Writing.{encode, readTables}
 use Rattle.card.proofs.Ranges.{read-wellformed}
-use Rattle.card.proofs.RoundTrip.{write-read, wellformed-reads, wellformed-tables}
+use Rattle.card.proofs.RoundTrip.{read-write, write-read, wellformed-reads, wellformed-tables}
 use Rattle.hierarchy.specs.Conditions.{Meets}
 use Rattle.hierarchy.specs.Check.{Found, check}
 use Rattle.hierarchy.specs.Judgement.{accepted, refused, checked, judged, judge, judgeTables}
@@ -60,3 +60,24 @@ meets-written c m = rw (wellformed-tables c (m .wellformed), check-is c .1 (m .c
 pub accepted-iff : (bytes : List ℕ) → ((k : ℕ) → getD bytes k 0 < 256) → (c : Card) → (judge bytes ≡ accepted c) ↔ (Meets c × (encode c ≡ bytes))
 accepted-iff bytes small c =
     (λ e. (accepted-meets bytes c e, accepted-bytes bytes small c e), λ h. subst (λ (b : List ℕ). judge b ≡ accepted c) (h .1) (meets-accepted c (h .0)))
+
+-- `write-read` for accepted cards: the tables of a card that the check accepts are accepted, and make its bytes
+pub accepted-written : (bytes : List ℕ) → ((k : ℕ) → getD bytes k 0 < 256) → (c : Card) → judge bytes ≡ accepted c → (encode c ≡ bytes) × (judgeTables c ≡ accepted c)
+accepted-written bytes small c e = (accepted-bytes bytes small c e, meets-written c (accepted-meets bytes c e))
+
+-- `read-write` for accepted cards: the bytes of tables that the writer accepts are accepted, as the card that the tables are
+pub written-accepted : (c d : Card) → judgeTables c ≡ accepted d → (d ≡ c) × (judge (encode c) ≡ accepted c)
+unfolding judge judgeTables
+written-accepted c d e = go (readTables c) refl e
+  where
+    found : (x : Card) (end : ℕ) (y : Option Found) → readTables c ≡ Reading.whole x end → check x ≡ y → checked y x ≡ accepted d → (d ≡ c) × (judged (readCard (encode c)) ≡ accepted c)
+    found x end (some f) p q r = absurd (not-accepted _ _ _ r)
+    found x end none p q r =
+        let s : x ≡ d = cc in
+        let w = read-write c x end p in
+        let k : check c ≡ none = ap check (sym (w .0)) ∙ q in
+        (sym s ∙ w .0, rw (w .1 .reads, k))
+
+    go : (x : Reading Card) → readTables c ≡ x → judged x ≡ accepted d → (d ≡ c) × (judged (readCard (encode c)) ≡ accepted c)
+    go (Reading.refused n at) p q = absurd (not-accepted _ _ _ q)
+    go (Reading.whole x end) p q = found x end (check x) p refl q

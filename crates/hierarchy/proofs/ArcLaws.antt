@@ -11,12 +11,14 @@ use lib.Dec.{ltb, leb, eqb}
 use borrow.Author.Tests.{ltb-true, ltb-false, lt-ltb, le-ltb, lt-leb, le-leb, eq-eqb, ne-eqb, not-true, not-false}
 use Rattle.card.proofs.TableLaws.{no-yes}
 use Rattle.card.specs.Card.{Arc, Subnet, Card, subnetAt, placeAt, transitionAt, arcAt, firstPlace, firstTransition, placeOf}
-use Rattle.card.specs.Index.{ArcThere, Lists, Laid, Indexed, Loaded, subnetRow, placeField, arcField, transitionBitStart, transitionRowStart, firstTransitionStart}
+use Rattle.card.specs.Index.{ArcThere, Lists, Laid, Indexed, Loaded, placeField, arcField, transitionBitStart, transitionRowStart, firstTransitionStart}
 use Rattle.card.specs.Format.{size}
 use Rattle.card.specs.Grammar.{transition, arc}
 use Rattle.card.specs.Writing.{transitionBit, arcBit}
 use Rattle.card.specs.Finite.{sumTo, every, any, firstOf}
-use Rattle.hierarchy.proofs.FirstLaws.{every-more, every-fails, any-more, any-holds, none-at, Walked, walk-start, walk-on, walk-found, walk-end}
+use Rattle.hierarchy.proofs.WalkLaws.{every-none, any-one}
+use Rattle.hierarchy.proofs.LoadedLaws.{parent-of, places-of, kind-of, capacity-of}
+use Rattle.hierarchy.proofs.FirstLaws.{every-more, any-more, none-at, Walked, walk-start, walk-on, walk-found, walk-end}
 use Rattle.hierarchy.specs.Conditions.{IsPlace}
 use Rattle.hierarchy.specs.Arcs.{Begins, PlacesThere}
 use Rattle.hierarchy.specs.Check.{seen, takes, directed, weighted, repeats, single, hasUnit, Found, arcFault, transitionFault, subnetFault}
@@ -33,25 +35,17 @@ place-subnet c s n p = go (ltb s (length (c .subnets))) refl
         absurd (omega (arith, p, q))
 
 module _ {c : Card} {numbers starts : List ℕ} (l : Loaded c numbers starts) where
-  -- what stands at the row of a subnet that is there
-  at-row : (g : ℕ → ℕ) (s : ℕ) {row v w : ℕ} → row ≡ getD starts s 0 → v ≡ g row → s < length (c .subnets) → g (subnetRow c s) ≡ w → v ≡ w
-  at-row g s e f m h = f ∙ ap g (e ∙ l .indexed .subnetRow s m) ∙ h
-
   pub kind-is : (s n : ℕ) {row v : ℕ} → row ≡ getD starts s 0 → v ≡ getD numbers (placeField row n 0) 0 → IsPlace c s n → v ≡ (placeAt c (firstPlace c s + n)) .kind
-  kind-is s n e f p =
-      let m = place-subnet c s n p in
-      at-row (λ (r : ℕ). getD numbers (placeField r n 0) 0) s e f m ((l .laid .place s n m p) .kind)
+  kind-is s n {row} {v} e f p = kind-of c numbers starts l s row n v (place-subnet c s n p) p e f
 
   pub capacity-is : (s n : ℕ) {row v : ℕ} → row ≡ getD starts s 0 → v ≡ getD numbers (placeField row n 1) 0 → IsPlace c s n → v ≡ (placeAt c (firstPlace c s + n)) .capacity
-  capacity-is s n e f p =
-      let m = place-subnet c s n p in
-      at-row (λ (r : ℕ). getD numbers (placeField r n 1) 0) s e f m ((l .laid .place s n m p) .capacity)
+  capacity-is s n {row} {v} e f p = capacity-of c numbers starts l s row n v (place-subnet c s n p) p e f
 
   pub places-are : (s : ℕ) {row n : ℕ} → row ≡ getD starts s 0 → n ≡ getD numbers (row + 2) 0 → s < length (c .subnets) → n ≡ (subnetAt c s) .places
-  places-are s e f m = at-row (λ (r : ℕ). getD numbers (r + 2) 0) s e f m ((l .laid .subnet s m) .places)
+  places-are s {row} {n} e f m = places-of c numbers starts l s row n m e f
 
   pub parent-is : (s : ℕ) {row p : ℕ} → row ≡ getD starts s 0 → p ≡ getD numbers row 0 → s < length (c .subnets) → p ≡ (subnetAt c s) .parent
-  parent-is s e f m = at-row (λ (r : ℕ). getD numbers r 0) s e f m ((l .laid .subnet s m) .parent)
+  parent-is s {row} {p} e f m = parent-of c numbers starts l s row p m e f
 
   -- 10: no such subnet, no such place; an own place; a place of no child; a child's place
   module _ (i : ℕ) (a : Arc) where
@@ -206,7 +200,7 @@ module _ {numbers : List ℕ} {row j : ℕ} {a : Arc} {h : ℕ} (n : NoRepeat nu
 
     pub repeat-found : r ≡ true → (c : Card) → Laid c numbers → (i t : ℕ) → Begins c row i t → j < (transitionAt c t) .arcs → a ≡ arcAt c t j → false ≡ single c t j
     unfolding single
-    repeat-found f c l i t b m q = sym (every-fails j h _ k (ap not (sym (is-repeat c l i t b m q) ∙ f)))
+    repeat-found f c l i t b m q = sym (every-none j h _ k (ap not (sym (is-repeat c l i t b m q) ∙ f)))
 
   pub no-repeat-end : j ≤ h → (c : Card) → Laid c numbers → (i t : ℕ) → Begins c row i t → j < (transitionAt c t) .arcs → a ≡ arcAt c t j → true ≡ single c t j
   unfolding single
@@ -272,7 +266,7 @@ module _ {numbers starts : List ℕ} {row n j : ℕ} (u : NoUnitBelow numbers st
 
     pub unit-found : v ≡ 1 → (c : Card) → Loaded c numbers starts → (i t : ℕ) → Begins c row i t → n ≡ (transitionAt c t) .arcs → PlacesThere c t → true ≡ hasUnit c t
     unfolding hasUnit
-    unit-found f c l i t b m p = sym (any-holds ((transitionAt c t) .arcs) j _ (omega arith) (eq-eqb ((placeOf c (arcAt c t j)) .capacity) 1 (sym (capacity-at c l i t b m p) ∙ f)))
+    unit-found f c l i t b m p = sym (any-one ((transitionAt c t) .arcs) j _ (omega arith) (eq-eqb ((placeOf c (arcAt c t j)) .capacity) 1 (sym (capacity-at c l i t b m p) ∙ f)))
 
   pub no-unit-end : n ≤ j → (c : Card) → Loaded c numbers starts → (i t : ℕ) → Begins c row i t → n ≡ (transitionAt c t) .arcs → PlacesThere c t → false ≡ hasUnit c t
   unfolding hasUnit

@@ -1,12 +1,10 @@
 -- Searching and testing number after number. Assumes nothing.
-use Prim.Native.Nat.{ℕ, zero, suc, _+_, _-_, _≤_, _<_}
-use mathlib.Core.Path.{_≡_, refl, sym, ap, _∙_}
+use Prim.Native.Nat.{ℕ, suc, _+_, _-_, _≤_, _<_}
+use mathlib.Core.Path.{_≡_, sym, ap, _∙_}
 use mathlib.Core.Bool.{Bool, true, false}
 use mathlib.Core.Option.{Option, none, some}
 use native.Mathlib.Omega.{arith}
 use native.Mathlib.Numerals.{add-one}
-use lib.Dec.{eqb}
-use borrow.Author.Tests.{eqb-true, eqb-false}
 use Rattle.card.specs.Finite.{every, any, firstOf}
 use Rattle.card.proofs.Decides.{firstOf-is}
 
@@ -39,32 +37,6 @@ pub every-more : (k : ℕ) (f : ℕ → Bool) → every k f ≡ true → f k ≡
 unfolding every
 every-more k f h e = rw (add-one, h, e)
 
-pub every-fails : (n k : ℕ) (f : ℕ → Bool) → k < n → f k ≡ false → every n f ≡ false
-unfolding every
-every-fails zero k f l e = absurd (omega arith)
-every-fails (suc n) k f l e = go (eqb k n) refl (every-fails n k f)
-  where
-    right : (b : Bool) → every n f ≡ b → f n ≡ false → every (suc n) f ≡ false
-    right true p q = rw (p, q)
-    right false p q = rw p
-
-    go : (b : Bool) → eqb k n ≡ b → (k < n → f k ≡ false → every n f ≡ false) → every (suc n) f ≡ false
-    go true p h = let q : k ≡ n = eqb-true k n p in right (every n f) refl (rw q at e)
-    go false p h = rw (h (omega (arith, eqb-false k n p)) e)
-
 pub any-more : (k : ℕ) (f : ℕ → Bool) → any k f ≡ false → f k ≡ false → any (k + 1) f ≡ false
 unfolding any
 any-more k f h e = rw (add-one, h, e)
-
-pub any-holds : (n k : ℕ) (f : ℕ → Bool) → k < n → f k ≡ true → any n f ≡ true
-unfolding any
-any-holds zero k f l e = absurd (omega arith)
-any-holds (suc n) k f l e = go (eqb k n) refl (any-holds n k f)
-  where
-    right : (b : Bool) → any n f ≡ b → f n ≡ true → any (suc n) f ≡ true
-    right true p q = rw p
-    right false p q = rw (p, q)
-
-    go : (b : Bool) → eqb k n ≡ b → (k < n → f k ≡ true → any n f ≡ true) → any (suc n) f ≡ true
-    go true p h = let q : k ≡ n = eqb-true k n p in right (any n f) refl (rw q at e)
-    go false p h = rw (h (omega (arith, eqb-false k n p)) e)

@@ -1,11 +1,11 @@
-pub mod WalkLaws
-pub mod ChildLaws
-pub mod LoadedLaws
-pub mod TypeLaws
 pub mod Agree
 pub mod Sharing
 pub mod Accepted
 pub mod FirstLaws
+pub mod WalkLaws
+pub mod LoadedLaws
 pub mod ArcLaws
+pub mod ChildLaws
+pub mod TypeLaws
 pub mod CheckLaws
 pub mod WriteLaws

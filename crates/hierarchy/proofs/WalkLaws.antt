@@ -105,7 +105,7 @@ pub test-holds : (x a : Bool) → x ≡ a → not x ≡ false → a ≡ true
 test-holds x a e n = sym e ∙ not-false x n
 
 -- As many, and each two alike: both counts a and b are n, and the test has held at each number below i.
-pub record Walked (a b n i : ℕ) (f : ℕ → Bool) : Type 0 where
+pub record Compared (a b n i : ℕ) (f : ℕ → Bool) : Type 0 where
   pub first : n ≡ a
   pub second : n ≡ b
   pub held : Below i f true
@@ -113,17 +113,17 @@ pub record Walked (a b n i : ℕ) (f : ℕ → Bool) : Type 0 where
 pub counts-differ : (a b x y : ℕ) (f : ℕ → Bool) → x ≡ a → y ≡ b → (x ≡ y → ⊥) → false ≡ eqb a b && every a f
 counts-differ a b x y f e g d = rw (← e, ← g, ne-eqb x y d)
 
-pub walked-start : (a b n m : ℕ) (f : ℕ → Bool) → n ≡ a → m ≡ b → n ≡ m → Walked a b n 0 f
-walked-start a b n m f e g q = record { first = e; second = q ∙ g; held = below-start f true }
+pub compared-start : (a b n m : ℕ) (f : ℕ → Bool) → n ≡ a → m ≡ b → n ≡ m → Compared a b n 0 f
+compared-start a b n m f e g q = record { first = e; second = q ∙ g; held = below-start f true }
 
-pub walked-more : (a b n i : ℕ) (f : ℕ → Bool) → Walked a b n i f → f i ≡ true → Walked a b n (i + 1) f
-walked-more a b n i f w e = record { first = w .first; second = w .second; held = below-more i f true (w .held) e }
+pub compared-more : (a b n i : ℕ) (f : ℕ → Bool) → Compared a b n i f → f i ≡ true → Compared a b n (i + 1) f
+compared-more a b n i f w e = record { first = w .first; second = w .second; held = below-more i f true (w .held) e }
 
-pub walked-fails : (a b n i : ℕ) (f : ℕ → Bool) → Walked a b n i f → i < n → f i ≡ false → false ≡ eqb a b && every a f
-walked-fails a b n i f w l e = rw (every-none a i f (omega (arith, w .first)) e) (sym (and-no (eqb a b)))
+pub compared-fails : (a b n i : ℕ) (f : ℕ → Bool) → Compared a b n i f → i < n → f i ≡ false → false ≡ eqb a b && every a f
+compared-fails a b n i f w l e = rw (every-none a i f (omega (arith, w .first)) e) (sym (and-no (eqb a b)))
 
-pub walked-end : (a b n i : ℕ) (f : ℕ → Bool) → Walked a b n i f → n ≤ i → true ≡ eqb a b && every a f
-walked-end a b n i f w l = rw (every-all a i f (w .held) (omega (arith, w .first)), eq-eqb a b (sym (w .first) ∙ w .second))
+pub compared-end : (a b n i : ℕ) (f : ℕ → Bool) → Compared a b n i f → n ≤ i → true ≡ eqb a b && every a f
+compared-end a b n i f w l = rw (every-all a i f (w .held) (omega (arith, w .first)), eq-eqb a b (sym (w .first) ∙ w .second))
 
 -- the first fault, by a test at each number
 pub first-fails : (n i : ℕ) (bit : ℕ → ℕ) (ok : ℕ → Bool) (why : CardFault) (x : ℕ) → Below i ok true → i < n → ok i ≡ false → x ≡ bit i

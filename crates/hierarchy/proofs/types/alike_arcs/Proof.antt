@@ -11,12 +11,12 @@ use Rattle.hierarchy.specs.Conditions.{children}
 use Rattle.hierarchy.specs.Ranks.{Ranked}
 use Rattle.hierarchy.specs.Likeness.{arcAlike}
 use Rattle.hierarchy.proofs.LoadedLaws.{arcs-of, arc-of}
-use Rattle.hierarchy.proofs.WalkLaws.{test-fails, test-holds, counts-differ, Walked, walked-start, walked-more, walked-fails, walked-end}
+use Rattle.hierarchy.proofs.WalkLaws.{test-fails, test-holds, counts-differ, Compared, compared-start, compared-more, compared-fails, compared-end}
 use Rattle.hierarchy.proofs.types.alike_arcs.Statement.{statement}
 use Rattle.hierarchy.proofs.types.alike_arcs.Tie as tie
 
 abbrev Inv-loop : tie.InvT-loop
-Inv-loop numbers starts subnets ranks r s t u arcs j₀ j = (c : Card) → Loaded c numbers starts → subnets ≡ length (c .subnets) → Ranked c ranks → length (children c r) ≡ length (children c s) → (v w : ℕ) → Lists c r v → Lists c s w → t ≡ transitionRow c r v → u ≡ transitionRow c s w → Walked ((transitionAt c v) .arcs) ((transitionAt c w) .arcs) arcs j (arcAlike c r s v w)
+Inv-loop numbers starts subnets ranks r s t u arcs j₀ j = (c : Card) → Loaded c numbers starts → subnets ≡ length (c .subnets) → Ranked c ranks → length (children c r) ≡ length (children c s) → (v w : ℕ) → Lists c r v → Lists c s w → t ≡ transitionRow c r v → u ≡ transitionRow c s w → Compared ((transitionAt c v) .arcs) ((transitionAt c w) .arcs) arcs j (arcAlike c r s v w)
 
 abbrev μ-loop : tie.MeasureT-loop
 μ-loop numbers starts subnets ranks r s t u arcs j₀ j = arcs - j
@@ -40,7 +40,7 @@ loop-holds c =
     let a = c .before .before .before .before .before .before .args in
     let x = c .before .before .arc-count in
     let y = c .before .arc-count2 in
-    λ d h e k o v w l m p q. walked-start ((transitionAt d v) .arcs) ((transitionAt d w) .arcs) (x .result) (y .result) (arcAlike d (a .r) (a .s) v w)
+    λ d h e k o v w l m p q. compared-start ((transitionAt d v) .arcs) ((transitionAt d w) .arcs) (x .result) (y .result) (arcAlike d (a .r) (a .s) v w)
     (arcs-of d (now (a .numbers)) (now (a .starts)) h (a .r) v (a .t) (x .result) l p (x .ensures)) (arcs-of d (now (a .numbers)) (now (a .starts)) h (a .s) w (a .u) (y .result) m q (y .ensures)) (c .if1 .left)
 
 alike-arc-requires : tie.Need-alike-arc-requires Inv-loop μ-loop
@@ -53,7 +53,7 @@ returns-2 c =
     let z = c .before .before .before .loop in
     let b = c .before .alike-arc in
     λ d h e k o v w l m p q. let g = z .inv d h e k o v w l m p q in
-    walked-fails ((transitionAt d v) .arcs) ((transitionAt d w) .arcs) (x .result) (z .j) (arcAlike d (a .r) (a .s) v w) g (c .before .before .loop-test .taken) (test-fails (b .result) _ (b .ensures d h e k o (arcAt d v (z .j)) (arcAt d w (z .j))
+    compared-fails ((transitionAt d v) .arcs) ((transitionAt d w) .arcs) (x .result) (z .j) (arcAlike d (a .r) (a .s) v w) g (c .before .before .loop-test .taken) (test-fails (b .result) _ (b .ensures d h e k o (arcAt d v (z .j)) (arcAt d w (z .j))
     (arc-of d (now (a .numbers)) (now (a .starts)) h (a .r) v (a .t) (z .j) l p (omega (arith, g .first, c .before .before .loop-test .taken)))
     (arc-of d (now (a .numbers)) (now (a .starts)) h (a .s) w (a .u) (z .j) m q (omega (arith, g .second, c .before .before .loop-test .taken)))) (c .if2 .taken))
 
@@ -70,7 +70,7 @@ loop-again c =
     let z = c .before .before .before .loop in
     let b = c .before .alike-arc in
     λ d h e k o v w l m p q. let g = z .inv d h e k o v w l m p q in
-    walked-more ((transitionAt d v) .arcs) ((transitionAt d w) .arcs) (x .result) (z .j) (arcAlike d (a .r) (a .s) v w) g (test-holds (b .result) _ (b .ensures d h e k o (arcAt d v (z .j)) (arcAt d w (z .j))
+    compared-more ((transitionAt d v) .arcs) ((transitionAt d w) .arcs) (x .result) (z .j) (arcAlike d (a .r) (a .s) v w) g (test-holds (b .result) _ (b .ensures d h e k o (arcAt d v (z .j)) (arcAt d w (z .j))
     (arc-of d (now (a .numbers)) (now (a .starts)) h (a .r) v (a .t) (z .j) l p (omega (arith, g .first, c .before .before .loop-test .taken)))
     (arc-of d (now (a .numbers)) (now (a .starts)) h (a .s) w (a .u) (z .j) m q (omega (arith, g .second, c .before .before .loop-test .taken)))) (c .if2 .left))
 
@@ -79,7 +79,7 @@ returns-3 c =
     let a = c .before .before .before .before .before .before .before .before .args in
     let x = c .before .before .before .before .arc-count in
     let z = c .before .loop in
-    λ d h e k o v w l m p q. walked-end ((transitionAt d v) .arcs) ((transitionAt d w) .arcs) (x .result) (z .j) (arcAlike d (a .r) (a .s) v w) (z .inv d h e k o v w l m p q) (c .loop-test .left)
+    λ d h e k o v w l m p q. compared-end ((transitionAt d v) .arcs) ((transitionAt d w) .arcs) (x .result) (z .j) (arcAlike d (a .r) (a .s) v w) (z .inv d h e k o v w l m p q) (c .loop-test .left)
 
 pub alike-arcs-spec : {M : Type 1} → statement M
 alike-arcs-spec =

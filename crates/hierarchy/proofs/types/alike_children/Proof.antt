@@ -9,14 +9,14 @@ use Rattle.card.specs.Index.{Loaded}
 use Rattle.hierarchy.specs.Conditions.{children, child}
 use Rattle.hierarchy.specs.Ranks.{Ranked}
 use Rattle.hierarchy.specs.Likeness.{childAlike}
-use Rattle.hierarchy.proofs.WalkLaws.{test-fails, test-holds, counts-differ, Walked, walked-start, walked-more, walked-fails, walked-end}
+use Rattle.hierarchy.proofs.WalkLaws.{test-fails, test-holds, counts-differ, Compared, compared-start, compared-more, compared-fails, compared-end}
 use Rattle.hierarchy.proofs.ChildLaws.{kth-below, child-counted}
 use Rattle.hierarchy.proofs.TypeLaws.{types-at}
 use Rattle.hierarchy.proofs.types.alike_children.Statement.{statement}
 use Rattle.hierarchy.proofs.types.alike_children.Tie as tie
 
 abbrev Inv-loop : tie.InvT-loop
-Inv-loop numbers starts subnets ranks r s count k₀ k = (c : Card) → Loaded c numbers starts → subnets ≡ length (c .subnets) → Ranked c ranks → Walked (length (children c r)) (length (children c s)) count k (childAlike c r s)
+Inv-loop numbers starts subnets ranks r s count k₀ k = (c : Card) → Loaded c numbers starts → subnets ≡ length (c .subnets) → Ranked c ranks → Compared (length (children c r)) (length (children c s)) count k (childAlike c r s)
 
 abbrev μ-loop : tie.MeasureT-loop
 μ-loop numbers starts subnets ranks r s count k₀ k = count - k
@@ -40,7 +40,7 @@ loop-holds c =
     let a = c .before .before .before .before .before .before .args in
     let i = c .before .before .rank in
     let j = c .before .rank2 in
-    λ d h e k. walked-start (length (children d (a .r))) (length (children d (a .s))) (i .result) (j .result) (childAlike d (a .r) (a .s))
+    λ d h e k. compared-start (length (children d (a .r))) (length (children d (a .s))) (i .result) (j .result) (childAlike d (a .r) (a .s))
     (child-counted d (a .subnets) (a .r) (i .result) e (i .ensures d h e)) (child-counted d (a .subnets) (a .s) (j .result) e (j .ensures d h e)) (c .if1 .left)
 
 kth-child-requires : tie.Need-kth-child-requires Inv-loop μ-loop
@@ -65,7 +65,7 @@ returns-2 c =
     let m : z .k < length (children d (a .s)) = omega (arith, g .second, c .before .before .before .before .loop-test .taken) in
     let p : x .result ≡ child d (a .r) (z .k) = x .ensures d h e k l in
     let q : y .result ≡ child d (a .s) (z .k) = y .ensures d h e k m in
-    walked-fails (length (children d (a .r))) (length (children d (a .s))) (i .result) (z .k) (childAlike d (a .r) (a .s)) g (c .before .before .before .before .loop-test .taken) (test-fails (b .result) _ (types-at d (a .r) (a .s) (z .k) (x .result) (y .result) (b .result) p q
+    compared-fails (length (children d (a .r))) (length (children d (a .s))) (i .result) (z .k) (childAlike d (a .r) (a .s)) g (c .before .before .before .before .loop-test .taken) (test-fails (b .result) _ (types-at d (a .r) (a .s) (z .k) (x .result) (y .result) (b .result) p q
     (b .ensures d h (kth-below d (a .r) (z .k) (x .result) l p) (kth-below d (a .s) (z .k) (y .result) m q))) (c .if2 .taken))
 
 add-k : tie.Need-add-k Inv-loop μ-loop
@@ -87,7 +87,7 @@ loop-again c =
     let m : z .k < length (children d (a .s)) = omega (arith, g .second, c .before .before .before .before .loop-test .taken) in
     let p : x .result ≡ child d (a .r) (z .k) = x .ensures d h e k l in
     let q : y .result ≡ child d (a .s) (z .k) = y .ensures d h e k m in
-    walked-more (length (children d (a .r))) (length (children d (a .s))) (i .result) (z .k) (childAlike d (a .r) (a .s)) g (test-holds (b .result) _ (types-at d (a .r) (a .s) (z .k) (x .result) (y .result) (b .result) p q
+    compared-more (length (children d (a .r))) (length (children d (a .s))) (i .result) (z .k) (childAlike d (a .r) (a .s)) g (test-holds (b .result) _ (types-at d (a .r) (a .s) (z .k) (x .result) (y .result) (b .result) p q
     (b .ensures d h (kth-below d (a .r) (z .k) (x .result) l p) (kth-below d (a .s) (z .k) (y .result) m q))) (c .if2 .left))
 
 returns-3 : tie.Need-returns-3 Inv-loop μ-loop
@@ -95,7 +95,7 @@ returns-3 c =
     let a = c .before .before .before .before .before .before .before .before .args in
     let i = c .before .before .before .before .rank in
     let z = c .before .loop in
-    λ d h e k. walked-end (length (children d (a .r))) (length (children d (a .s))) (i .result) (z .k) (childAlike d (a .r) (a .s)) (z .inv d h e k) (c .loop-test .left)
+    λ d h e k. compared-end (length (children d (a .r))) (length (children d (a .s))) (i .result) (z .k) (childAlike d (a .r) (a .s)) (z .inv d h e k) (c .loop-test .left)
 
 pub alike-children-spec : {M : Type 1} → statement M
 alike-children-spec =

@@ -8,13 +8,13 @@ use Rattle.card.specs.Card.{Card, subnetAt}
 use Rattle.card.specs.Index.{Loaded}
 use Rattle.hierarchy.specs.Likeness.{placeAlike}
 use Rattle.hierarchy.proofs.LoadedLaws.{places-of, kind-of, capacity-of}
-use Rattle.hierarchy.proofs.WalkLaws.{counts-differ, Walked, walked-start, walked-more, walked-fails, walked-end}
+use Rattle.hierarchy.proofs.WalkLaws.{counts-differ, Compared, compared-start, compared-more, compared-fails, compared-end}
 use Rattle.hierarchy.proofs.TypeLaws.{kinds-differ, capacities-differ, places-alike}
 use Rattle.hierarchy.proofs.types.alike_places.Statement.{statement}
 use Rattle.hierarchy.proofs.types.alike_places.Tie as tie
 
 abbrev Inv-loop : tie.InvT-loop
-Inv-loop numbers starts r s lower upper places n₀ n = (c : Card) → Loaded c numbers starts → r < length (c .subnets) → s < length (c .subnets) → Walked ((subnetAt c r) .places) ((subnetAt c s) .places) places n (placeAlike c r s)
+Inv-loop numbers starts r s lower upper places n₀ n = (c : Card) → Loaded c numbers starts → r < length (c .subnets) → s < length (c .subnets) → Compared ((subnetAt c r) .places) ((subnetAt c s) .places) places n (placeAlike c r s)
 
 abbrev μ-loop : tie.MeasureT-loop
 μ-loop numbers starts r s lower upper places n₀ n = places - n
@@ -48,7 +48,7 @@ loop-holds c =
     let w = c .before .before .before .subnet-row2 in
     let p = c .before .before .place-count in
     let q = c .before .place-count2 in
-    λ d h l m. walked-start ((subnetAt d (a .r)) .places) ((subnetAt d (a .s)) .places) (p .result) (q .result) (placeAlike d (a .r) (a .s))
+    λ d h l m. compared-start ((subnetAt d (a .r)) .places) ((subnetAt d (a .s)) .places) (p .result) (q .result) (placeAlike d (a .r) (a .s))
     (places-of d (now (a .numbers)) (now (a .starts)) h (a .r) (v .result) (p .result) l (v .ensures) (p .ensures)) (places-of d (now (a .numbers)) (now (a .starts)) h (a .s) (w .result) (q .result) m (w .ensures) (q .ensures)) (c .if1 .left)
 
 kind-requires : tie.Need-kind-requires Inv-loop μ-loop
@@ -67,7 +67,7 @@ returns-2 c =
     let x = c .before .before .kind in
     let y = c .before .kind2 in
     λ d h l m. let g = z .inv d h l m in
-    walked-fails ((subnetAt d (a .r)) .places) ((subnetAt d (a .s)) .places) (p .result) (z .n) (placeAlike d (a .r) (a .s)) g (c .before .before .before .loop-test .taken) (kinds-differ d (a .r) (a .s) (z .n) (x .result) (y .result)
+    compared-fails ((subnetAt d (a .r)) .places) ((subnetAt d (a .s)) .places) (p .result) (z .n) (placeAlike d (a .r) (a .s)) g (c .before .before .before .loop-test .taken) (kinds-differ d (a .r) (a .s) (z .n) (x .result) (y .result)
     (kind-of d (now (a .numbers)) (now (a .starts)) h (a .r) (v .result) (z .n) (x .result) l (omega (arith, g .first, c .before .before .before .loop-test .taken)) (v .ensures) (x .ensures))
     (kind-of d (now (a .numbers)) (now (a .starts)) h (a .s) (w .result) (z .n) (y .result) m (omega (arith, g .second, c .before .before .before .loop-test .taken)) (w .ensures) (y .ensures))
     (c .if2 .taken))
@@ -88,7 +88,7 @@ returns-3 c =
     let x = c .before .before .capacity in
     let y = c .before .capacity2 in
     λ d h l m. let g = z .inv d h l m in
-    walked-fails ((subnetAt d (a .r)) .places) ((subnetAt d (a .s)) .places) (p .result) (z .n) (placeAlike d (a .r) (a .s)) g (c .before .before .before .before .before .before .loop-test .taken) (capacities-differ d (a .r) (a .s) (z .n) (x .result) (y .result)
+    compared-fails ((subnetAt d (a .r)) .places) ((subnetAt d (a .s)) .places) (p .result) (z .n) (placeAlike d (a .r) (a .s)) g (c .before .before .before .before .before .before .loop-test .taken) (capacities-differ d (a .r) (a .s) (z .n) (x .result) (y .result)
     (capacity-of d (now (a .numbers)) (now (a .starts)) h (a .r) (v .result) (z .n) (x .result) l (omega (arith, g .first, c .before .before .before .before .before .before .loop-test .taken)) (v .ensures) (x .ensures))
     (capacity-of d (now (a .numbers)) (now (a .starts)) h (a .s) (w .result) (z .n) (y .result) m (omega (arith, g .second, c .before .before .before .before .before .before .loop-test .taken)) (w .ensures) (y .ensures))
     (c .if3 .taken))
@@ -111,7 +111,7 @@ loop-again c =
     let i = c .before .before .capacity in
     let j = c .before .capacity2 in
     λ d h l m. let g = z .inv d h l m in
-    walked-more ((subnetAt d (a .r)) .places) ((subnetAt d (a .s)) .places) (p .result) (z .n) (placeAlike d (a .r) (a .s)) g (places-alike d (a .r) (a .s) (z .n) (x .result) (y .result) (i .result) (j .result)
+    compared-more ((subnetAt d (a .r)) .places) ((subnetAt d (a .s)) .places) (p .result) (z .n) (placeAlike d (a .r) (a .s)) g (places-alike d (a .r) (a .s) (z .n) (x .result) (y .result) (i .result) (j .result)
     (kind-of d (now (a .numbers)) (now (a .starts)) h (a .r) (v .result) (z .n) (x .result) l (omega (arith, g .first, c .before .before .before .before .before .before .loop-test .taken)) (v .ensures) (x .ensures))
     (kind-of d (now (a .numbers)) (now (a .starts)) h (a .s) (w .result) (z .n) (y .result) m (omega (arith, g .second, c .before .before .before .before .before .before .loop-test .taken)) (w .ensures) (y .ensures))
     (c .before .before .before .if2 .left)
@@ -123,7 +123,7 @@ returns-4 : tie.Need-returns-4 Inv-loop μ-loop
 returns-4 c =
     let a = c .before .before .before .before .before .before .before .before .before .args in
     let z = c .before .loop in
-    λ d h l m. walked-end ((subnetAt d (a .r)) .places) ((subnetAt d (a .s)) .places) (c .before .before .before .before .place-count .result) (z .n) (placeAlike d (a .r) (a .s)) (z .inv d h l m) (c .loop-test .left)
+    λ d h l m. compared-end ((subnetAt d (a .r)) .places) ((subnetAt d (a .s)) .places) (c .before .before .before .before .place-count .result) (z .n) (placeAlike d (a .r) (a .s)) (z .inv d h l m) (c .loop-test .left)
 
 pub alike-places-spec : {M : Type 1} → statement M
 alike-places-spec =

@@ -11,13 +11,13 @@ use Rattle.hierarchy.specs.Conditions.{children}
 use Rattle.hierarchy.specs.Ranks.{Ranked}
 use Rattle.hierarchy.specs.Likeness.{transitionAlike}
 use Rattle.hierarchy.proofs.LoadedLaws.{transitions-of}
-use Rattle.hierarchy.proofs.WalkLaws.{test-fails, test-holds, counts-differ, Walked, walked-start, walked-more, walked-fails, walked-end}
+use Rattle.hierarchy.proofs.WalkLaws.{test-fails, test-holds, counts-differ, Compared, compared-start, compared-more, compared-fails, compared-end}
 use Rattle.hierarchy.proofs.TypeLaws.{listed}
 use Rattle.hierarchy.proofs.types.alike_transitions.Statement.{statement}
 use Rattle.hierarchy.proofs.types.alike_transitions.Tie as tie
 
 abbrev Inv-loop : tie.InvT-loop
-Inv-loop numbers starts subnets ranks r s transitions k₀ k = (c : Card) → Loaded c numbers starts → subnets ≡ length (c .subnets) → Ranked c ranks → length (children c r) ≡ length (children c s) → r < length (c .subnets) → s < length (c .subnets) → Walked ((subnetAt c r) .transitions) ((subnetAt c s) .transitions) transitions k (transitionAlike c r s)
+Inv-loop numbers starts subnets ranks r s transitions k₀ k = (c : Card) → Loaded c numbers starts → subnets ≡ length (c .subnets) → Ranked c ranks → length (children c r) ≡ length (children c s) → r < length (c .subnets) → s < length (c .subnets) → Compared ((subnetAt c r) .transitions) ((subnetAt c s) .transitions) transitions k (transitionAlike c r s)
 
 abbrev μ-loop : tie.MeasureT-loop
 μ-loop numbers starts subnets ranks r s transitions k₀ k = transitions - k
@@ -51,7 +51,7 @@ loop-holds c =
     let v = c .before .before .before .before .subnet-row in
     let w = c .before .before .subnet-row2 in
     let j = c .before .transition-count2 in
-    λ d h e k o l m. walked-start ((subnetAt d (a .r)) .transitions) ((subnetAt d (a .s)) .transitions) (i .result) (j .result) (transitionAlike d (a .r) (a .s))
+    λ d h e k o l m. compared-start ((subnetAt d (a .r)) .transitions) ((subnetAt d (a .s)) .transitions) (i .result) (j .result) (transitionAlike d (a .r) (a .s))
     (transitions-of d (now (a .numbers)) (now (a .starts)) h (a .r) (v .result) (i .result) l (v .ensures) (i .ensures)) (transitions-of d (now (a .numbers)) (now (a .starts)) h (a .s) (w .result) (j .result) m (w .ensures) (j .ensures)) (c .if1 .left)
 
 row-of-transition-requires : tie.Need-row-of-transition-requires Inv-loop μ-loop
@@ -74,7 +74,7 @@ returns-2 c =
     λ d h e k o l m. let g = z .inv d h e k o l m in
     let p : z .k < (subnetAt d (a .r)) .transitions = omega (arith, g .first, c .before .before .before .before .loop-test .taken) in
     let q : z .k < (subnetAt d (a .s)) .transitions = omega (arith, g .second, c .before .before .before .before .loop-test .taken) in
-    walked-fails ((subnetAt d (a .r)) .transitions) ((subnetAt d (a .s)) .transitions) (i .result) (z .k) (transitionAlike d (a .r) (a .s)) g (c .before .before .before .before .loop-test .taken) (test-fails (b .result) _ (b .ensures d h e k o (firstTransition d (a .r) + z .k) (firstTransition d (a .s) + z .k)
+    compared-fails ((subnetAt d (a .r)) .transitions) ((subnetAt d (a .s)) .transitions) (i .result) (z .k) (transitionAlike d (a .r) (a .s)) g (c .before .before .before .before .loop-test .taken) (test-fails (b .result) _ (b .ensures d h e k o (firstTransition d (a .r) + z .k) (firstTransition d (a .s) + z .k)
     (listed d (a .r) (z .k) l p) (listed d (a .s) (z .k) m q) (x .ensures d (h .indexed) l p) (y .ensures d (h .indexed) m q)) (c .if2 .taken))
 
 add-k : tie.Need-add-k Inv-loop μ-loop
@@ -94,7 +94,7 @@ loop-again c =
     λ d h e k o l m. let g = z .inv d h e k o l m in
     let p : z .k < (subnetAt d (a .r)) .transitions = omega (arith, g .first, c .before .before .before .before .loop-test .taken) in
     let q : z .k < (subnetAt d (a .s)) .transitions = omega (arith, g .second, c .before .before .before .before .loop-test .taken) in
-    walked-more ((subnetAt d (a .r)) .transitions) ((subnetAt d (a .s)) .transitions) (i .result) (z .k) (transitionAlike d (a .r) (a .s)) g (test-holds (b .result) _ (b .ensures d h e k o (firstTransition d (a .r) + z .k) (firstTransition d (a .s) + z .k)
+    compared-more ((subnetAt d (a .r)) .transitions) ((subnetAt d (a .s)) .transitions) (i .result) (z .k) (transitionAlike d (a .r) (a .s)) g (test-holds (b .result) _ (b .ensures d h e k o (firstTransition d (a .r) + z .k) (firstTransition d (a .s) + z .k)
     (listed d (a .r) (z .k) l p) (listed d (a .s) (z .k) m q) (x .ensures d (h .indexed) l p) (y .ensures d (h .indexed) m q)) (c .if2 .left))
 
 returns-3 : tie.Need-returns-3 Inv-loop μ-loop
@@ -102,7 +102,7 @@ returns-3 c =
     let a = c .before .before .before .before .before .before .before .before .before .before .args in
     let i = c .before .before .before .before .before .transition-count in
     let z = c .before .loop in
-    λ d h e k o l m. walked-end ((subnetAt d (a .r)) .transitions) ((subnetAt d (a .s)) .transitions) (i .result) (z .k) (transitionAlike d (a .r) (a .s)) (z .inv d h e k o l m) (c .loop-test .left)
+    λ d h e k o l m. compared-end ((subnetAt d (a .r)) .transitions) ((subnetAt d (a .s)) .transitions) (i .result) (z .k) (transitionAlike d (a .r) (a .s)) (z .inv d h e k o l m) (c .loop-test .left)
 
 pub alike-transitions-spec : {M : Type 1} → statement M
 alike-transitions-spec =
