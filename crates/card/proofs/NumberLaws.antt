@@ -9,7 +9,8 @@ use lib.Seq.{take-add, drop-drop}
 use Rattle.card.specs.Finite.{table}
 use Rattle.card.specs.Card.{Subnet, Transition, Card, subnetAt, placeAt, transitionAt, firstPlace, firstTransition, firstArc}
 use Rattle.card.specs.Tables.{numbersOf}
-use Rattle.card.specs.Rows.{entry, tablesIn, arcsBefore, placesBefore, transitionsBefore, transitionRun, subnetRun, runs}
+use Rattle.card.specs.Rows.{entry, tablesIn}
+use Rattle.card.specs.Runs.{arcsBefore, placesBefore, transitionsBefore, transitionRun, subnetRun, runs}
 use Rattle.card.proofs.Prefix.{Counted, table-part, table-shift, places-below, transitions-below, first-place, first-transition, arcs-below}
 use Rattle.card.proofs.RowNumbers.{runs-same, runs-shift, placeNumbers, arcNumbers, transitionNumbers, subnetNumbers, numbers-rows}
 use Rattle.card.proofs.TableLaws.{subnet-row, place-row, transition-row, arc-row, subnet-count, place-count, transition-count, arc-count, place-sum, transition-sum, arc-sum}

@@ -12,7 +12,7 @@ use Rattle.card.specs.Card.{Card, subnetAt, placeAt, transitionAt, arcAt
 use Rattle.card.specs.Format.{count}
 use Rattle.card.specs.Grammar.{header, subnet, place, transition, arc}
 use Rattle.card.specs.Tables.{tableSize, numbersOf}
-use Rattle.card.specs.Rows.{runs}
+use Rattle.card.specs.Runs.{runs}
 use Rattle.card.specs.Index.{subnetRow, transitionRow, placeField, arcField, SubnetThere, PlaceThere, TransitionThere, ArcThere, Lists, Laid}
 use Rattle.card.specs.Wellformed.{Wellformed, TransitionRow}
 use Rattle.card.proofs.Sums.{sum-mono, table-length, table-at, all-at}

@@ -10,7 +10,7 @@ use lib.ListN.{length, getD, set, take, drop, take-append-drop, length-set, leng
 use lib.Seq.{getD-set-same, getD-set-other, take-suc, take-all}
 use lib.Dec.{eqb}
 use borrow.Author.Tests.{eqb-true, eqb-false}
-use Rattle.card.specs.Rows.{Holds}
+use Rattle.card.specs.Runs.{Holds}
 
 holds-one : (xs numbers : List ℕ) (n v : ℕ) → Holds xs numbers n → n < length numbers → Holds (xs ++ (v ∷ [])) (set numbers n v) (n + 1)
 holds-one xs numbers n v h l =

@@ -10,7 +10,8 @@ use lib.ListN.{length, getD}
 use lib.Dec.{eqb}
 use borrow.Author.Tests.{eq-eqb, ne-eqb, eqb-true, eqb-false}
 use Rattle.card.specs.Finite.{sumTo, All}
-use Rattle.card.specs.Rows.{entry, columnSum, RowsFit}
+use Rattle.card.specs.Rows.{entry}
+use Rattle.card.specs.Runs.{columnSum, RowsFit}
 use Rattle.card.proofs.Sums.{sum-mono}
 
 -- an entry of a whole row lies within the slice
@@ -21,26 +22,26 @@ entry-inside n width i k l h =
 
 -- what is left of a total, once the first i entries of a column are taken away
 module _ (rows : List ℕ) (width column total : ℕ) where
-  pub record Left (left i : ℕ) : Type 0 where
+  pub record Unspent (left i : ℕ) : Type 0 where
     pub sum : left + sumTo i (λ j. entry rows width j column) ≡ total
     pub inside : i ≤ length rows / width
 
-  pub left-start : Left total 0
+  pub unspent-start : Unspent total 0
   unfolding sumTo
-  left-start = record { sum = omega arith; inside = omega arith }
+  unspent-start = record { sum = omega arith; inside = omega arith }
 
-  module _ (left i : ℕ) (h : Left left i) where
-    pub left-more : i < length rows / width → entry rows width i column ≤ left → Left (left - entry rows width i column) (i + 1)
+  module _ (left i : ℕ) (h : Unspent left i) where
+    pub unspent-more : i < length rows / width → entry rows width i column ≤ left → Unspent (left - entry rows width i column) (i + 1)
     unfolding sumTo
-    left-more l m = rw add-one (record { sum = omega (arith, h .sum); inside = omega arith })
+    unspent-more l m = rw add-one (record { sum = omega (arith, h .sum); inside = omega arith })
 
-    pub left-short : i < length rows / width → left < entry rows width i column → false ≡ eqb total (columnSum rows width column)
-    left-short l m =
+    pub unspent-short : i < length rows / width → left < entry rows width i column → false ≡ eqb total (columnSum rows width column)
+    unspent-short l m =
         let a : sumTo (suc i) (λ j. entry rows width j column) ≡ sumTo i (λ j. entry rows width j column) + entry rows width i column = unfold sumTo in refl in
         sym (ne-eqb total (columnSum rows width column) (λ e. omega (arith, h .sum, a, sum-mono (suc i) (length rows / width) (λ j. entry rows width j column) l)))
 
-    pub left-done : length rows / width ≤ i → eqb left 0 ≡ eqb total (columnSum rows width column)
-    left-done l =
+    pub unspent-done : length rows / width ≤ i → eqb left 0 ≡ eqb total (columnSum rows width column)
+    unspent-done l =
         let e : i ≡ length rows / width = omega (arith, h .inside) in
         let s : left + columnSum rows width column ≡ total = rw (← e) (h .sum) in
         go (eqb left 0) refl s

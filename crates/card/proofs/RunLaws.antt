@@ -7,7 +7,8 @@ use native.Mathlib.Nat.{add-zero, zero-add}
 use native.Mathlib.Numerals.{add-one}
 use lib.ListN.{length, take, drop}
 use Rattle.card.specs.Finite.{sumTo, table}
-use Rattle.card.specs.Rows.{entry, Holds, arcsBefore, transitionRun, runs, RunsInside, placesBefore, transitionsBefore, subnetRun, TablesInside}
+use Rattle.card.specs.Rows.{entry}
+use Rattle.card.specs.Runs.{Holds, arcsBefore, transitionRun, runs, RunsInside, placesBefore, transitionsBefore, subnetRun, TablesInside}
 use Rattle.card.proofs.Sums.{sum-mono}
 
 pub runs-suc : (from n : ℕ) (run : ℕ → List ℕ) → runs from (suc n) run ≡ runs from n run ++ run (from + n)

@@ -10,7 +10,8 @@ use borrow.Author.Tests.{ltb-true, lt-ltb}
 use Rattle.card.specs.Finite.{sumTo}
 use Rattle.card.specs.Card.{Card, Subnet, Transition, subnetAt, placeAt, transitionAt, firstPlace, firstTransition, firstArc}
 use Rattle.card.specs.Writing.{counted}
-use Rattle.card.specs.Rows.{entry, columnSum, tablesIn, Tells, HeaderFits}
+use Rattle.card.specs.Rows.{entry, tablesIn}
+use Rattle.card.specs.Runs.{columnSum, Tells, HeaderFits}
 use Rattle.card.specs.Layout.{widthAt}
 use Rattle.card.specs.declared.layout.Phase.the-variants.{Version, SubnetCount, SignalCount}
 use Rattle.card.proofs.Sums.{table-length, table-at, sum-same}

@@ -11,7 +11,8 @@ use Rattle.card.specs.Card.{Card}
 use Rattle.card.specs.Grammar.{card}
 use Rattle.card.specs.Reading.{readCard}
 use Rattle.card.specs.Writing.{fields, encode, allFit, counted, readTables}
-use Rattle.card.specs.Rows.{tablesIn, wholeRows, readRows, Tells, ValuesFit, Holds, TablesInside, Gathered, inOrder}
+use Rattle.card.specs.Rows.{tablesIn, wholeRows, readRows}
+use Rattle.card.specs.Runs.{Tells, ValuesFit, Holds, TablesInside, Gathered, inOrder}
 use Rattle.card.specs.Spelling.{Lines, IsSpelt, IsUnspelt}
 use Rattle.card.specs.declared.FormatFault.the-variants.{BadTable}
 use Rattle.card.specs.declared.writer.CardSpelt.{CardSpelt}

@@ -14,3 +14,4 @@ pub mod Indexing
 pub mod Tables
 pub mod Spelling
 pub mod Rows
+pub mod Runs

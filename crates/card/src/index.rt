@@ -21,7 +21,7 @@ ghost use Rattle.card.specs.Grammar.{subnet, place, transition, arc};
 ghost use Rattle.card.specs.Wellformed.{Wellformed};
 ghost use Rattle.card.specs.Index.{Laid, Indexed};
 ghost use Rattle.card.specs.Indexing.{Moved, OnCard, putSubnet, AtSubnet, TransitionsIndexed};
-ghost use Rattle.card.specs.Rows.{Tells};
+ghost use Rattle.card.specs.Runs.{Tells};
 
 // Where a row begins: at which number, and at which bit.
 pub struct Position {

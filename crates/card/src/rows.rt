@@ -8,7 +8,8 @@ ghost use Prim.Native.Nat.{ℕ, _+_, _/_, _<_};
 ghost use mathlib.Core.List.{List, _++_};
 ghost use lib.ListN.{length, getD};
 ghost use lib.Dec.{eqb};
-ghost use Rattle.card.specs.Rows.{columnSum, RowsFit, tablesIn, wholeRows, Tells, subnetWidths, placeWidths, transitionWidths, arcWidths, HeaderFits, ValuesFit, Holds, arcsBefore, transitionRun, runs, RunsInside, subnetRun, TablesInside, Gathered, inOrder};
+ghost use Rattle.card.specs.Rows.{tablesIn, wholeRows};
+ghost use Rattle.card.specs.Runs.{columnSum, RowsFit, Tells, subnetWidths, placeWidths, transitionWidths, arcWidths, HeaderFits, ValuesFit, Holds, arcsBefore, transitionRun, runs, RunsInside, subnetRun, TablesInside, Gathered, inOrder};
 ghost use Rattle.card.specs.Writing.{counted};
 
 fn wide(v: u16) -> usize

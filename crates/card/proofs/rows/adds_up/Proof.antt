@@ -5,12 +5,12 @@ use native.Mathlib.Nat.{div-le-self}
 use lib.ListN.{length}
 use denote.Ref.{now}
 use borrow.Author.Needs.{needs}
-use Rattle.card.proofs.RowLaws.{Left, entry-inside, left-start, left-more, left-short, left-done}
+use Rattle.card.proofs.RowLaws.{Unspent, entry-inside, unspent-start, unspent-more, unspent-short, unspent-done}
 use Rattle.card.proofs.rows.adds_up.Statement.{statement}
 use Rattle.card.proofs.rows.adds_up.Tie as tie
 
 abbrev Inv-loop : tie.InvT-loop
-Inv-loop rows width column total n left₀ i₀ left i = Left rows width column total left i
+Inv-loop rows width column total n left₀ i₀ left i = Unspent rows width column total left i
 
 abbrev μ-loop : tie.MeasureT-loop
 μ-loop rows width column total n left₀ i₀ left i = length rows / width - i
@@ -19,7 +19,7 @@ div-n : tie.Need-div-n Inv-loop μ-loop
 div-n c = omega (arith, c .before .pre)
 
 loop-holds : tie.Need-loop-holds Inv-loop μ-loop
-loop-holds c = let a = c .before .args in left-start (now (a .rows)) (a .width) (a .column) (a .total)
+loop-holds c = let a = c .before .args in unspent-start (now (a .rows)) (a .width) (a .column) (a .total)
 
 mul-wide : tie.Need-mul-wide Inv-loop μ-loop
 mul-wide c =
@@ -52,7 +52,7 @@ returns : tie.Need-returns Inv-loop μ-loop
 returns c =
     let a = c .before .before .before .before .before .before .args in
     let x = c .before .before .before .before .loop in
-    left-short (now (a .rows)) (a .width) (a .column) (a .total) (x .left) (x .i) (x .inv) (c .before .before .before .loop-test .taken) (rw (← c .before .wide .ensures) (c .if1 .taken))
+    unspent-short (now (a .rows)) (a .width) (a .column) (a .total) (x .left) (x .i) (x .inv) (c .before .before .before .loop-test .taken) (rw (← c .before .wide .ensures) (c .if1 .taken))
 
 add-i : tie.Need-add-i Inv-loop μ-loop
 add-i c =
@@ -66,13 +66,13 @@ loop-again : tie.Need-loop-again Inv-loop μ-loop
 loop-again c =
     let a = c .before .before .before .before .before .before .args in
     let x = c .before .before .before .before .loop in
-    rw (c .before .wide .ensures) (left-more (now (a .rows)) (a .width) (a .column) (a .total) (x .left) (x .i) (x .inv) (c .before .before .before .loop-test .taken) (rw (← c .before .wide .ensures) (c .if1 .left)))
+    rw (c .before .wide .ensures) (unspent-more (now (a .rows)) (a .width) (a .column) (a .total) (x .left) (x .i) (x .inv) (c .before .before .before .loop-test .taken) (rw (← c .before .wide .ensures) (c .if1 .left)))
 
 returns-2 : tie.Need-returns-2 Inv-loop μ-loop
 returns-2 c =
     let a = c .before .before .before .args in
     let x = c .before .loop in
-    left-done (now (a .rows)) (a .width) (a .column) (a .total) (x .left) (x .i) (x .inv) (c .loop-test .left)
+    unspent-done (now (a .rows)) (a .width) (a .column) (a .total) (x .left) (x .i) (x .inv) (c .loop-test .left)
 
 pub adds-up-spec : {M : Type 1} → statement M
 adds-up-spec =

@@ -5,7 +5,7 @@ use lib.ListN.{length-replicate}
 use Prim.Native.Nat.{ℕ}
 use denote.Ref.{now}
 use borrow.Author.Needs.{needs}
-use Rattle.card.specs.Rows.{inOrder}
+use Rattle.card.specs.Runs.{inOrder}
 use Rattle.card.proofs.TableSpell.{holds-gathered, holds-none}
 use Rattle.card.proofs.rows.gather.Statement.{statement}
 use Rattle.card.proofs.rows.gather.Tie as tie
