@@ -237,4 +237,11 @@ module _ (c : Card) (w : Wellformed c) where
 
   -- THE TABLE OF A CARD'S NUMBERS HOLDS ITS ROWS
   pub laid : Laid c numbers
-  laid = record { signals = held 2 ∙ ap (λ xs. getD xs 2 0) (numbers-rows c counted); subnet = there-subnet; place = there-place; transition = there-transition; arc = there-arc }
+  laid = record {
+    version = held 0 ∙ ap (λ xs. getD xs 0 0) (numbers-rows c counted);
+    signals = held 2 ∙ ap (λ xs. getD xs 2 0) (numbers-rows c counted);
+    subnet = there-subnet;
+    place = there-place;
+    transition = there-transition;
+    arc = there-arc;
+  }

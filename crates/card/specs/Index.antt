@@ -56,6 +56,7 @@ pub record Lists (c : Card) (s t : ℕ) : Type 0 where
 
 -- a table holds the rows of a card
 pub record Laid (c : Card) (numbers : List ℕ) : Type 0 where
+  pub version : getD numbers 0 0 ≡ c .version
   pub signals : getD numbers 2 0 ≡ c .signals
   pub subnet : (s : ℕ) → s < length (c .subnets) → SubnetThere numbers (subnetRow c s) (subnetAt c s)
   pub place : (s n : ℕ) → s < length (c .subnets) → n < (subnetAt c s) .places → PlaceThere numbers (subnetRow c s) n (placeAt c (firstPlace c s + n))

@@ -48,7 +48,13 @@ fn arc_number(numbers: &[u16], row: u32, j: u16, k: u16) -> u16
     )
 }
 
-// How many signals there are.
+// The card's version, and how many signals there are.
+pub fn version(numbers: &[u16]) -> u16
+    ensures { λ r. ⌜ r ≡ getD (now (numbers .entry)) 0 0 ⌝ }
+{
+    number_at(numbers, 0)
+}
+
 pub fn signals(numbers: &[u16]) -> u16
     ensures { λ r. ⌜ r ≡ getD (now (numbers .entry)) 2 0 ⌝ }
 {

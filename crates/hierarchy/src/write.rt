@@ -17,7 +17,8 @@ fn spell_refused(a: SpellAnswer) -> Written
     }
 }
 
-fn check_refused(a: Answer) -> Written
+// A refusal of the check, as one of writing.
+pub fn check_refused(a: Answer) -> Written
     ensures { λ r. ⌜ CheckRefused a r ⌝ }
 {
     match a {

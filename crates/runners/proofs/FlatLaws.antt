@@ -66,11 +66,11 @@ module _ (c : Card) (m : Meets c) where
   S = length (c .subnets)
 
   -- a seen place has a flat number below the total
-  there : (i j n : ℕ) → i < S → Sees c i j n → (j < S) × IsPlace c j n
+  pub there : (i j n : ℕ) → i < S → Sees c i j n → (j < S) × IsPlace c j n
   there i j n l (inl o) = (omega (arith, o .0), o .1)
   there i j n l (inr o) = (o .0 .1, o .1 .0)
 
-  flat-below : (i j n : ℕ) → i < S → Sees c i j n → firstPlace c j + n < length (c .places)
+  pub flat-below : (i j n : ℕ) → i < S → Sees c i j n → firstPlace c j + n < length (c .places)
   unfolding firstPlace
   flat-below i j n l h =
       let t = there i j n l h in

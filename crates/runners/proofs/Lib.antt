@@ -1,4 +1,6 @@
 pub mod FlatLaws
+pub mod FlatRowLaws
+pub mod FlatWrite
 pub mod StepLaws
 pub mod StateLaws
 pub mod TraceLaws

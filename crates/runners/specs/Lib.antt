@@ -1,5 +1,6 @@
 pub mod Numbers
 pub mod Flattening
+pub mod FlatRows
 pub mod State
 pub mod Step
 pub mod Rows
