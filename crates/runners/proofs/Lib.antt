@@ -1,6 +1,7 @@
 pub mod FlatLaws
 pub mod FlatRowLaws
 pub mod FlatWrite
+pub mod FreshLaws
 pub mod StepLaws
 pub mod StateLaws
 pub mod TraceLaws

@@ -5,6 +5,7 @@ pub mod State
 pub mod Step
 pub mod Rows
 pub mod Calls
+pub mod Freshness
 pub mod Traces
 pub mod Visits
 pub mod Text

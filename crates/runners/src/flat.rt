@@ -43,7 +43,7 @@ fn put(rows: &mut [u16], i: usize, v: u16)
 }
 
 // A number of 16 bits; 0 for a larger one, which no flat number is.
-fn narrow(n: usize) -> u16
+pub fn narrow(n: usize) -> u16
     ensures { λ r. ⌜ (n < 65536 → r ≡ n) ⌝ }
 {
     if n < 65536 {
@@ -77,7 +77,7 @@ fn flat_places_of(numbers: &[u16], row: u32, first: u16, rows: &mut [u16])
 }
 
 // The places of all subnets.
-fn flat_places(numbers: &[u16], starts: &[u32], subnets: u16, rows: &mut [u16])
+pub fn flat_places(numbers: &[u16], starts: &[u32], subnets: u16, rows: &mut [u16])
     ensures { λ r. ⌜ length (now (rows .exit)) ≡ length (now (rows .entry)) ⌝ }
     ensures { λ r. ⌜ ((c : Card) → Meets c → Loaded c (now (numbers .entry)) (now (starts .entry)) → subnets ≡ length (c .subnets) → length (now (rows .entry)) ≡ 765 → PlacesTo c (now (rows .exit)) (length (c .places))) ⌝ }
 {

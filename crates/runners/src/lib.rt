@@ -1,6 +1,7 @@
 // Layer 3: flattening, the step and the two runners. specs/ says what they do and what the two programs write.
 
 pub mod flat;
+pub mod fresh;
 
 // A transition is idle, or carrying and has come so many thousandths of its way.
 pub enum Transfer {
