@@ -5,6 +5,7 @@ The answers are the second implementation's. Each case is led by its kind, a byt
 """
 
 import dataclasses
+import itertools
 import pathlib
 import random
 import struct
@@ -17,6 +18,7 @@ folder = root / "crates" / "card_cases"
 sys.path.insert(0, str(root / "tests" / "second"))
 
 import cards
+import hierarchies
 import net
 
 CARD, TABLES = 0, 1
@@ -98,6 +100,14 @@ RIGHT = [
     (224, 8, (0, 255)),
 ]
 
+# What the check refuses at subnet 0's second arc there: the number, and a field's first bit, width and value.
+SECOND_ARC = [
+    (10, 99, 8, 1),
+    (11, 93, 1, 0),
+    (12, 107, 8, 2),
+    (10, 141, 2, 0),        # the place is normal, so that nobody else sees it; not 15
+]
+
 
 class Tables(NamedTuple):
     """What the writer is given: two numbers, four slices, and a buffer of so many bytes."""
@@ -173,7 +183,26 @@ def filled_cards(data, end):
     yield data + b"\xff\xff"
 
 
-def read_cases(rng):
+def checked_cards(bench):
+    for number, *field in SECOND_ARC:
+        data = cards.with_field(bench, *field)
+        assert net.check(data) == ("refused", number, 93), field
+        yield data
+    for number, card in hierarchies.numbered():
+        data = net.encode(card)
+        assert refusal_number(net.check(data)) == number, (number, net.check(data))
+        yield data
+
+
+def random_families(rng):
+    for bends in (*20 * [0], *80 * [1], *60 * [2]):
+        card = hierarchies.random_family(rng)
+        for _ in range(bends):
+            card = hierarchies.bent(rng, card)
+        yield net.encode(card)
+
+
+def card_cases(rng):
     bench = net.encode(cards.bench_card())
     flat = net.encode(net.flatten(cards.bench_card()))
     largest = net.encode(cards.largest_card(rng))
@@ -185,7 +214,9 @@ def read_cases(rng):
         *refused_cards(cards.bench_card()),
         *right_cards(bench),
         largest, cards.with_field(largest, 182159, 1, 1),
-        *(cards.random_bytes(rng) for _ in range(60)),
+        *checked_cards(bench),
+        *(cards.random_bytes(rng) for _ in range(200)),
+        *random_families(rng),
     ]
 
 
@@ -207,9 +238,11 @@ def wrong_tables(bench):
 
 
 def refused_tables(bench):
-    for number, bit, tables in wrong_tables(bench):
+    """Into a buffer with room for the card, and into one with none, in turn."""
+    for (number, bit, tables), room in zip(wrong_tables(bench), itertools.cycle((32, 0))):
         assert spelt(tables) == net.Refusal(number, bit), (number, bit)
-        yield tables
+        assert written(tables) == ("refused", number, bit), (number, bit)
+        yield tables._replace(room=room)
 
 
 def fields(bench):
@@ -244,15 +277,23 @@ def uneven_tables(card):
             yield tables
 
 
+def hierarchy_tables():
+    """For each number of the check two cards, into a buffer that is too short, just long enough and longer."""
+    for number in (0, *range(10, 17)):
+        for card in [card for other, card in hierarchies.numbered() if other == number][:2]:
+            length = len(net.encode(card))
+            yield from (given(card, room) for room in (0, length - 1, length, length + 3))
+
+
 def random_tables(rng):
-    card = cards.any_card(rng)
+    card = cards.any_card(rng) if rng.randrange(3) else hierarchies.random_family(rng)
     length = len(net.encode(card))
     if rng.randrange(2):
         card = cards.damaged(rng, card)
     return given(card, length + rng.choice((-1, 0, 1, 20)))
 
 
-def write_cases(rng):
+def tables_cases(rng):
     bench = cards.bench_card()
     largest = sized(31 * [(8, 8, 31)] + [(7, 7, 31)])
     return [
@@ -262,23 +303,43 @@ def write_cases(rng):
         *edge_tables(bench),
         *uneven_tables(bench), *uneven_tables(misversioned(bench)),
         *(given(largest, room) for room in (22769, 22770, 22771)),
+        *hierarchy_tables(),
         *(random_tables(rng) for _ in range(60)),
     ]
 
 
-def spelt(tables):
-    """The bytes of the card that the tables make, or a Refusal. A slice that ends inside a row is 17."""
+# The answers
+
+
+def rows_of(tables):
+    """The tables' rows as a card; None where a slice ends inside a row."""
     rows = []
     for numbers, (_, row, _) in zip(tables.slices, SLICES):
         size = len(row._fields)
         if len(numbers) % size != 0:
-            return net.Refusal(17, 0)
+            return None
         rows.append([row(*numbers[at:at + size]) for at in range(0, len(numbers), size)])
-    card = net.Card(tables.signals, *rows, tables.version)
-    if not net.fits(card):
+    return net.Card(tables.signals, *rows, tables.version)
+
+
+def spelt(tables):
+    """Layer 1's writer: the bytes of the card that the tables make, or a Refusal."""
+    card = rows_of(tables)
+    if card is None or not net.fits(card):
         return net.Refusal(17, 0)
     data = net.encode(card)
     return data if whole(data) else net.read_card(data)
+
+
+def written(tables):
+    """Layer 2's writer."""
+    card = rows_of(tables)
+    return ("refused", 17, 0) if card is None else net.write_card(card, tables.room)
+
+
+def refusal_number(answer):
+    """The number of a check's answer, 0 if it is accepted."""
+    return answer[1] if answer[0] == "refused" else 0
 
 
 # What the program reads, and what it prints
@@ -297,47 +358,69 @@ def packed(tables):
     return struct.pack(f">{len(numbers)}H", *numbers)
 
 
-def refused_line(refusal):
-    return f"no {refusal.number} {refusal.bit}\n"
+def line(*words):
+    return " ".join(map(str, words)) + "\n"
 
 
-def put_line(data, room):
-    """The answer of the copy into a buffer, and all of the buffer: whole, or as a checksum."""
-    answer = net.into_buffer(data, room)[0]
-    after = GUARD * room
-    if answer == "wrote":
-        after = data + after[len(data):]
-    shown = after.hex() if room <= 64 else zlib.adler32(after)
-    return f"{answer} {len(data)} {shown}\n"
+def shown(data, room):
+    """All of a buffer that the data was written into: in hexadecimal, or as a checksum."""
+    after = data + GUARD * (room - len(data))
+    return after.hex() if room <= 64 else zlib.adler32(after)
 
 
-def read_lines(data):
-    """The reader's answer. A whole card is written back into a buffer of its length."""
+def check_line(data):
+    answer, *numbers = net.check(data)
+    return line("check", "ok" if answer == "accepted" else "no", *numbers)
+
+
+def read_line(data):
     card = net.read_card(data)
     if isinstance(card, net.Refusal):
-        return refused_line(card)
-    counts = f"whole {len(card.subnets)} {len(card.places)} {len(card.transitions)}\n"
-    return counts + put_line(net.encode(card), len(data))
+        return line("read no", *card)
+    return line("read ok", len(card.subnets), len(card.places), len(card.transitions))
+
+
+def spell_line(tables):
+    data = spelt(tables)
+    if isinstance(data, net.Refusal):
+        return line("spell no", *data)
+    if tables.room < len(data):
+        return line("spell short", len(data), shown(b"", tables.room))
+    return line("spell ok", len(data), shown(data, tables.room))
 
 
 def write_line(tables):
-    data = spelt(tables)
-    return refused_line(data) if isinstance(data, net.Refusal) else put_line(data, tables.room)
+    answer, *values = written(tables)
+    if answer == "wrote":
+        return line("write ok", len(values[0]), shown(values[0], tables.room))
+    if answer == "short":
+        values = 24, *values
+    return line("write no", *values, shown(b"", tables.room))
+
+
+def tables_lines(tables):
+    return spell_line(tables) + write_line(tables)
+
+
+def card_lines(data):
+    """A card that is read whole is written back into a buffer of its length."""
+    lines = check_line(data) + read_line(data)
+    return lines + tables_lines(given(net.read_card(data), len(data))) if whole(data) else lines
 
 
 def cases():
     """Each case's bytes and lines: the cards, then the tables."""
     rng = random.Random(1)
-    read = [(led(CARD, data), read_lines(data)) for data in read_cases(rng)]
-    written = [(led(TABLES, packed(tables)), write_line(tables)) for tables in write_cases(rng)]
-    return read, written
+    made = [(led(CARD, data), card_lines(data)) for data in card_cases(rng)]
+    made += [(led(TABLES, packed(tables)), tables_lines(tables)) for tables in tables_cases(rng)]
+    return made
 
 
 def files():
     """The two files' contents by name. The last case of the input is not all there: no line."""
-    made = sum(cases(), [])
+    made = cases()
     stdin = b"".join(data for data, _ in made) + made[0][0][:-1]
-    assert len(stdin) <= 131072
+    assert len(stdin) <= 262144, len(stdin)
     return {"stdin": stdin, "stdout": "".join(lines for _, lines in made).encode()}
 
 

@@ -1,28 +1,33 @@
-// The lines of the answers.
-use card::Counts;
-use card::FormatFault;
-use card::fault_number;
+// The parts of the answers' lines.
 use libc::STDOUT_FILENO;
 ghost use Prim.Native.Nat.{_<_};
 
+pub fn put_text(text: &[u8]) {
+    io::write_all(STDOUT_FILENO, text);
+}
+
 pub fn put_number(n: u64) {
-    io::write_all(STDOUT_FILENO, b" ");
+    put_text(b" ");
     io::print_decimal(STDOUT_FILENO, n);
 }
 
-pub fn put_whole(k: Counts) {
-    io::write_all(STDOUT_FILENO, b"whole");
-    put_number(k.subnets as u64);
-    put_number(k.places as u64);
-    put_number(k.transitions as u64);
-    io::write_all(STDOUT_FILENO, b"\n");
+pub fn put_counts(subnets: u64, places: u64, transitions: u64) {
+    put_text(b" ok");
+    put_number(subnets);
+    put_number(places);
+    put_number(transitions);
 }
 
-pub fn put_refusal(f: FormatFault, at: usize) {
-    io::write_all(STDOUT_FILENO, b"no");
-    put_number(fault_number(f));
-    put_number(at as u64);
-    io::write_all(STDOUT_FILENO, b"\n");
+// A refusal's number, and its bit or the length that is needed.
+pub fn put_refusal(number: u64, value: usize) {
+    put_text(b" no");
+    put_number(number);
+    put_number(value as u64);
+}
+
+pub fn put_length(n: usize) {
+    put_text(b" ok");
+    put_number(n as u64);
 }
 
 fn put_byte(b: u8) {
@@ -30,7 +35,7 @@ fn put_byte(b: u8) {
 }
 
 fn put_hex(bytes: &[u8]) {
-    io::write_all(STDOUT_FILENO, b" ");
+    put_text(b" ");
     let mut i = 0;
     while i < bytes.len() {
         put_byte(bytes[i]);

@@ -1,12 +1,5 @@
 // Tables in one slice of numbers: version, signals, the lengths of the four slices and of the buffer, then the four slices.
-use crate::lines::put_bytes;
-use crate::lines::put_number;
-use crate::lines::put_refusal;
-use card::writer::CardSpelt;
-use card::writer::SpellAnswer;
-use card::writer::put_card;
-use card::writer::spell;
-use libc::STDOUT_FILENO;
+use crate::writers::put_writers;
 ghost use Prim.Native.Nat.{_+_, _<_, _≤_};
 ghost use lib.ListN.{length};
 
@@ -44,46 +37,6 @@ pub fn numbers_in(case: &[u8]) -> [u16; 40000] {
     numbers
 }
 
-fn put_outcome(done: bool, n: usize) {
-    if done {
-        io::write_all(STDOUT_FILENO, b"wrote");
-    } else {
-        io::write_all(STDOUT_FILENO, b"short");
-    }
-    put_number(n as u64);
-}
-
-// Whether the card had room, its length, and all of the buffer.
-fn put_into(card: &[u8], out: &mut [u8]) {
-    let done = put_card(card, out);
-    put_outcome(done, card.len());
-    put_bytes(out);
-    io::write_all(STDOUT_FILENO, b"\n");
-}
-
-// A card of n bytes, put into a buffer that is filled with other bytes. That n is not past the end follows from no single contract, so it
-// is tested.
-fn put_whole_card(bytes: &[u8], n: usize, room: usize)
-    requires { ⌜ room < 65536 ⌝ }
-{
-    if bytes.len() < n {
-        return;
-    }
-    let mut out = [165; 65536];
-    put_into(&bytes[..n], &mut out[..room]);
-}
-
-fn put_spelt(s: CardSpelt, room: usize)
-    requires { ⌜ room < 65536 ⌝ }
-{
-    let bytes = s.bytes;
-    let a = s.answer;
-    match a {
-        SpellAnswer::Whole(n) => put_whole_card(&bytes, n, room),
-        SpellAnswer::Refused(f, at) => put_refusal(f, at),
-    }
-}
-
 // Slices that are not all there have no line.
 pub fn put_tables(t: &[u16]) {
     if t.len() < 7 {
@@ -96,13 +49,13 @@ pub fn put_tables(t: &[u16]) {
     if t.len() < end {
         return;
     }
-    let s = spell(
+    put_writers(
         t[0],
         t[1],
         &t[7..places],
         &t[places..transitions],
         &t[transitions..arcs],
         &t[arcs..end],
+        wide(t[6]),
     );
-    put_spelt(s, wide(t[6]));
 }

@@ -7,6 +7,9 @@ mod interfaces;
 mod types;
 pub mod write;
 
+ghost use mathlib.Core.Path.{_≡_};
+ghost use Rattle.hierarchy.specs.Numbers.{number};
+
 // Why a card is turned back: its format is at fault, or its hierarchy is. specs/Numbers.antt gives the paper's number of each.
 pub enum CardFault {
     Format(card::FormatFault),
@@ -17,6 +20,22 @@ pub enum CardFault {
     NoUnit,
     NoInterface,
     Unlike,
+}
+
+// The paper's number of a fault.
+pub fn fault_number(f: CardFault) -> u64
+    ensures { λ r. ⌜ r ≡ number f ⌝ }
+{
+    match f {
+        CardFault::Format(g) => card::fault_number(g),
+        CardFault::Unseen => 10,
+        CardFault::Direction => 11,
+        CardFault::Weight => 12,
+        CardFault::Repeated => 13,
+        CardFault::NoUnit => 14,
+        CardFault::NoInterface => 15,
+        CardFault::Unlike => 16,
+    }
 }
 
 // What a pass over a card finds: nothing, or the first fault and its bit.

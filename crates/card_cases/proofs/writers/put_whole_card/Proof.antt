@@ -1,8 +1,8 @@
 use native.Mathlib.Omega.{arith}
 use lib.ListN.{length-take}
 use borrow.Author.Needs.{needs}
-use Rattle.card_cases.proofs.tables.put_whole_card.Statement.{statement}
-use Rattle.card_cases.proofs.tables.put_whole_card.Tie as tie
+use Rattle.card_cases.proofs.writers.put_whole_card.Statement.{statement}
+use Rattle.card_cases.proofs.writers.put_whole_card.Tie as tie
 
 returns : tie.Need-returns
 returns c = search needs
