@@ -183,10 +183,11 @@ pub arc-from : (numbers : List ℕ) (row j i : ℕ) → i ≡ arcField row j 0
     → ArcThere numbers row j (record { direction = getD numbers i 0; subnet = getD numbers (i + 1) 0; place = getD numbers (i + 2) 0; weight = getD numbers (i + 3) 0 })
 arc-from numbers row j i e =
     record {
-    direction = rw e;
-    subnet = rw (field-on row j i 1 e);
-    place = rw (field-on row j i 2 e);
-    weight = rw (field-on row j i 3 e) }
+      direction = rw e;
+      subnet = rw (field-on row j i 1 e);
+      place = rw (field-on row j i 2 e);
+      weight = rw (field-on row j i 3 e);
+    }
 
 pub arc-is : {c : Card} {numbers : List ℕ} {row i t j : ℕ} {a : Arc} → Laid c numbers → Begins c row i t → j < (transitionAt c t) .arcs → ArcThere numbers row j a → a ≡ arcAt c t j
 arc-is {c} {t = t} {j = j} {a = a} l b m h =
