@@ -17,7 +17,7 @@ use card::tables::subnet_type;
 use card::tables::transition_count;
 use card::tables::transition_row;
 ghost use mathlib.Core.Path.{_≡_};
-ghost use mathlib.Core.Bool.{not, _&&_, _||_};
+ghost use mathlib.Core.Bool.{true, _&&_, _||_};
 ghost use Prim.Native.Nat.{ℕ, _+_, _≤_, _<_};
 ghost use lib.ListN.{length};
 ghost use lib.Dec.{eqb};
@@ -219,24 +219,15 @@ fn alike(numbers: &[u16], starts: &[u32], subnets: u16, ranks: &[u16], r: u16, s
     alike_transitions(numbers, starts, subnets, ranks, r, s)
 }
 
-// Whether subnet s is of another type than r, or of type 0, or like it.
-fn like(numbers: &[u16], starts: &[u32], subnets: u16, ranks: &[u16], r: u16, s: u16) -> bool
-    ensures { λ x. ⌜ ((c : Card) → Loaded c (now (numbers .entry)) (now (starts .entry)) → subnets ≡ length (c .subnets) → Ranked c (now (ranks .entry)) → r < length (c .subnets) → s < length (c .subnets) → x ≡ not (sameType c r s) || alike c r s) ⌝ }
-{
-    if !same_type(numbers, starts, r, s) {
-        return true;
-    }
-    alike(numbers, starts, subnets, ranks, r, s)
-}
-
-// Whether subnet s is like each lower one of its type.
+// Whether subnet s is like each lower one of its type, where each of those is like each one below it: then it is enough to compare s with
+// the lowest of its type.
 fn like_lower(numbers: &[u16], starts: &[u32], subnets: u16, ranks: &[u16], s: u16) -> bool
-    ensures { λ x. ⌜ ((c : Card) → Loaded c (now (numbers .entry)) (now (starts .entry)) → subnets ≡ length (c .subnets) → Ranked c (now (ranks .entry)) → s < length (c .subnets) → x ≡ likeLower c s) ⌝ }
+    ensures { λ x. ⌜ ((c : Card) → Loaded c (now (numbers .entry)) (now (starts .entry)) → subnets ≡ length (c .subnets) → Ranked c (now (ranks .entry)) → s < length (c .subnets) → ((r : ℕ) → r < s → likeLower c r ≡ true) → x ≡ likeLower c s) ⌝ }
 {
     let mut r = 0;
     while r < s {
-        if !like(numbers, starts, subnets, ranks, r, s) {
-            return false;
+        if same_type(numbers, starts, r, s) {
+            return alike(numbers, starts, subnets, ranks, r, s);
         }
         r += 1;
     }

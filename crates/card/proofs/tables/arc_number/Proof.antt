@@ -1,6 +1,6 @@
 -- `card::tables::arc_number` meets its contract. Assumes nothing.
 use Prim.Native.Nat.{_+_}
-use mathlib.Core.Path.{_≡_, _∙_}
+use mathlib.Core.Path.{_≡_}
 use native.Mathlib.Omega.{arith}
 use Rattle.card.specs.Index.{arcField}
 use borrow.Author.Needs.{needs}

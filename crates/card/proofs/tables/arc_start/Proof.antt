@@ -1,6 +1,5 @@
 -- `card::tables::arc_start` meets its contract. Assumes nothing.
 use Prim.Native.Nat.{_≤_}
-use mathlib.Core.Path.{_∙_}
 use native.Mathlib.Nat.{mul-le-mul-left}
 use native.Mathlib.Omega.{arith}
 use Rattle.card.specs.Index.{arcField}
