@@ -1,5 +1,7 @@
-//! Times the proved reader and the plain one in turn, on the cards named as arguments.
+//! Times the proved reader and check beside the plain ones, in turn, on the cards named as arguments. The first argument names a file of
+//! cards on which only their answers are compared, each after its length in four bytes.
 
+mod check;
 mod reader;
 
 use std::hint::black_box;
@@ -7,13 +9,19 @@ use std::time::Instant;
 
 const SAMPLES: usize = 501;
 const SAMPLE_NANOSECONDS: f64 = 200_000.0;
+const TURNED_BITS: usize = 1000;
 
 extern "C" {
     fn read_field(card: *const u8, length: usize, i: usize) -> u64;
+    fn check_card(card: *const u8, length: usize) -> u64;
 }
 
-fn proved(data: &[u8], i: usize) -> u64 {
+fn proved_read(data: &[u8], i: usize) -> u64 {
     unsafe { read_field(data.as_ptr(), data.len(), i) }
+}
+
+fn proved_check(data: &[u8]) -> u64 {
+    unsafe { check_card(data.as_ptr(), data.len()) }
 }
 
 /// A card's numbers, field after field.
@@ -37,32 +45,71 @@ fn numbers(card: &reader::Card) -> Vec<u8> {
     all
 }
 
-/// The plain reader's answer as `read_field` packs it, with the top 16 bits 0.
-fn packed(answer: &Result<reader::Card, reader::Refusal>) -> u64 {
+/// An answer as `check_card` packs it.
+fn packed(answer: Result<[usize; 3], &reader::Refusal>) -> u64 {
     match answer {
-        Ok(card) => {
-            let counts = [
-                card.subnets.len(),
-                card.places.len(),
-                card.transitions.len(),
-            ];
-            counts
-                .iter()
-                .fold(0, |sum, &count| sum << 16 | count as u64)
-        }
+        Ok(counts) => counts
+            .iter()
+            .fold(0, |sum, &count| sum << 16 | count as u64),
         Err(refusal) => 1 << 47 | u64::from(refusal.number) << 40 | refusal.bit as u64,
     }
 }
 
 /// Checks that both readers give the same answer and numbers, and counts the fields.
-fn compare(data: &[u8]) -> usize {
+fn compare_reads(data: &[u8]) -> usize {
     let answer = reader::read(data);
+    let counts = answer.as_ref().map(|card| {
+        [
+            card.subnets.len(),
+            card.places.len(),
+            card.transitions.len(),
+        ]
+    });
     let all = answer.as_ref().map_or(Vec::new(), numbers);
     for i in 0..=all.len() {
         let number = u64::from(all.get(i).copied().unwrap_or(0));
-        assert_eq!(proved(data, i), number << 48 | packed(&answer), "field {i}");
+        assert_eq!(
+            proved_read(data, i),
+            number << 48 | packed(counts),
+            "field {i}"
+        );
     }
     all.len()
+}
+
+/// Checks that both checks give the same answer, and says whether they accept.
+fn compare_checks(data: &[u8]) -> bool {
+    let answer = check::check(data);
+    let expected = packed(answer.as_ref().map(|&counts| counts));
+    assert_eq!(proved_check(data), expected, "card {data:?}");
+    answer.is_ok()
+}
+
+/// The same on the card cut short, and with each of some bits turned, from the first one to the last.
+fn compare_damaged(data: &[u8]) {
+    for cut in [0, 1, data.len() / 2, data.len() - 1] {
+        compare_reads(&data[..cut]);
+        compare_checks(&data[..cut]);
+    }
+    let mut turned = data.to_vec();
+    for bit in (0..8 * data.len()).step_by(8 * data.len() / TURNED_BITS + 1) {
+        turned[bit / 8] ^= 0x80 >> bit % 8;
+        compare_checks(&turned);
+        turned[bit / 8] ^= 0x80 >> bit % 8;
+    }
+}
+
+/// Compares the checks on each card of a file.
+fn compare_all(path: &str) {
+    let file = std::fs::read(path).expect("a file of cards");
+    let (mut rest, mut cards, mut accepted) = (&file[..], 0, 0);
+    while let Some((length, others)) = rest.split_first_chunk() {
+        let (card, others) = others.split_at(u32::from_be_bytes(*length) as usize);
+        accepted += usize::from(compare_checks(card));
+        cards += 1;
+        rest = others;
+    }
+    println!("{cards} cards with equal answers, {accepted} of them accepted");
 }
 
 /// The time of one of so many calls.
@@ -79,29 +126,51 @@ fn median(mut times: Vec<f64>) -> f64 {
     times[times.len() / 2]
 }
 
+/// Times two calls in turn, and prints their medians.
+fn time<T, U>(name: &str, fields: usize, proved: impl Fn() -> T, plain: impl Fn() -> U) {
+    let calls = (SAMPLE_NANOSECONDS / nanoseconds(10, &proved)).max(1.0) as usize;
+    let mut times = (Vec::new(), Vec::new());
+    for _ in 0..SAMPLES {
+        times.0.push(nanoseconds(calls, &proved));
+        times.1.push(nanoseconds(calls, &plain));
+    }
+    let (proved, plain) = (median(times.0), median(times.1));
+    println!(
+        "{name:16} {:8.2} {:8.2} us   {:6.2} {:6.2} ns a field   ratio {:.2}",
+        proved / 1000.0,
+        plain / 1000.0,
+        proved / fields as f64,
+        plain / fields as f64,
+        proved / plain
+    );
+}
+
 fn main() {
-    println!("{SAMPLES} samples each, medians, nanoseconds a field");
-    for path in std::env::args().skip(1) {
+    let mut paths = std::env::args().skip(1);
+    compare_all(&paths.next().expect("a file of cards"));
+    println!("proved and plain: {SAMPLES} samples each, medians");
+    for path in paths {
         let data = std::fs::read(&path).expect("a card");
-        let fields = compare(&data);
-        for cut in [0, 1, data.len() / 2, data.len() - 1] {
-            compare(&data[..cut]);
-        }
-        let read_proved = || proved(black_box(&data), black_box(0));
-        let read_plain = || reader::read(black_box(&data));
-        let calls = (SAMPLE_NANOSECONDS / nanoseconds(10, read_proved)).max(1.0) as usize;
-        let mut times = (Vec::new(), Vec::new());
-        for _ in 0..SAMPLES {
-            times
-                .0
-                .push(nanoseconds(calls, read_proved) / fields as f64);
-            times.1.push(nanoseconds(calls, read_plain) / fields as f64);
-        }
-        let (proved, plain) = (median(times.0), median(times.1));
+        let fields = compare_reads(&data);
+        let word = if compare_checks(&data) {
+            "accepted"
+        } else {
+            "refused"
+        };
+        compare_damaged(&data);
         let name = path.rsplit('/').next().unwrap_or(&path);
-        println!(
-            "{name}: {fields} fields, proved {proved:.2}, plain {plain:.2}, ratio {:.2}",
-            proved / plain
+        println!("{name}: {} bytes, {fields} fields, {word}", data.len());
+        time(
+            "  read",
+            fields,
+            || proved_read(black_box(&data), black_box(0)),
+            || reader::read(black_box(&data)),
+        );
+        time(
+            "  check",
+            fields,
+            || proved_check(black_box(&data)),
+            || check::check(black_box(&data)),
         );
     }
 }

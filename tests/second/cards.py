@@ -1,7 +1,7 @@
 """Random cards and rows, sound and damaged."""
 
-from net import (ARC_BITS, Arc, Card, DRAW, FILL, MOST, NORMAL, Place, Subnet, Transition, encode,
-                 encode_row, fits, pack)
+from net import (ARC_BITS, Arc, Card, DRAW, FILL, IN_OUT, MOST, NORMAL, Place, Subnet, Transition,
+                 encode, encode_row, fits, pack)
 
 # The directions that a parent may use at a place, by kind.
 PARENT_MAY = ((), (FILL,), (DRAW,), (DRAW, FILL))
@@ -122,6 +122,30 @@ def largest_card(rng):
         count = 8 if number < 31 else 7
         rows.append((rng.randrange(max(number, 1)), rng.randrange(32) if number else 0,
                      [place(number) for _ in range(count)], [transition() for _ in range(count)]))
+    return tables(63, *rows)
+
+
+def full_card(*subnets):
+    """An accepted card of subnets (parent, type, places), with as many transitions as places.
+
+    Each transition has as many arcs as the places that its subnet sees allow, 31 at most. The last is
+    at the subnet's place 0. Only places 0 have capacity 1.
+    """
+    def capacity(local):
+        return 2 + 37 * local % 254 if local else 1
+
+    def transition(number, turn):
+        owners = [number] + [child for child, row in enumerate(subnets) if child and row[0] == number]
+        ends = [(direction, owner, local) for owner in owners for local in range(subnets[owner][2])
+                for direction in (DRAW, FILL)][1:]
+        chosen = (ends[turn:] + ends[:turn])[:30] + [(DRAW, number, 0)]
+        return (turn % 63, [(*end, capacity(end[2])) for end in chosen])
+
+    rows = []
+    for number, (parent, type_, count) in enumerate(subnets):
+        kind = IN_OUT if number else NORMAL
+        places = [(kind, capacity(local), local % 2) for local in range(count)]
+        rows.append((parent, type_, places, [transition(number, turn) for turn in range(count)]))
     return tables(63, *rows)
 
 

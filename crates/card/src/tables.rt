@@ -7,7 +7,7 @@ use crate::layout::subnet_fields;
 use crate::layout::transition_fields;
 use crate::layout::transition_width;
 ghost use mathlib.Core.Path.{_≡_};
-ghost use Prim.Native.Nat.{_+_, _*_};
+ghost use Prim.Native.Nat.{_+_, _*_, _≤_};
 ghost use lib.ListN.{getD};
 ghost use Rattle.card.specs.Index.{placeField, arcField, subnetBitStart, firstPlaceStart, firstTransitionStart, transitionRowStart, transitionBitStart};
 ghost use Rattle.card.specs.Format.{size};
@@ -35,17 +35,18 @@ fn place_number(numbers: &[u16], row: u32, n: u16, k: u16) -> u16
     )
 }
 
-// Number k of an arc: j counts from the first of the transition whose row begins at row.
+// Where the numbers of an arc begin: j counts from the first of the transition whose row begins at row.
+pub fn arc_start(row: u32, j: u16) -> usize
+    ensures { λ r. ⌜ (r ≡ arcField row j 0) × (r ≤ 5000000000) ⌝ }
+{
+    row as usize + transition_fields() as usize + arc_fields() as usize * j as usize
+}
+
+// Number k of an arc.
 fn arc_number(numbers: &[u16], row: u32, j: u16, k: u16) -> u16
     ensures { λ r. ⌜ r ≡ getD (now (numbers .entry)) (arcField row j k) 0 ⌝ }
 {
-    number_at(
-        numbers,
-        row as usize
-            + transition_fields() as usize
-            + arc_fields() as usize * j as usize
-            + k as usize,
-    )
+    number_at(numbers, arc_start(row, j) + k as usize)
 }
 
 // The card's version, and how many signals there are.

@@ -118,12 +118,12 @@ alikeTransitions-is c r s t u =
     Iff·trans (and-is _ _ _ _ (eq-is ((transitionAt c t) .arcs) ((transitionAt c u) .arcs)) (every-is _ _ _ (λ j. alikeArcs-is c r s (arcAt c t j) (arcAt c u j))))
     (λ h. record { arcCount = h .0; arcs = h .1 }, λ h. (h .arcCount, h .arcs))
 
-sameType-is : (c : Card) (r s : ℕ) → Decides (sameType c r s) (SameType c r s)
+pub sameType-is : (c : Card) (r s : ℕ) → Decides (sameType c r s) (SameType c r s)
 sameType-is c r s =
     Iff·trans (and-is _ _ _ _ (eq-is ((subnetAt c r) .type) ((subnetAt c s) .type)) (not-is _ _ (eq-is ((subnetAt c s) .type) 0)))
     (λ h. record { type = h .0; typed = h .1 }, λ h. (h .type, h .typed))
 
-alike-is : (c : Card) (r s : ℕ) → Decides (alike c r s) (Alike c r s)
+pub alike-is : (c : Card) (r s : ℕ) → Decides (alike c r s) (Alike c r s)
 unfolding alike
 alike-is c r s =
     Iff·trans (and-is _ _ _ _ (and-is _ _ _ _ (and-is _ _ _ _ (and-is _ _ _ _ (and-is _ _ _ _
@@ -137,7 +137,7 @@ alike-is c r s =
       λ h. (((((h .placeCount, h .places), h .childCount), h .children), h .transitionCount), h .transitions),
     )
 
-likeLower-is : (c : Card) (s : ℕ) → Decides (likeLower c s) ((r : ℕ) → r < s → SameType c r s → Alike c r s)
+pub likeLower-is : (c : Card) (s : ℕ) → Decides (likeLower c s) ((r : ℕ) → r < s → SameType c r s → Alike c r s)
 unfolding likeLower
 likeLower-is c s = every-is s _ _ (λ r. implies-is _ _ _ _ (sameType-is c r s) (alike-is c r s))
 

@@ -7,5 +7,6 @@ pub mod LoadedLaws
 pub mod ArcLaws
 pub mod ChildLaws
 pub mod TypeLaws
+pub mod LikeLaws
 pub mod CheckLaws
 pub mod WriteLaws

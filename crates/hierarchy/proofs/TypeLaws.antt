@@ -6,14 +6,14 @@ use mathlib.Core.List.{List}
 use native.Mathlib.Omega.{arith}
 use lib.ListN.{length, getD}
 use lib.Dec.{eqb}
-use borrow.Author.Tests.{eqb-true, eq-eqb, ne-eqb, not-true, not-false}
+use borrow.Author.Tests.{eqb-true, eq-eqb, ne-eqb}
 use Rattle.card.specs.Finite.{sumTo, every}
 use Rattle.card.specs.Card.{Card, Arc, normal, subnetAt, placeAt, firstPlace, firstTransition}
 use Rattle.card.specs.Index.{Indexed, Lists, firstTransitionStart, transitionRowStart, transitionRow}
 use Rattle.hierarchy.specs.Conditions.{kindOf, children, child}
-use Rattle.hierarchy.specs.Check.{hasInterface, alikeArcs, sameType, alike, likeLower}
+use Rattle.hierarchy.specs.Check.{hasInterface, alikeArcs, sameType, alike}
 use Rattle.hierarchy.specs.Likeness.{placeAlike, childAlike, transitionAlike, placesAlike, childrenAlike, transitionsAlike, bothKth}
-use Rattle.hierarchy.proofs.WalkLaws.{Below, every-none, every-all, any-one, any-none, and-no, below-start, below-more}
+use Rattle.hierarchy.proofs.WalkLaws.{Below, any-one, any-none, and-no, below-start, below-more}
 use Rattle.hierarchy.proofs.ChildLaws.{and-parts}
 
 -- an interface place
@@ -127,21 +127,3 @@ child-counts c r s e =
 
 pub types-at : (c : Card) (r s k x y : ℕ) (b : Bool) → x ≡ child c r k → y ≡ child c s k → b ≡ sameType c x y → b ≡ childAlike c r s k
 types-at c r s k x y b e f g = rw (← e, ← f) g
-
--- like a lower subnet of its type
-abbrev pub likeIt : Card → (s r : ℕ) → Bool
-likeIt c s r = not (sameType c r s) || alike c r s
-
-pub of-another : (x a b : Bool) → x ≡ a → not x ≡ true → true ≡ not a || b
-of-another x a b e n = rw (← e, not-true x n)
-
-pub of-its : (x y a b : Bool) → x ≡ a → not x ≡ false → y ≡ b → y ≡ not a || b
-of-its x y a b e n f = rw (← e, not-false x n, f)
-
-pub unlike-lower : (c : Card) (s r : ℕ) → r < s → likeIt c s r ≡ false → false ≡ likeLower c s
-unfolding likeLower
-unlike-lower c s r l e = sym (every-none s r (likeIt c s) l e)
-
-pub like-all-lower : (c : Card) (s r : ℕ) → s ≤ r → Below r (likeIt c s) true → true ≡ likeLower c s
-unfolding likeLower
-like-all-lower c s r l h = sym (every-all s r (likeIt c s) h l)

@@ -6,6 +6,7 @@ use card::tables::arc_bit;
 use card::tables::arc_count;
 use card::tables::arc_direction;
 use card::tables::arc_place;
+use card::tables::arc_start;
 use card::tables::arc_subnet;
 use card::tables::arc_weight;
 use card::tables::capacity;
@@ -33,10 +34,19 @@ pub struct Arc {
     pub weight: u16,
 }
 
-// Arc j of the transition whose row begins at row.
-fn arc_at(numbers: &[u16], row: u32, j: u16) -> Arc
+// Arc j of the transition whose row begins at row. Where its four numbers are there, one test is enough.
+pub fn arc_at(numbers: &[u16], row: u32, j: u16) -> Arc
     ensures { λ r. ⌜ ArcThere (now (numbers .entry)) row j (arcOf r) ⌝ }
 {
+    let i = arc_start(row, j);
+    if i + 3 < numbers.len() {
+        return Arc {
+            direction: numbers[i],
+            subnet: numbers[i + 1],
+            place: numbers[i + 2],
+            weight: numbers[i + 3],
+        };
+    }
     Arc {
         direction: arc_direction(numbers, row, j),
         subnet: arc_subnet(numbers, row, j),

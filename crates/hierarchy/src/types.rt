@@ -1,15 +1,12 @@
 // Fault 16: a subnet that is unlike a lower one of its type.
 use crate::CardFault;
 use crate::Finding;
+use crate::arcs::arc_at;
 use crate::children::all_ranks;
 use crate::children::both_kth;
 use crate::children::kth_child;
 use crate::children::rank;
 use card::tables::arc_count;
-use card::tables::arc_direction;
-use card::tables::arc_place;
-use card::tables::arc_subnet;
-use card::tables::arc_weight;
 use card::tables::capacity;
 use card::tables::first_transition;
 use card::tables::kind;
@@ -20,7 +17,7 @@ use card::tables::subnet_type;
 use card::tables::transition_count;
 use card::tables::transition_row;
 ghost use mathlib.Core.Path.{_≡_};
-ghost use mathlib.Core.Bool.{not, _&&_, _||_};
+ghost use mathlib.Core.Bool.{true, _&&_, _||_};
 ghost use Prim.Native.Nat.{ℕ, _+_, _≤_, _<_};
 ghost use lib.ListN.{length};
 ghost use lib.Dec.{eqb};
@@ -131,18 +128,18 @@ fn alike_arc(
 ) -> bool
     ensures { λ x. ⌜ ((c : Card) → Loaded c (now (numbers .entry)) (now (starts .entry)) → subnets ≡ length (c .subnets) → Ranked c (now (ranks .entry)) → length (children c r) ≡ length (children c s) → (a b : Arc) → ArcThere (now (numbers .entry)) t j a → ArcThere (now (numbers .entry)) u j b → x ≡ alikeArcs c r s a b) ⌝ }
 {
-    if arc_direction(numbers, t, j) != arc_direction(numbers, u, j) {
+    let a = arc_at(numbers, t, j);
+    let b = arc_at(numbers, u, j);
+    if a.direction != b.direction {
         return false;
     }
-    if arc_weight(numbers, t, j) != arc_weight(numbers, u, j) {
+    if a.weight != b.weight {
         return false;
     }
-    if arc_place(numbers, t, j) != arc_place(numbers, u, j) {
+    if a.place != b.place {
         return false;
     }
-    let a = arc_subnet(numbers, t, j);
-    let b = arc_subnet(numbers, u, j);
-    alike_subnets(numbers, starts, subnets, ranks, r, s, a, b)
+    alike_subnets(numbers, starts, subnets, ranks, r, s, a.subnet, b.subnet)
 }
 
 // Where transition k of subnet s begins. Tables that are no card's may start it past all numbers.
@@ -222,24 +219,15 @@ fn alike(numbers: &[u16], starts: &[u32], subnets: u16, ranks: &[u16], r: u16, s
     alike_transitions(numbers, starts, subnets, ranks, r, s)
 }
 
-// Whether subnet s is of another type than r, or of type 0, or like it.
-fn like(numbers: &[u16], starts: &[u32], subnets: u16, ranks: &[u16], r: u16, s: u16) -> bool
-    ensures { λ x. ⌜ ((c : Card) → Loaded c (now (numbers .entry)) (now (starts .entry)) → subnets ≡ length (c .subnets) → Ranked c (now (ranks .entry)) → r < length (c .subnets) → s < length (c .subnets) → x ≡ not (sameType c r s) || alike c r s) ⌝ }
-{
-    if !same_type(numbers, starts, r, s) {
-        return true;
-    }
-    alike(numbers, starts, subnets, ranks, r, s)
-}
-
-// Whether subnet s is like each lower one of its type.
+// Whether subnet s is like each lower one of its type, where each of those is like each one below it: then it is enough to compare s with
+// the lowest of its type.
 fn like_lower(numbers: &[u16], starts: &[u32], subnets: u16, ranks: &[u16], s: u16) -> bool
-    ensures { λ x. ⌜ ((c : Card) → Loaded c (now (numbers .entry)) (now (starts .entry)) → subnets ≡ length (c .subnets) → Ranked c (now (ranks .entry)) → s < length (c .subnets) → x ≡ likeLower c s) ⌝ }
+    ensures { λ x. ⌜ ((c : Card) → Loaded c (now (numbers .entry)) (now (starts .entry)) → subnets ≡ length (c .subnets) → Ranked c (now (ranks .entry)) → s < length (c .subnets) → ((r : ℕ) → r < s → likeLower c r ≡ true) → x ≡ likeLower c s) ⌝ }
 {
     let mut r = 0;
     while r < s {
-        if !like(numbers, starts, subnets, ranks, r, s) {
-            return false;
+        if same_type(numbers, starts, r, s) {
+            return alike(numbers, starts, subnets, ranks, r, s);
         }
         r += 1;
     }

@@ -1,61 +1,27 @@
 -- `card::tables::arc_number` meets its contract. Assumes nothing.
-use Prim.Native.Nat.{_≤_}
-use mathlib.Core.Path.{_∙_}
-use native.Mathlib.Nat.{mul-le-mul-left}
+use Prim.Native.Nat.{_+_}
+use mathlib.Core.Path.{_≡_}
 use native.Mathlib.Omega.{arith}
 use Rattle.card.specs.Index.{arcField}
 use borrow.Author.Needs.{needs}
 use Rattle.card.proofs.tables.arc_number.Statement.{statement}
 use Rattle.card.proofs.tables.arc_number.Tie as tie
 
-transition-fields-requires : tie.Need-transition-fields-requires
-transition-fields-requires c κs = search needs
-
-cast-number-at : tie.Need-cast-number-at
-cast-number-at c = search needs
+arc-start-requires : tie.Need-arc-start-requires
+arc-start-requires c κs = search needs
 
 add-number-at : tie.Need-add-number-at
 add-number-at c = search needs
-
-arc-fields-requires : tie.Need-arc-fields-requires
-arc-fields-requires c κs = search needs
-
-cast-number-at-2 : tie.Need-cast-number-at-2
-cast-number-at-2 c = search needs
-
-mul-number-at : tie.Need-mul-number-at
-mul-number-at c =
-    let l : (c .before .before .before .args) .j ≤ 65536 = omega arith in
-    omega (arith, (c .arc-fields) .ensures .1, (c .before .transition-fields) .ensures .1, mul-le-mul-left ((c .arc-fields) .result) l)
-
-add-number-at-2 : tie.Need-add-number-at-2
-add-number-at-2 c =
-    let l : (c .before .before .before .args) .j ≤ 65536 = omega arith in
-    omega (arith, (c .arc-fields) .ensures .1, (c .before .transition-fields) .ensures .1, mul-le-mul-left ((c .arc-fields) .result) l)
-
-add-number-at-3 : tie.Need-add-number-at-3
-add-number-at-3 c =
-    let l : (c .before .before .before .args) .j ≤ 65536 = omega arith in
-    omega (arith, (c .arc-fields) .ensures .1, (c .before .transition-fields) .ensures .1, mul-le-mul-left ((c .arc-fields) .result) l)
 
 number-at-requires : tie.Need-number-at-requires
 number-at-requires c κs = search needs
 
 returns : tie.Need-returns
 unfolding arcField
-returns c = (c .number-at) .ensures ∙ rw ((c .before .arc-fields) .ensures .0, (c .before .before .transition-fields) .ensures .0)
+returns c =
+    let a = c .before .before .before .args in
+    let e : c .before .arc-start .result + a .k ≡ arcField (a .row) (a .j) (a .k) = omega (arith, c .before .arc-start .ensures .0) in
+    rw (← e) (c .number-at .ensures)
 
 pub arc-number-spec : {M : Type 1} → statement M
-arc-number-spec =
-    tie.close
-    (tie.spec
-    transition-fields-requires
-    cast-number-at
-    add-number-at
-    arc-fields-requires
-    cast-number-at-2
-    mul-number-at
-    add-number-at-2
-    add-number-at-3
-    number-at-requires
-    returns)
+arc-number-spec = tie.close (tie.spec arc-start-requires add-number-at number-at-requires returns)

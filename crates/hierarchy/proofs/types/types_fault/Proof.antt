@@ -48,7 +48,7 @@ returns c =
     let z = c .before .before .before .before .before .loop in
     let y = c .subnet-bit in
     λ d h e n. let l : z .s < length (d .subnets) = omega (arith, e, c .before .before .before .before .loop-test .taken) in
-    first-fails (length (d .subnets)) (z .s) (subnetBit d) (likeLower d) Unlike (y .result) (z .inv d h e n) l (test-fails (x .result) _ (x .ensures d h e (k .ensures d h e n) l) (c .before .if1 .taken))
+    first-fails (length (d .subnets)) (z .s) (subnetBit d) (likeLower d) Unlike (y .result) (z .inv d h e n) l (test-fails (x .result) _ (x .ensures d h e (k .ensures d h e n) l (z .inv d h e n)) (c .before .if1 .taken))
     (bit-of d (now (a .numbers)) (now (a .starts)) h (z .s) (y .result) l (y .ensures))
 
 add-s : tie.Need-add-s Inv-loop μ-loop
@@ -63,7 +63,7 @@ loop-again c =
     let k = c .before .before .before .before .before .all-ranks in
     let x = c .before .like-lower in
     let z = c .before .before .before .before .loop in
-    λ d h e n. below-more (z .s) (likeLower d) true (z .inv d h e n) (test-holds (x .result) _ (x .ensures d h e (k .ensures d h e n) (omega (arith, e, c .before .before .before .loop-test .taken))) (c .if1 .left))
+    λ d h e n. below-more (z .s) (likeLower d) true (z .inv d h e n) (test-holds (x .result) _ (x .ensures d h e (k .ensures d h e n) (omega (arith, e, c .before .before .before .loop-test .taken)) (z .inv d h e n)) (c .if1 .left))
 
 returns-2 : tie.Need-returns-2 Inv-loop μ-loop
 returns-2 c =

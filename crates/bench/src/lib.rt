@@ -1,0 +1,72 @@
+// Reader and check for the benchmark in tests/bench, which calls them from Rust. Each answer is one number: three counts of 16 bits; or bit
+// 47, then 7 bits for the fault and 40 for its position.
+use card::fault_number;
+use card::reader::ReadAnswer;
+use card::reader::read;
+use hierarchy::Answer;
+use hierarchy::CardFault;
+use hierarchy::check::check;
+
+fn counts(subnets: usize, places: usize, transitions: usize) -> u64 {
+    let s = subnets as u64 % 32768;
+    let p = places as u64 % 65536;
+    let t = transitions as u64 % 65536;
+    4294967296 * s + 65536 * p + t
+}
+
+fn refusal(fault: u64, at: usize) -> u64 {
+    140737488355328 + 1099511627776 * (fault % 128) + at as u64 % 1099511627776
+}
+
+// The paper's number of a fault.
+fn card_fault(f: CardFault) -> u64 {
+    match f {
+        CardFault::Format(g) => fault_number(g),
+        CardFault::Unseen => 10,
+        CardFault::Direction => 11,
+        CardFault::Weight => 12,
+        CardFault::Repeated => 13,
+        CardFault::NoUnit => 14,
+        CardFault::NoInterface => 15,
+        CardFault::Unlike => 16,
+    }
+}
+
+fn read_answer(a: ReadAnswer) -> u64 {
+    match a {
+        ReadAnswer::Whole(k) => {
+            counts(
+                k.subnets as usize,
+                k.places as usize,
+                k.transitions as usize,
+            )
+        }
+        ReadAnswer::Refused(f, at) => refusal(fault_number(f), at),
+    }
+}
+
+// An answer with a number above it.
+fn topped(n: u16, answer: u64) -> u64 {
+    281474976710656 * n as u64 + answer % 281474976710656
+}
+
+// What the reader answers, below the number of field i. It looks at the table, so that no compiler leaves the table out.
+#[no_mangle]
+pub extern "C" fn read_field(card: &[u8], i: usize) -> u64 {
+    let r = read(card);
+    let a = r.answer;
+    if i < 33026 {
+        return topped(r.numbers[i], read_answer(a));
+    }
+    read_answer(a)
+}
+
+// What the check answers.
+#[no_mangle]
+pub extern "C" fn check_card(card: &[u8]) -> u64 {
+    let a = check(card);
+    match a {
+        Answer::Accepted(s, p, t) => counts(s, p, t),
+        Answer::Refused(f, at) => refusal(card_fault(f), at),
+    }
+}
