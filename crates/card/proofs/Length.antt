@@ -13,7 +13,7 @@ use Rattle.card.proofs.Walk.{bits}
 use Rattle.card.proofs.Pack.{spell-length}
 use Rattle.card.proofs.Positions.{numbers-few}
 
-abbrev Narrow : {U A : Type 0} → Format U A → Type 0
+abbrev pub Narrow : {U A : Type 0} → Format U A → Type 0
 Narrow (done a) = Unit {0}
 Narrow (get w value fault next) = (w ≤ 8) × ((v : ℕ) → Narrow (next v))
 
@@ -77,7 +77,7 @@ narrow-wholeSubnet d =
     t : ℕ
     t = length (d .transitions)
 
-narrow-card : Narrow card
+pub narrow-card : Narrow card
 unfolding card
 narrow-card = narrow-then (of headerOf header) _ (narrow-of headerOf header narrow-header) (λ h. narrow-grow (h .subnets) wholeSubnet _ narrow-wholeSubnet)
 

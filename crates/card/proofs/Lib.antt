@@ -21,6 +21,7 @@ pub mod RunLaws
 pub mod RowNumbers
 pub mod Positions
 pub mod Length
+pub mod LongInput
 pub mod IndexLaws
 pub mod ReadLaws
 pub mod WriteTurn
