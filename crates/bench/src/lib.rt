@@ -1,10 +1,8 @@
 // Reader and check for the benchmark in tests/bench, which calls them from Rust. Each answer is one number: three counts of 16 bits; or bit
 // 47, then 7 bits for the fault and 40 for its position.
-use card::fault_number;
 use card::reader::ReadAnswer;
 use card::reader::read;
 use hierarchy::Answer;
-use hierarchy::CardFault;
 use hierarchy::check::check;
 
 fn counts(subnets: usize, places: usize, transitions: usize) -> u64 {
@@ -18,20 +16,6 @@ fn refusal(fault: u64, at: usize) -> u64 {
     140737488355328 + 1099511627776 * (fault % 128) + at as u64 % 1099511627776
 }
 
-// The paper's number of a fault.
-fn card_fault(f: CardFault) -> u64 {
-    match f {
-        CardFault::Format(g) => fault_number(g),
-        CardFault::Unseen => 10,
-        CardFault::Direction => 11,
-        CardFault::Weight => 12,
-        CardFault::Repeated => 13,
-        CardFault::NoUnit => 14,
-        CardFault::NoInterface => 15,
-        CardFault::Unlike => 16,
-    }
-}
-
 fn read_answer(a: ReadAnswer) -> u64 {
     match a {
         ReadAnswer::Whole(k) => {
@@ -41,7 +25,7 @@ fn read_answer(a: ReadAnswer) -> u64 {
                 k.transitions as usize,
             )
         }
-        ReadAnswer::Refused(f, at) => refusal(fault_number(f), at),
+        ReadAnswer::Refused(f, at) => refusal(card::fault_number(f), at),
     }
 }
 
@@ -67,6 +51,6 @@ pub extern "C" fn check_card(card: &[u8]) -> u64 {
     let a = check(card);
     match a {
         Answer::Accepted(s, p, t) => counts(s, p, t),
-        Answer::Refused(f, at) => refusal(card_fault(f), at),
+        Answer::Refused(f, at) => refusal(hierarchy::fault_number(f), at),
     }
 }
