@@ -7,4 +7,5 @@ pub mod StateLaws
 pub mod TraceLaws
 pub mod Agreement
 pub mod VisitLaws
+pub mod OrderLaws
 pub mod Starred

@@ -2,6 +2,7 @@
 
 pub mod flat;
 pub mod fresh;
+pub mod order;
 
 // A transition is idle, or carrying and has come so many thousandths of its way.
 pub enum Transfer {
