@@ -195,6 +195,7 @@ def theorems(statements):
 use mathlib.Core.List.{List, [], _∷_}
 use mathlib.Core.Option.{Option, none, some}
 use Rattle.card.specs.Writing.{allFit, counted, readTables}
+use Rattle.card.specs.Spelling.{putInto}
 use Rattle.hierarchy.specs.Numbers as checks
 use Rattle.hierarchy.specs.Judgement.{answer, judgeTables}
 use Rattle.hierarchy.specs.Output.{write}
@@ -203,7 +204,7 @@ use Rattle.runners.specs.Programs.{flattenProgram}
 use Rattle.runners.specs.Calls.{slot, consistent, valid, eachOnce, flatCall, subnetCall}
 use Rattle.runners.specs.declared.Transfer.the-variants.{Idle, Carrying}""", uses]
     text = "\n".join(dict.fromkeys("\n".join(parts).split("\n"))) + "\n"
-    more = "allFit counted readTables judgeTables write flattenProgram consistent valid eachOnce flatCall subnetCall"
+    more = "allFit counted readTables putInto judgeTables write flattenProgram consistent valid eachOnce flatCall subnetCall"
     for number, statement in enumerate(statements, start=1):
         text += f"\ncase-{number} : {statement}\nunfolding {names} {more}\ncase-{number} = refl\n"
     return text
