@@ -9,6 +9,7 @@ pub mod Sound
 pub mod Extends
 pub mod Tied
 pub mod BitLaws
+pub mod FieldLaws
 pub mod Patch
 pub mod Pack
 pub mod RoundTrip

@@ -1,9 +1,11 @@
 -- Fields of bytes, read and written through a window of three bytes: a field of 16 bits lies within one from any bit on, 7 + 16 ≤ 24.
 use Prim.Native.Nat.{ℕ, _+_, _*_, _/_, _%_, _^_, _<_, _≤_}
 use mathlib.Core.Path.{_≡_}
+use mathlib.Core.Bool.{_&&_, cond}
 use mathlib.Core.List.{List}
 use mathlib.Core.Logic.{_⊎_}
 use lib.ListN.{length, getD}
+use lib.Dec.{leb}
 use Rattle.card.specs.Bits.{bit, bitField}
 
 -- the window of three bytes from byte k on, as one number; a byte past the end is 0
@@ -27,3 +29,7 @@ pub record Put (old : List ℕ) (at w v : ℕ) (new : List ℕ) : Type 0 where
   pub value : bitField (bit new) at w ≡ v
   pub outside : (i : ℕ) → (i < at) ⊎ (at + w ≤ i) → bit new i ≡ bit old i
   pub small : ((k : ℕ) → getD old k 0 < 256) → (k : ℕ) → getD new k 0 < 256
+
+-- the field of w bits from bit at on, where it is no wider than 16 bits and lies within the bytes; else 0
+unfoldable pub fieldAt : List ℕ → (at w : ℕ) → ℕ
+fieldAt bytes at w = cond (leb w 16 && leb (at + w) (8 * length bytes)) (bitField (bit bytes) at w) 0

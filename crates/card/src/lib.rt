@@ -1,6 +1,7 @@
 // Layer 1: the card's format. specs/ says what a card is, how it is read and how it is written.
 
 mod bits;
+pub mod fields;
 mod index;
 mod layout;
 pub mod reader;
