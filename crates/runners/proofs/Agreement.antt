@@ -32,7 +32,7 @@ module _ (card : List ℕ) (c : Card) (e : judge card ≡ accepted c) where
   start-consistent : Consistent (flatten c) (fresh (flatten c))
   start-consistent = fresh-consistent (flatten c) tokens
 
-  start-valid : Valid (flatten c) (freshLent (flatten c))
+  pub start-valid : Valid (flatten c) (freshLent (flatten c))
   start-valid =
       record { counts = record { places = refl; transitions = refl; signals = refl }; consistent = rw (fresh-view (flatten c)) start-consistent }
 

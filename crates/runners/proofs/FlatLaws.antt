@@ -14,7 +14,7 @@ use Rattle.card.proofs.Sums.{sum-owner, sum-below, sum-unique, map-length, all-
 use Rattle.hierarchy.specs.Conditions.{IsPlace, Sees, Weighted, Repeats, TransitionConditions, Conditions, Meets}
 use Rattle.hierarchy.specs.Judgement.{accepted, judge}
 use Rattle.hierarchy.proofs.Accepted.{accepted-meets, meets-accepted}
-use Rattle.runners.specs.Flattening.{flatPlaceRow, flatArc, flatten}
+use Rattle.runners.specs.Flattening.{flatPlaceRow, flatArc, flatten, SameNet}
 
 -- the rows of the flat card
 pub place-flat : (c : Card) (p : ℕ) → placeAt (flatten c) p ≡ flatPlaceRow (placeAt c p)
@@ -28,6 +28,19 @@ arc-flat c t j = List·getD-map (flatArc c) (c .arcs) (firstArc c t + j) (record
 pub transition-flat : (c : Card) (t : ℕ) → transitionAt (flatten c) t ≡ transitionAt c t
 unfolding flatten
 transition-flat c t = refl
+
+-- THE FLAT CARD'S NET IS THE CARD'S
+pub net-flat : (c : Card) → SameNet c (flatten c)
+net-flat c =
+    record {
+      signals = unfold flatten in refl;
+      capacities = λ p. ap (λ (r : Place). r .capacity) (place-flat c p);
+      tokens = λ p. ap (λ (r : Place). r .tokens) (place-flat c p);
+      transitions = transition-flat c;
+      directions = λ t j. ap (λ (a : Arc). a .direction) (arc-flat c t j);
+      places = λ t j. ap (λ (a : Arc). a .place) (arc-flat c t j);
+      weights = λ t j. ap (λ (a : Arc). a .weight) (arc-flat c t j);
+    }
 
 -- the place that an arc of the flat card names
 pub placeOf-flat : (c : Card) (a : Arc) → placeOf (flatten c) (flatArc c a) ≡ flatPlaceRow (placeOf c a)

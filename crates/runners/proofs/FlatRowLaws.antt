@@ -8,7 +8,6 @@ use lib.ListN.{length, getD, set, length-set}
 use lib.Seq.{getD-set-same, getD-set-other}
 use Rattle.card.specs.Finite.{sumTo}
 use Rattle.card.specs.Card.{Arc, Card, subnetAt, placeAt, transitionAt, arcAt, firstPlace, firstTransition, firstArc, flatPlace}
-use Rattle.card.specs.Rows.{entry}
 use Rattle.card.specs.Index.{subnetRow, transitionRow, placeField, arcField, firstPlaceStart, transitionRowStart, Lists, Loaded}
 use Rattle.card.proofs.Sums.{sum-owner}
 use Rattle.card.proofs.BitLaws.{lt-or-ge}

@@ -7,7 +7,6 @@ use native.Mathlib.Omega.{arith}
 use lib.ListN.{length, getD, set, drop, replicate, length-set, length-replicate, length-append, length-drop, List·getD-append}
 use lib.Seq.{ext-getD, getD-set-same, getD-set-other, getD-append-add, getD-drop}
 use Rattle.card.specs.Card.{Card, placeAt}
-use Rattle.card.specs.Rows.{entry}
 use Rattle.card.specs.Finite.{table}
 use Rattle.card.proofs.Sums.{table-length, table-at, map-length}
 use Rattle.card.proofs.BitLaws.{lt-or-ge}
@@ -57,7 +56,7 @@ fill x from zero m l = refl
 fill x from (suc n) zero l = absurd (omega arith)
 fill x from (suc n) (suc m) l = ap (λ xs. x ∷ xs) (fill x (suc from) n m (omega arith))
 
-map-table : {A B : Type 0} (f : A → B) (from n : ℕ) (g : ℕ → A) → map f (table from n g) ≡ table from n (λ i. f (g i))
+pub map-table : {A B : Type 0} (f : A → B) (from n : ℕ) (g : ℕ → A) → map f (table from n g) ≡ table from n (λ i. f (g i))
 unfolding table
 map-table f from zero g = refl
 map-table f from (suc n) g = ap (λ xs. f (g from) ∷ xs) (map-table f (suc from) n g)

@@ -8,4 +8,13 @@ pub mod TraceLaws
 pub mod Agreement
 pub mod VisitLaws
 pub mod OrderLaws
+pub mod MovedLaws
+pub mod ClaimLaws
+pub mod VisitTurns
+pub mod OnceLaws
+pub mod RoundLaws
+pub mod FewLaws
+pub mod TestLaws
+pub mod StepRow
+pub mod CallLaws
 pub mod Starred

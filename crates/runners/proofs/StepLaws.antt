@@ -37,7 +37,7 @@ conflict-is f s row =
     (λ h p l. h p (omega arith) (omega arith), λ h p a b. h p (omega arith))
 
 -- a flow of amounts that are two each is the two flows
-flow-split : (f : Card) (a b d : ℕ → ℕ) (way p : ℕ) → ((t : ℕ) → t < length (f .transitions) → a t ≡ b t + d t) → flow f a way p ≡ flow f b way p + flow f d way p
+pub flow-split : (f : Card) (a b d : ℕ → ℕ) (way p : ℕ) → ((t : ℕ) → t < length (f .transitions) → a t ≡ b t + d t) → flow f a way p ≡ flow f b way p + flow f d way p
 unfolding flow
 flow-split f a b d way p h =
     sum-same (length (f .transitions)) _ (λ t. b t * incidence f way t p + d t * incidence f way t p) (λ t l. rw (h t l) (omega arith))
@@ -64,15 +64,15 @@ module _ (f : Card) (s : NetState) (row : List ℕ) where
       (remaining-advanced f (transfer (started f s row) t) (moves f s row t) (moves-few t))
 
   -- what was owed is what is still owed and what was lost, and what was due is what is still due and what was gained
-  owed-split : (p : ℕ) → owed f (started f s row) p ≡ owed f ((next f s row) .transfers) p + flow f (moves f s row) draws p
+  pub owed-split : (p : ℕ) → owed f (started f s row) p ≡ owed f ((next f s row) .transfers) p + flow f (moves f s row) draws p
   unfolding owed
   owed-split p = flow-split f _ _ (moves f s row) draws p moves-remaining
 
-  due-split : (p : ℕ) → due f (started f s row) p ≡ due f ((next f s row) .transfers) p + flow f (moves f s row) fills p
+  pub due-split : (p : ℕ) → due f (started f s row) p ≡ due f ((next f s row) .transfers) p + flow f (moves f s row) fills p
   unfolding due
   due-split p = flow-split f _ _ (moves f s row) fills p moves-remaining
 
-  marking-at : (p : ℕ) → p < length (f .places)
+  pub marking-at : (p : ℕ) → p < length (f .places)
       → entry ((next f s row) .markings) p ≡ entry (s .markings) p + flow f (moves f s row) fills p - flow f (moves f s row) draws p
   unfolding next
   marking-at p l = table-at (length (f .places)) (λ q. entry (s .markings) q + flow f (moves f s row) fills q - flow f (moves f s row) draws q) 0 p l

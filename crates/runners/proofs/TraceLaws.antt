@@ -19,6 +19,7 @@ use Rattle.runners.specs.State.{NetState, scale, entry}
 use Rattle.runners.specs.Step.{conflict, next}
 use Rattle.runners.specs.Rows.{settle, rowRefusal, step}
 use Rattle.runners.specs.Calls.{view, slot, store, consistent, valid, eachOnce, called, flatCall, subnetCall}
+use Rattle.runners.specs.Boards.{Counts}
 use Rattle.runners.specs.Traces.{trace, Call, flatTrace, subnetTrace, netTrace, observed, Bounded}
 use Rattle.runners.specs.declared.Transfer.{Transfer}
 use Rattle.runners.specs.declared.State.{State as Lent}
@@ -36,11 +37,6 @@ held [] = refl
 held (x ∷ xs) = rw (held xs)
 
 -- a lent state has the counts of a net
-pub record Counts (f : Card) (l : Lent) : Type 0 where
-  pub places : l .places ≡ length (f .places)
-  pub transitions : l .transitions ≡ length (f .transitions)
-  pub signals : l .signals ≡ f .signals
-
 pub view-store : (f : Card) (l : Lent) (s : NetState) → Counts f l → Sized f s → view (store l s) ≡ s
 view-store f l s n h =
     rw (
@@ -133,6 +129,18 @@ not-25 (some BadRow) before after h e = let z : _≡_ {A = ℕ} 20 25 = cc in om
 not-25 (some (BadDegree g)) before after h e = let z : _≡_ {A = ℕ} 0 1 = cc in omega arith
 not-25 (some (Conflict p)) before after h e = let z : _≡_ {A = ℕ} 0 1 = cc in omega arith
 
+-- a row that is tested and stored in a lent state is the step on what that holds
+pub settled-step : (f : Card) (l : Lent) (row : List ℕ) → Valid f l
+    → observed (settle (rowRefusal f (view l) row) l (store l (next f (view l) row))) ≡ step f (view l) row
+unfolding step
+settled-step f l row v = go (rowRefusal f (view l) row) refl
+  where
+    go : (x : Option Refusal) → rowRefusal f (view l) row ≡ x
+        → observed (settle x l (store l (next f (view l) row))) ≡ settle x (view l) (next f (view l) row)
+    go (some why) q = refl
+    go none q =
+        rw (view-store f l (next f (view l) row) (v .counts) (next-sized f (view l) row (fits-is f (view l) row .0 q .long)))
+
 module _ (card : List ℕ) (c : Card) (e : judge card ≡ accepted c) where
   abbrev f : Card
   f = flatten c
@@ -173,14 +181,8 @@ module _ (card : List ℕ) (c : Card) (e : judge card ≡ accepted c) where
       rw (ordered-call l k v (o .0), runners-trace ((flatCall card l (k .row)) .1) (flat-valid l k v) calls (o .1))
 
   observed-step : (l : Lent) (row : List ℕ) → Valid f l → observed (flatCall card l row) ≡ step f (view l) row
-  unfolding flatCall step
-  observed-step l row v = rw (call-is (λ d. true) l row v) (go (rowRefusal f (view l) row) refl)
-    where
-      go : (x : Option Refusal) → rowRefusal f (view l) row ≡ x
-          → observed (settle x l (store l (next f (view l) row))) ≡ settle x (view l) (next f (view l) row)
-      go (some why) q = refl
-      go none q =
-          rw (view-store f l (next f (view l) row) (v .counts) (next-sized f (view l) row (fits-is f (view l) row .0 q .long)))
+  unfolding flatCall
+  observed-step l row v = rw (call-is (λ d. true) l row v) (settled-step f l row v)
 
   pub net-trace : (l : Lent) → Valid f l → (calls : List Call) → map observed (flatTrace card l calls) ≡ netTrace f (view l) calls
   unfolding trace

@@ -21,7 +21,7 @@ use Rattle.runners.specs.declared.Transfer.{Transfer}
 use Rattle.runners.specs.declared.Transfer.the-variants.{Idle, Carrying}
 use Rattle.runners.proofs.FlatLaws.{place-flat, arc-flat}
 
-every-same : (n : ℕ) (f g : ℕ → Bool) → ((k : ℕ) → k < n → f k ≡ g k) → every n f ≡ every n g
+pub every-same : (n : ℕ) (f g : ℕ → Bool) → ((k : ℕ) → k < n → f k ≡ g k) → every n f ≡ every n g
 unfolding every
 every-same zero f g h = refl
 every-same (suc n) f g h = ap₂ (λ (a b : Bool). a && b) (every-same n f g (λ k l. h k (omega arith))) (h n (omega arith))
@@ -82,7 +82,7 @@ module _ (r : Round) (s : ℕ) (i j : Turn) (m : Meets (i .card)) (below : s < l
         scale-same f g,
       )
 
-  candidate-same : r ≡ finding → (t : ℕ) → OwnsTransition (i .card) s t
+  pub candidate-same : r ≡ finding → (t : ℕ) → OwnsTransition (i .card) s t
       → candidateOn f (i .standing) (i .state) (i .row) t ≡ candidateOn g (j .standing) (j .state) (j .row) t
   unfolding candidateOn flatten
   candidate-same e t o =

@@ -1,7 +1,9 @@
 -- Flattening ('Flattening'; document 000, Definition 7 and equations 13 and 31).
+use Prim.Native.Nat.{ℕ}
+use mathlib.Core.Path.{_≡_}
 use mathlib.Core.List.{[], _∷_, map}
 use lib.ListN.{length}
-use Rattle.card.specs.Card.{Place, Arc, Card, normal, flatPlace}
+use Rattle.card.specs.Card.{Place, Arc, Card, normal, placeAt, transitionAt, arcAt, flatPlace}
 
 abbrev pub flatPlaceRow : Place → Place
 flatPlaceRow p = record { kind = normal; capacity = p .capacity; tokens = p .tokens }
@@ -21,3 +23,13 @@ flatten c =
       transitions = c .transitions;
       arcs = map (flatArc c) (c .arcs);
     }
+
+-- the net of f is the net of c: signals, capacities and first tokens by flat place, transitions, and arcs resolved to flat places
+pub record SameNet (c f : Card) : Type 0 where
+  pub signals : f .signals ≡ c .signals
+  pub capacities : (p : ℕ) → (placeAt f p) .capacity ≡ (placeAt c p) .capacity
+  pub tokens : (p : ℕ) → (placeAt f p) .tokens ≡ (placeAt c p) .tokens
+  pub transitions : (t : ℕ) → transitionAt f t ≡ transitionAt c t
+  pub directions : (t j : ℕ) → (arcAt f t j) .direction ≡ (arcAt c t j) .direction
+  pub places : (t j : ℕ) → (arcAt f t j) .place ≡ flatPlace c (arcAt c t j)
+  pub weights : (t j : ℕ) → (arcAt f t j) .weight ≡ (arcAt c t j) .weight

@@ -8,6 +8,8 @@ pub mod Calls
 pub mod Freshness
 pub mod Traces
 pub mod Visits
+pub mod Boards
+pub mod Answers
 pub mod Text
 pub mod Programs
 pub mod Cases

@@ -6,7 +6,6 @@ use mathlib.Core.Logic.{_≢_}
 use mathlib.Core.Bool.{Bool, true, false, cond}
 use mathlib.Core.List.{List}
 use mathlib.Core.Option.{Option, none, some}
-use lib.ListN.{replicate}
 use Rattle.card.specs.Finite.{sumTo}
 use Rattle.card.specs.Card.{Card, subnetAt, placeAt, transitionAt, arcAt, firstPlace, firstTransition}
 use Rattle.hierarchy.specs.Conditions.{Sees}
@@ -15,28 +14,11 @@ use Rattle.runners.specs.State.{NetState, scale, entry, transfer, remain
 use Rattle.runners.specs.Step.{candidateOn, candidate, startedOn, rise, advanced, conflict}
 use Rattle.runners.specs.declared.Transfer.{Transfer}
 
--- The subnet runner keeps, for each subnet, the markings it owns and its transitions: those with the flat numbers of its own.
-pub record OwnsPlace (c : Card) (s p : ℕ) : Type 0 where
-  pub low : firstPlace c s ≤ p
-  pub high : p < firstPlace c (suc s)
-
+-- The subnet runner keeps, for each subnet, the markings it owns and its transitions: the places and transitions from its first flat number
+-- up to the next subnet's.
 pub record OwnsTransition (c : Card) (s t : ℕ) : Type 0 where
   pub low : firstTransition c s ≤ t
   pub high : t < firstTransition c (suc s)
-
--- A claims board for all 255 places starts each row at zero, with standing claims and candidates' claims in separate columns. (The claims
--- board is document 01's term.)
-pub record Board : Type 0 where
-  pub owed : List ℕ
-  pub due : List ℕ
-  pub owedNew : List ℕ
-  pub dueNew : List ℕ
-
-abbrev pub cleared : Board
-cleared = record { owed = replicate 255 0; due = replicate 255 0; owedNew = replicate 255 0; dueNew = replicate 255 0 }
-
-abbrev pub standing : Board → Claims
-standing b = record { owed = entry (b .owed); due = entry (b .due) }
 
 -- It visits the subnets three times: to post standing claims, to find candidates and post theirs, and to move.
 pub data Round : Type 0 where

@@ -1,8 +1,14 @@
 // Layer 3: flattening, the step and the two runners. specs/ says what they do and what the two programs write.
 
+mod claims;
 pub mod flat;
 pub mod fresh;
-pub mod order;
+mod order;
+mod rounds;
+pub mod row;
+mod tests;
+mod verdict;
+mod visits;
 
 // A transition is idle, or carrying and has come so many thousandths of its way.
 pub enum Transfer {
@@ -24,6 +30,14 @@ pub struct State {
     pub places: usize,
     pub transitions: usize,
     pub signals: usize,
+}
+
+// How many subnets, places, transitions and signals a card has.
+pub struct Sizes {
+    pub subnets: u16,
+    pub places: u16,
+    pub transitions: u16,
+    pub signals: u16,
 }
 
 // Why a call is turned back. specs/Numbers.antt gives the paper's number and values of each.

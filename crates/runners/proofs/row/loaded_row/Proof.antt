@@ -1,0 +1,34 @@
+-- `runners::row::loaded_row` meets its contract. Assumes nothing.
+use denote.Ref.{now}
+use Rattle.runners.specs.Flattening.{flatten}
+use Rattle.runners.proofs.CallLaws.{flat-signals, fault-none, row-refused, row-stepped}
+use borrow.Author.Needs.{needs}
+use Rattle.runners.proofs.row.loaded_row.Statement.{statement}
+use Rattle.runners.proofs.row.loaded_row.Tie as tie
+
+row-test-requires : tie.Need-row-test-requires
+row-test-requires c κs = search needs
+
+enum-known-fault : tie.Need-enum-known-fault
+enum-known-fault c = search needs
+
+enum-told : tie.Need-enum-told
+enum-told c = search needs
+
+step-requires : tie.Need-step-requires
+step-requires c κs = search needs
+
+returns : tie.Need-returns
+returns c = λ k i p n v o. row-refused k ((c .before .before .before .before .before .before .before .before .before .args) .state) _ (now ((c .before .before .before .before .before .before .before .before .before .args) .row)) ((c .before .before .before .row-test) .result) ((c .before .before .before .row-test) .ensures (flatten k) (flat-signals k _ (n .signals))) _ ((c .before .fault) .given .1)
+
+returns-2 : tie.Need-returns-2
+returns-2 c =
+    λ k i p n v o.
+    let e = (c .before .before .before .row-test) .ensures (flatten k) (flat-signals k _ (n .signals)) in
+    row-stepped k ((c .before .before .before .before .before .before .before .before .before .args) .state) _ (now ((c .before .before .before .before .before .before .before .before .before .args) .row)) ((c .before .before .before .row-test) .result) e ((c .step) .result) ((c .before .enum-told) .given .1)
+    ((c .step) .ensures k i p (n .places) v o (fault-none k ((c .before .before .before .before .before .before .before .before .before .args) .state) ((c .before .before .before .before .before .before .before .before .before .args) .state) (now ((c .before .before .before .before .before .before .before .before .before .args) .row)) ((c .before .before .before .row-test) .result) e ((c .before .enum-told) .given .1)))
+
+pub loaded-row-spec : {M : Type 1} → statement M
+loaded-row-spec =
+    tie.close
+    (tie.spec row-test-requires enum-known-fault enum-told step-requires returns returns-2)

@@ -1,0 +1,14 @@
+-- `runners::visits::started` meets its contract. Assumes nothing.
+use native.Mathlib.Omega.{arith}
+use borrow.Author.Tests.{lt-ltb, le-ltb}
+use Rattle.runners.proofs.visits.started.Statement.{statement}
+use Rattle.runners.proofs.visits.started.Tie as tie
+
+returns : tie.Need-returns
+returns c = rw (le-ltb 0 ((c .before .args) .part) (omega (arith, (c .if1) .taken)))
+
+returns-2 : tie.Need-returns-2
+returns-2 c = rw (lt-ltb 0 ((c .before .args) .part) (omega (arith, (c .if1) .left)))
+
+pub started-spec : {M : Type 1} → statement M
+started-spec = tie.close (tie.spec returns returns-2)
