@@ -17,4 +17,7 @@ pub mod FewLaws
 pub mod TestLaws
 pub mod StepRow
 pub mod CallLaws
+pub mod LineLaws
+pub mod FileLaws
+pub mod FeedLaws
 pub mod Starred

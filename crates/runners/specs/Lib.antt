@@ -10,6 +10,9 @@ pub mod Traces
 pub mod Visits
 pub mod Boards
 pub mod Answers
+pub mod Feeds
 pub mod Text
 pub mod Programs
+pub mod Lines
+pub mod Files
 pub mod Cases
