@@ -20,4 +20,5 @@ pub mod CallLaws
 pub mod LineLaws
 pub mod FileLaws
 pub mod FeedLaws
+pub mod AgreeLaws
 pub mod Starred

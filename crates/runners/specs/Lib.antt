@@ -15,4 +15,5 @@ pub mod Text
 pub mod Programs
 pub mod Lines
 pub mod Files
+pub mod Agreeing
 pub mod Cases

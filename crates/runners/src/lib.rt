@@ -1,5 +1,6 @@
 // Layer 3: flattening, the step and the two runners. specs/ says what they do and what the two programs write.
 
+pub mod agree;
 mod claims;
 pub mod feed;
 pub mod file;
@@ -9,6 +10,7 @@ pub mod line;
 mod order;
 mod rounds;
 pub mod row;
+pub mod same;
 mod tests;
 mod verdict;
 mod visits;
