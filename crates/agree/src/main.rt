@@ -1,0 +1,62 @@
+// Runs both runners on the card in the file net.card and the calls of standard input, and prints whether they agree: yes or no; of a refused
+// card, one line: no, number, position. No such file: no bytes. A call is a row as in a rows file, and then the visiting order, a byte a
+// subnet. Of the calls the first 65,536 bytes are read; of a longer card the first 33,027 decide (long-input in card/proofs/LongInput.antt).
+use hierarchy::Answer;
+use libc::STDIN_FILENO;
+use libc::STDOUT_FILENO;
+use runners::agree::agree;
+use runners::fresh::fresh;
+use runners::line::Line;
+use runners::line::card_line;
+
+fn read_card(card: &mut [u8]) -> usize {
+    let fd = os::open_read(b"net.card");
+    if fd < 0 {
+        return 0;
+    }
+    let n = io::read_full(fd, card);
+    libc::close(fd);
+    n
+}
+
+fn put_bytes(bytes: &[u8], n: usize) {
+    if n <= bytes.len() {
+        io::write_all(STDOUT_FILENO, &bytes[..n]);
+    }
+}
+
+fn put_line(l: Line) {
+    let bytes = l.bytes;
+    put_bytes(&bytes, l.length);
+}
+
+fn put_agreed(yes: bool) {
+    if yes {
+        io::write_all(STDOUT_FILENO, b"yes\n");
+        return;
+    }
+    io::write_all(STDOUT_FILENO, b"no\n");
+}
+
+fn put_answer(card: &[u8], calls: &[u8]) {
+    let f = fresh(card);
+    let a = f.answer;
+    match a {
+        Answer::Refused(why, at) => put_line(card_line(why, at)),
+        Answer::Accepted(_s, _p, _t) => put_agreed(agree(card, calls)),
+    }
+}
+
+fn main() {
+    let mut card = [0; 33027];
+    let mut calls = [0; 65536];
+    let n = read_card(&mut card);
+    let m = io::read_full(STDIN_FILENO, &mut calls);
+    if 33027 < n {
+        return;
+    }
+    if 65536 < m {
+        return;
+    }
+    put_answer(&card[..n], &calls[..m]);
+}

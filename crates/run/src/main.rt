@@ -1,0 +1,39 @@
+// Runs the card in the file net.card on the rows of standard input, and prints the flat runner's answers, a line a row; of a refused card, one
+// line: no, number, position. No such file: no bytes. Of a longer file the first 33,027 bytes decide (long-input in
+// card/proofs/LongInput.antt), so no more are read.
+mod rows;
+
+use crate::rows::put_line;
+use crate::rows::put_rows_of;
+use hierarchy::Answer;
+use runners::feed::flat_net;
+use runners::fresh::fresh;
+use runners::line::card_line;
+
+fn read_card(card: &mut [u8]) -> usize {
+    let fd = os::open_read(b"net.card");
+    if fd < 0 {
+        return 0;
+    }
+    let n = io::read_full(fd, card);
+    libc::close(fd);
+    n
+}
+
+fn run(card: &[u8]) {
+    let f = fresh(card);
+    let a = f.answer;
+    let state = f.state;
+    match a {
+        Answer::Refused(why, at) => put_line(card_line(why, at)),
+        Answer::Accepted(_s, _p, _t) => put_rows_of(flat_net(card), state),
+    }
+}
+
+fn main() {
+    let mut card = [0; 33027];
+    let n = read_card(&mut card);
+    if n <= 33027 {
+        run(&card[..n]);
+    }
+}

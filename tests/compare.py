@@ -1,0 +1,238 @@
+#!/usr/bin/env python3
+"""The proved programs beside the second implementation: random cards, damaged cards, random rows, states and visiting orders.
+
+    compare.py [SEED [CARDS]]
+
+Each worker has a seed of its own, which is printed, and prints each
+difference with the card in hexadecimal; where a batch differs, its cards are run again one by one, so that every difference is shown.
+"""
+
+import multiprocessing
+import random
+import sys
+from typing import NamedTuple
+
+import layer3
+import programs
+
+import cards
+import hierarchies
+import net
+
+WORKERS = 2
+CARDS = 20000
+BATCH = 250
+ROWS_A_CARD = 40    # rows of a file, at most
+
+
+class Tally(NamedTuple):
+    """What was compared: cards, rows, differences; and how often each answer of a row was given."""
+    cards: int
+    rows: int
+    wrong: int
+    answers: dict
+
+
+# Random cases
+
+
+def random_card(rng):
+    """The bytes of a card: random, of a family, bent, or large."""
+    kind = rng.randrange(100)
+    if kind < 70:
+        return cards.random_bytes(rng)
+    if kind < 98:
+        card = hierarchies.random_family(rng)
+        for _ in range(rng.choice((0, 0, 0, 1, 2))):
+            card = hierarchies.bent(rng, card)
+        return net.encode(card)
+    count = rng.randint(1, 32)
+    card = cards.random_card(rng, most_subnets=count, most_rows=min(7, 254 // count), most_signals=63)
+    return net.encode(card)
+
+
+def random_order(rng, subnets):
+    """Each subnet once; in one of four, a bad one."""
+    order = rng.sample(range(subnets), subnets)
+    kind = rng.randrange(16)
+    if kind == 0:
+        order[rng.randrange(subnets)] = rng.choice((0, subnets - 1, subnets, 31, 32, 65535))
+    elif kind == 1:
+        order.pop()
+    elif kind == 2:
+        order.insert(rng.randrange(subnets + 1), rng.randrange(subnets + 1))
+    elif kind == 3:
+        order = rng.choices(range(subnets), k=subnets)
+    return order
+
+
+def rising_row(rng, last):
+    """Some signals rise, others stay or fall: transfers go on for several rows."""
+    return tuple(min(1000, degree + rng.randrange(500)) if rng.randrange(3) else rng.choice((0, degree))
+                 for degree in last)
+
+
+def too_high(rng, row, degrees):
+    """The row with some degrees above 1000."""
+    return tuple(rng.choice(degrees) if rng.randrange(2) else degree for degree in row)
+
+
+def random_call_row(rng, signals):
+    kind = rng.randrange(12)
+    row = cards.random_row(rng, signals + (kind == 0) - (kind == 1))
+    return too_high(rng, row, (1001, 1023, 65535)) if kind == 2 else row
+
+
+def random_entry(rng, state):
+    """An entry of a state, or a count, and a value that may be out of range."""
+    field = rng.choice((layer3.MARKING, layer3.TRANSFER, layer3.DEGREE, rng.randint(layer3.PLACES, layer3.SIGNALS)))
+    if field >= layer3.PLACES:
+        size = len(state[field - layer3.PLACES])
+        return field, 0, rng.choice((size, size + 1, max(size - 1, 0), 255, 70000))
+    at = rng.randrange(len(state[field]) + 1)
+    return field, at, rng.choice((0, 1, 500, 999, 1000, 1001, 2000, 65535, rng.randrange(3001)))
+
+
+def call_both(rng, cases, tally):
+    """Row calls of both runners, from the fresh state on; towards the end some with states that were tampered with."""
+    signals = cases.flat.signals
+    subnets = len(cases.parts.parts)
+    last = signals * (0,)
+    for turn in range(4):
+        if turn == 3 and rng.randrange(3) == 0:
+            cases.set(*random_entry(rng, cases.lent[0].view()))
+        row = rising_row(rng, last) if turn and rng.randrange(2) else random_call_row(rng, signals)
+        replies = cases.call(random_order(rng, subnets), row)
+        last = row if len(row) == signals and max(row) <= 1000 else last
+        for reply in replies:
+            key = "ok" if reply == ("ok",) else reply[1]
+            tally[key] = tally.get(key, 0) + 1
+    return 4
+
+
+def rows_file(rng, signals):
+    """Rows that rise and fall, now and then with a degree above 1000 or a fill bit; the last may be short."""
+    last = signals * (0,)
+    rows = []
+    for _ in range(rng.randint(1, ROWS_A_CARD)):
+        row = rising_row(rng, last) if rng.randrange(4) else cards.random_row(rng, signals)
+        if rng.randrange(20) == 0:
+            row = too_high(rng, row, (1001, 1023))
+        rows.append(bytearray(net.encode_row(row)))
+        last = tuple(min(1000, degree) for degree in row)
+    if rng.randrange(4) == 0:
+        rows[rng.randrange(len(rows))][-1] |= 1
+    data = b"".join(rows)
+    return data[:-1] if rng.randrange(6) == 0 else data
+
+
+def random_cases(rng, answers):
+    """Cases with one card, and how many rows they have."""
+    cases = layer3.Cases(random_card(rng))
+    length = len(cases.data)
+    cases.flatten(rng.choice((0, length, length, max(length - rng.randrange(12), 0), length + 3)))
+    if cases.refused:
+        cases.call([0], (1, 2))
+        cases.rows(b"\0\0")
+        return cases, 2
+    calls = call_both(rng, cases, answers) if rng.randrange(2) else 0
+    data = rows_file(rng, cases.flat.signals)
+    cases.rows(data)
+    return cases, calls + len(net.split_rows(data, cases.flat.signals))
+
+
+# The programs
+
+
+def show(what, data, stdin, expected, got):
+    lines = [(expected or b"").split(b"\n"), (got or b"").split(b"\n")]
+    at = next((i for i, pair in enumerate(zip(*lines)) if pair[0] != pair[1]), min(map(len, lines)) - 1)
+    print(f"{what} differs, line {at + 1}: card {data.hex() or 'empty'}, input {stdin.hex()}")
+    print(f"    second implementation: {lines[0][at]!r}\n    program:               {lines[1][at]!r}", flush=True)
+
+
+def compare_batch(batch):
+    """The cards whose lines differ."""
+    stdin = b"".join(cases.stdin() for cases in batch)
+    expected = b"".join(cases.stdout() for cases in batch)
+    if programs.printed("row_cases", stdin) == expected:
+        return 0
+    wrong = 0
+    for cases in batch:
+        got = programs.printed("row_cases", cases.stdin())
+        if got != cases.stdout():
+            show("row_cases", cases.data, cases.stdin(), cases.stdout(), got)
+            wrong += 1
+    if wrong == 0:
+        print(f"cards that differ together and not one by one: input {stdin.hex()}", flush=True)
+    return wrong or 1
+
+
+def compare_programs(data, rows):
+    """The programs run and flatten on a card; one of no bytes is a file that is not there."""
+    wrong = 0
+    for program, stdin, expected, got in (
+            ("run", rows, net.run_program(data, rows), programs.run(data or None, rows)),
+            ("flatten", data, net.flatten_program(data), programs.flatten(data))):
+        if got != expected:
+            show(program, data, stdin, expected, got)
+            wrong += 1
+    return wrong
+
+
+def work(job):
+    """One worker's part."""
+    seed, count = job
+    rng = random.Random(seed)
+    answers = {}
+    rows = wrong = done = 0
+    while done < count:
+        batch = []
+        for _ in range(min(BATCH, count - done)):
+            cases, more = random_cases(rng, answers)
+            batch.append(cases)
+            rows += more
+        wrong += compare_batch(batch)
+        done += len(batch)
+        for cases in batch[:4]:
+            wrong += compare_programs(cases.data, rows_file(rng, 1 if cases.refused else cases.flat.signals))
+    return Tally(done, rows, wrong, answers)
+
+
+# Long inputs
+
+
+def long_inputs():
+    """Cards longer than the largest, and many rows: the differences."""
+    bench = net.encode(cards.bench_card())
+    longest = net.encode(hierarchies.longest_card())
+    wrong = 0
+    for data in (b"", bench + bytes(40000), longest + bytes(40000), longest + b"\1" + bytes(40000), bytes(70000), longest):
+        wrong += compare_programs(data, net.encode_row((1000,)))
+    rows = b"".join(net.encode_row((1000 * (i % 2), 500 * (i % 3))) for i in range(30000))
+    wrong += compare_programs(bench, rows + b"\0")
+    return wrong
+
+
+def main():
+    words = sys.argv[1:]
+    seed = int(words[0]) if words else random.SystemRandom().randrange(1 << 32)
+    count = int(words[1]) if len(words) > 1 else CARDS
+    jobs = [(seed + worker, count // WORKERS) for worker in range(WORKERS)]
+    print(f"seeds {', '.join(str(job[0]) for job in jobs)}", flush=True)
+    with multiprocessing.Pool(WORKERS) as pool:
+        tallies = pool.map(work, jobs)
+    wrong = sum(tally.wrong for tally in tallies) + long_inputs()
+    answers = {}
+    for tally in tallies:
+        for key, times in tally.answers.items():
+            answers[key] = answers.get(key, 0) + times
+    tested = sum(tally.cards for tally in tallies)
+    print(f"{tested} cards, {sum(tally.rows for tally in tallies)} rows; calls of both runners: "
+          + ", ".join(f"{key} {times}" for key, times in sorted(answers.items(), key=str)))
+    print(f"{tested - wrong} passed, {wrong} failed")
+    sys.exit(1 if wrong else 0)
+
+
+if __name__ == "__main__":
+    main()

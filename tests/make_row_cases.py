@@ -1,0 +1,212 @@
+#!/usr/bin/env python3
+"""Writes the input of the program row_cases and the lines that it must print for it.
+
+The answers are the second implementation's; the paper's own are asserted here.
+"""
+
+import random
+import sys
+
+import layer3
+
+import cards
+import hierarchies
+import net
+from net import DRAW, FILL
+
+folder = layer3.root / "crates" / "row_cases"
+
+BENCH_ROWS = [(400, 0), (300, 500), (1000, 500), (1000, 500), (1000, 900), (0, 1001)]
+BENCH_LINES = b"""1 ok 600 400 0 | 400 -
+2 ok 600 400 0 | 400 -
+3 ok 0 1000 0 | - -
+4 ok 0 1000 0 | - 0
+5 ok 0 600 400 | - 400
+6 no 21 1
+"""
+
+# Card B and its kin: two transitions, on signals 0 and 1.
+TAKERS = cards.one_subnet(2, [(1, 1), (1, 0), (1, 0)],
+                          [(signal, [(DRAW, 0, 1), (FILL, signal + 1, 1)]) for signal in (0, 1)])
+LOOP = cards.one_subnet(2, [(3, 1), (1, 0), (1, 0)],
+                        [(0, [(DRAW, 0, 1), (FILL, 0, 1), (FILL, 1, 1)]), (1, [(DRAW, 0, 1), (FILL, 2, 1)])])
+
+
+def three(tokens, weight):
+    """Capacity 3, so many tokens, and two takers."""
+    return cards.one_subnet(2, [(3, tokens), (1, 0), (1, 0)],
+                            [(signal, [(DRAW, 0, weight), (FILL, signal + 1, 1)]) for signal in (0, 1)])
+
+
+FILLERS = cards.one_subnet(2, [(2, 1), (1, 1), (1, 1)],
+                           [(signal, [(DRAW, signal + 1, 1), (FILL, 0, 1)]) for signal in (0, 1)])
+
+
+def of(card):
+    return layer3.Cases(net.encode(card))
+
+
+def orders(cases):
+    """Each subnet once, in turn."""
+    return list(range(1 if cases.refused else len(cases.parts.parts)))
+
+
+def run(card, rows, replies):
+    """Both runners on rows, with the replies that they must give."""
+    cases = of(card)
+    order = orders(cases)
+    for row, reply in zip(rows, replies, strict=True):
+        order = order[1:] + order[:1]
+        assert cases.call(order, row) == [reply, reply], (row, reply)
+    return cases
+
+
+def paper():
+    """The paper's cases of rows."""
+    ok = ("ok",)
+    bench = run(cards.bench_card(), BENCH_ROWS, 5 * [ok] + [("refused", 21, 1)])
+    data = b"".join(map(net.encode_row, BENCH_ROWS))
+    bench.rows(data)
+    assert bench.lines[-1] == BENCH_LINES
+    bench.rows(data[:-1])
+    assert bench.lines[-1].endswith(b"\n6 no 20\n")
+    bench.rows(data[:2] + b"\x01" + data[3:6])
+    assert bench.lines[-1] == b"1 no 20\n2 ok 700 300 0 | 300 -\n"
+    yield bench
+    yield run(TAKERS, [(500, 500)], [("refused", 22, 0)])
+    yield run(TAKERS, [(500, 0), (500, 500)], [ok, ok])
+    yield run(three(2, 1), [(500, 500)], [ok])
+    yield run(three(2, 2), [(500, 500)], [("refused", 22, 0)])
+    yield run(FILLERS, [(500, 500)], [("refused", 22, 0)])
+    loop = run(LOOP, [(500, 0), (500, 500), (700, 600)], [ok, ok, ok])
+    assert all(b" ok 1000 " in text.split(b"\n")[0] for text in loop.lines), "the place stays at 1000"
+    yield loop
+
+
+def telling():
+    for _, card, rows in cards.telling_cards():
+        cases = of(card)
+        for row in rows:
+            cases.call(orders(cases), row)
+        cases.rows(b"".join(map(net.encode_row, rows)))
+        yield cases
+
+
+def flattened():
+    """The flat card of a card, and of that one again: the same bytes."""
+    bench = of(cards.bench_card())
+    length = len(net.encode(net.flatten(cards.bench_card())))
+    for room in (0, length - 1, length, length + 5):
+        bench.flatten(room)
+    yield bench
+    flat = of(net.flatten(cards.bench_card()))
+    flat.flatten(length)
+    assert flat.lines[-1] == bench.lines[-3], "flattened again"
+    yield flat
+    for data in (b"", net.encode(cards.bench_card())[:28], net.encode(cards.bench_card()) + b"\0"):
+        refused = layer3.Cases(data)
+        refused.flatten(10)
+        refused.call([0], (1, 2))
+        refused.rows(b"\0\0\0")
+        yield refused
+
+
+# What is set in bench card A's state after its first row (600 400 0, transition 0 at 400, degrees 400 0), and whether that is 25.
+LENT = [
+    ((layer3.MARKING, 0, 600), False),
+    ((layer3.MARKING, 0, 599), True),           # owed is 600
+    ((layer3.MARKING, 0, 601), False),
+    ((layer3.MARKING, 0, 1001), True),
+    ((layer3.MARKING, 1, 401), True),           # due is 600
+    ((layer3.MARKING, 2, 2000), False),
+    ((layer3.MARKING, 2, 2001), True),
+    ((layer3.MARKING, 2, 4294967295), True),
+    ((layer3.MARKING, 3, 4294967295), False),   # past the places
+    ((layer3.TRANSFER, 0, 399), True),
+    ((layer3.TRANSFER, 0, 999), False),
+    ((layer3.TRANSFER, 0, 1000), True),
+    ((layer3.TRANSFER, 0, layer3.IDLE), False),
+    ((layer3.TRANSFER, 1, 0), True),
+    ((layer3.TRANSFER, 2, 65534), False),       # past the transitions
+    ((layer3.DEGREE, 1, 1000), False),
+    ((layer3.DEGREE, 1, 1001), True),
+    ((layer3.DEGREE, 2, 65535), False),         # past the signals
+    ((layer3.PLACES, 0, 2), True),
+    ((layer3.PLACES, 0, 4), True),
+    ((layer3.TRANSITIONS, 0, 1), True),
+    ((layer3.TRANSITIONS, 0, 300), True),
+    ((layer3.SIGNALS, 0, 3), True),
+    ((layer3.SIGNALS, 0, 0), True),
+]
+
+
+def lent():
+    """25, and states that are not: they come before the order and the row."""
+    for entry, bad in LENT:
+        cases = run(cards.bench_card(), [(400, 0)], [("ok",)])
+        cases.set(*entry)
+        replies = cases.call([0], (1, 1, 1))
+        assert replies == (2 * [("refused", 25)] if bad else [("refused", 20), ("refused", 23)]), (entry, replies)
+        cases.call([1, 0], (900, 100))
+        yield cases
+
+
+# Visiting orders of bench card A, and whether they are 23.
+ORDERS = [([0, 1], False), ([1, 0], False), ([], True), ([0], True), ([1], True), ([0, 0], True), ([1, 1], True), ([0, 2], True),
+          ([1, 65535], True), ([0, 32], True), ([0, 33], True), ([0, 1, 0], True), ([0, 1, 2], True), (40 * [0, 1], True)]
+
+
+def ordered():
+    for order, bad in ORDERS:
+        cases = of(cards.bench_card())
+        replies = cases.call(order, (500, 500))
+        assert replies == [("ok",), ("refused", 23) if bad else ("ok",)], order
+        # The order comes before the row.
+        replies = cases.call(order, (500, 1001))
+        assert replies == [("refused", 21, 1), ("refused", 23) if bad else ("refused", 21, 1)], order
+        cases.call([1, 0], (600, 600))
+        yield cases
+
+
+def rows():
+    """20 and 21."""
+    cases = of(cards.bench_card())
+    for row, reply in [((), 20), ((1,), 20), ((1, 2, 3), 20), ((2000, 2, 3), 20), (200 * (0,), 20), ((1001, 0), 21), ((65535, 1001), 21),
+                       ((1000, 65535), 21)]:
+        answers = cases.call([0, 1], row)
+        assert [answer[1] for answer in answers] == [reply, reply], row
+    yield cases
+
+
+def random_cases(rng):
+    """Cards of many subnets, in random orders."""
+    for card in [*(hierarchies.random_family(rng) for _ in range(12)), cards.full_card((0, 0, 3), *31 * [(0, 1, 2)]),
+                 hierarchies.longest_card()]:
+        cases = of(card)
+        order = orders(cases)
+        for _ in range(6):
+            rng.shuffle(order)
+            cases.call(order, cards.random_row(rng, cases.flat.signals))
+        cases.flatten(len(cases.data))
+        yield cases
+
+
+def made():
+    rng = random.Random(1)
+    return [*paper(), *telling(), *flattened(), *lent(), *ordered(), *rows(), *random_cases(rng)]
+
+
+def files():
+    """The two files' contents by name. The last case of the input is not all there: no line."""
+    cases = made()
+    return {"stdin": b"".join(case.stdin() for case in cases) + cases[0].stdin()[:-1],
+            "stdout": b"".join(case.stdout() for case in cases) + b"".join(cases[0].lines[:-1])}
+
+
+def main():
+    for name, content in files().items():
+        (folder / name).write_bytes(content)
+
+
+if __name__ == "__main__":
+    main()

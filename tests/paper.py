@@ -1,0 +1,83 @@
+#!/usr/bin/env python3
+"""The paper's cases of bench card A and the others, starred or not, as the programs print them. Each line here is the paper's own, or worked out
+from it by hand."""
+
+import sys
+
+import layer3
+import programs
+
+import cards
+import net
+from make_row_cases import BENCH_LINES, BENCH_ROWS, FILLERS, LOOP, TAKERS, three
+from net import DRAW, FILL
+
+BENCH = net.encode(cards.bench_card())
+
+# Place 0 feeds place 1 on signal 1; place 1 is drained on signal 0.
+FED = cards.one_subnet(2, [(1, 1), (1, 1), (2, 0)], [(0, [(DRAW, 1, 1), (FILL, 2, 1)]), (1, [(DRAW, 0, 1), (FILL, 1, 1)])])
+
+# Bench card A's fields, and refused cards: what is wrong, the bytes, the line.
+REFUSED = [
+    ("no bytes", b"", "no 1 0"),
+    ("no such file", None, "no 1 0"),
+    ("first 28 bytes", BENCH[:28], "no 1 224"),
+    ("one more byte", BENCH + b"\0", "no 9 232"),
+    ("subnet 1's parent 1", cards.with_field(BENCH, 115, 5, 1), "no 4 115"),
+    ("second arc to place 1 of subnet 1", cards.with_field(BENCH, 99, 8, 1), "no 10 93"),
+    ("second arc of direction 0", cards.with_field(BENCH, 93, 1, 0), "no 11 93"),
+    ("second arc of weight 2", cards.with_field(BENCH, 107, 8, 2), "no 12 93"),
+    ("place (1,0) made normal", cards.with_field(BENCH, 141, 2, 0), "no 10 93"),
+]
+
+# Cards that are run: the rows, and the lines.
+RUN = [
+    ("bench card A", cards.bench_card(), BENCH_ROWS, BENCH_LINES.decode()),
+    ("card B, both at once", TAKERS, [(500, 500)], "1 no 22 0\n"),
+    ("card B, one after the other", TAKERS, [(500, 0), (500, 500)], "1 ok 500 500 0 | 500 -\n2 ok 500 500 0 | 500 -\n"),
+    ("two takers of 1", three(2, 1), [(500, 500)], "1 ok 1000 500 500 | 500 500\n"),
+    ("two takers of 2", three(2, 2), [(500, 500)], "1 no 22 0\n"),
+    ("two fillers", FILLERS, [(500, 500)], "1 no 22 0\n"),
+    ("draws from and fills one place", LOOP, [(500, 0), (500, 500), (700, 600), (1000, 600), (1000, 700)],
+     "1 ok 1000 500 0 | 500 -\n2 ok 1000 500 0 | 500 -\n3 ok 1000 700 0 | 700 -\n4 ok 1000 1000 0 | - -\n5 ok 900 1000 100 | - 100\n"),
+    ("a signal at 1000 moves nothing until it falls and rises", FED,
+     [(1000, 0), (1000, 1000), (1000, 1000), (1000, 1000), (0, 1000), (600, 1000)],
+     "1 ok 1000 0 1000 | - -\n2 ok 0 1000 1000 | - -\n3 ok 0 1000 1000 | 0 -\n4 ok 0 1000 1000 | 0 -\n5 ok 0 1000 1000 | 0 -\n"
+     "6 ok 0 400 1600 | 600 -\n"),
+    ("a refused row does not end the run, and its degrees are not stored", TAKERS, [(500, 500), (1001, 0), (500, 0)],
+     "1 no 22 0\n2 no 21 0\n3 ok 500 500 0 | 500 -\n"),
+]
+
+
+def tests():
+    """Each case's name, what is printed, and what must be."""
+    rows = b"".join(map(net.encode_row, BENCH_ROWS))
+    for name, data, text in REFUSED:
+        expected = text.encode() + b"\n"
+        yield f"run, {name}", programs.run(data, rows), expected
+        if data is not None:
+            yield f"flatten, {name}", programs.flatten(data), expected
+    for name, card, given, text in RUN:
+        yield f"run, {name}", programs.run(net.encode(card), b"".join(map(net.encode_row, given))), text.encode()
+    yield "run, no rows", programs.run(BENCH, b""), b""
+    yield "run, a short row", programs.run(BENCH, rows[:2]), b"1 no 20\n"
+    yield "run, a short last row", programs.run(BENCH, rows[:5]), b"1 ok 600 400 0 | 400 -\n2 no 20\n"
+    yield "run, a fill bit", programs.run(BENCH, rows[:2] + bytes([rows[2] | 1]) + rows[:3]), b"1 no 20\n2 ok 600 400 0 | 400 -\n"
+    flat = programs.flatten(BENCH)
+    yield "flatten, bench card A", flat, net.encode(net.flatten(cards.bench_card()))
+    yield "flatten, again", programs.flatten(flat), flat
+    yield "run, the flat card", programs.run(flat, rows), BENCH_LINES
+
+
+def main():
+    count = wrong = 0
+    for name, got, expected in tests():
+        count += 1
+        if got != expected:
+            wrong += 1
+            print(f"{name}: {got!r} is not {expected!r}")
+    print(f"{count - wrong} passed, {wrong} failed")
+    sys.exit(1 if wrong else 0)
+
+
+main()
