@@ -5,10 +5,6 @@ use denote.Ref.{now}
 use Rattle.runners.proofs.AgreeLaws.{agreed-refused, agreed-never, agreed-is}
 use Rattle.runners.proofs.agree.agree.Statement.{statement}
 use Rattle.runners.proofs.agree.agree.Tie as tie
-use Rattle.runners.proofs.agree.agree.Reads as reads
-use Rattle.runners.proofs.agree.agree.Lts as lts
-use Rattle.runners.proofs.agree.agree_from.Reads as agree-from-reads
-use Rattle.runners.proofs.fresh.fresh.Reads as fresh-reads
 
 fresh-requires : tie.Need-fresh-requires
 fresh-requires c κs = search needs

@@ -10,10 +10,6 @@ use denote.Ref.{now}
 use Rattle.runners.proofs.AgreeLaws.{Going, going-start, going-end, going-no, going-more, piece-in, piece-long, size-is, row-size-is, call-at}
 use borrow.Author.Needs.{needs}
 use Rattle.runners.proofs.agree.agree_from.Tie as tie
-use Rattle.runners.proofs.agree.agree_from.Reads as reads
-use Rattle.runners.proofs.agree.agree_from.Lts as lts
-use Rattle.runners.proofs.agree.both_calls.Reads as both-calls-reads
-use Rattle.runners.proofs.file.row_bytes.Reads as row-bytes-reads
 
 abbrev Inv-loop : tie.InvT-loop
 Inv-loop card file signals subnets n size count flat₀ subnet₀ k₀ flat subnet k = (k ≤ count) × ((c : Card) → c .signals ≡ signals → length (c .subnets) ≡ subnets → Going card file c flat₀ count k flat subnet)

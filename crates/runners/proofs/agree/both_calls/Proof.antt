@@ -8,12 +8,6 @@ use denote.Ref.{now}
 use Rattle.runners.proofs.AgreeLaws.{count-few, call-held}
 use Rattle.runners.proofs.agree.both_calls.Statement.{statement}
 use Rattle.runners.proofs.agree.both_calls.Tie as tie
-use Rattle.runners.proofs.agree.both_calls.Reads as reads
-use Rattle.runners.proofs.agree.both_calls.Lts as lts
-use Rattle.runners.proofs.agree.both_rows.Reads as both-rows-reads
-use Rattle.runners.proofs.agree.degree_count.Reads as degree-count-reads
-use Rattle.runners.proofs.agree.order_of.Reads as order-of-reads
-use Rattle.runners.proofs.file.row_of.Reads as row-of-reads
 
 slice-aggregate-row-of : tie.Need-slice-aggregate-row-of
 slice-aggregate-row-of c = sym (length-take-le ((c .before .before .before .args) .n) (now ((c .before .before .before .args) .bytes)) ((c .before .before .before .pre) .0))

@@ -4,12 +4,6 @@ use denote.Ref.{now}
 use Rattle.runners.proofs.AgreeLaws.{both-no, both-yes}
 use Rattle.runners.proofs.agree.both_rows.Statement.{statement}
 use Rattle.runners.proofs.agree.both_rows.Tie as tie
-use Rattle.runners.proofs.agree.both_rows.Reads as reads
-use Rattle.runners.proofs.agree.both_rows.Lts as lts
-use Rattle.runners.proofs.row.flat_row.Reads as flat-row-reads
-use Rattle.runners.proofs.row.subnet_row.Reads as subnet-row-reads
-use Rattle.runners.proofs.same.same_reply.Reads as same-reply-reads
-use Rattle.runners.proofs.same.same_state.Reads as same-state-reads
 
 flat-row-requires : tie.Need-flat-row-requires
 flat-row-requires c κs = search needs

@@ -2,8 +2,6 @@
 use Rattle.runners.proofs.agree.degree_count.Statement.{statement}
 use Rattle.runners.proofs.AgreeLaws.{count-whole, count-none}
 use Rattle.runners.proofs.agree.degree_count.Tie as tie
-use Rattle.runners.proofs.agree.degree_count.Reads as reads
-use Rattle.runners.proofs.agree.degree_count.Lts as lts
 
 returns : tie.Need-returns
 returns c = count-none ((c .before .args) .whole) ((c .before .args) .signals) ((c .if1) .taken)

@@ -8,8 +8,6 @@ use native.Mathlib.Omega.{arith}
 use Rattle.card.proofs.Copy.{Copying, copy-start, copy-more, copy-done}
 use borrow.Author.Needs.{needs}
 use Rattle.runners.proofs.agree.order_of.Tie as tie
-use Rattle.runners.proofs.agree.order_of.Reads as reads
-use Rattle.runners.proofs.agree.order_of.Lts as lts
 
 abbrev Inv-loop : tie.InvT-loop
 Inv-loop bytes order₀ i₀ order i = (length order ≡ 32) × (i ≤ length bytes) × (length bytes ≤ 32 → Copying bytes (replicate 32 0) order i)

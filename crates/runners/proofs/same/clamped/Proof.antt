@@ -3,8 +3,6 @@ use Rattle.runners.proofs.same.clamped.Statement.{statement}
 use native.Mathlib.Omega.{arith}
 use Rattle.runners.proofs.AgreeLaws.{min-left, min-right}
 use Rattle.runners.proofs.same.clamped.Tie as tie
-use Rattle.runners.proofs.same.clamped.Reads as reads
-use Rattle.runners.proofs.same.clamped.Lts as lts
 
 returns : tie.Need-returns
 returns c = min-right ((c .before .args) .count) ((c .before .args) .most) (omega (arith, (c .if1) .taken))

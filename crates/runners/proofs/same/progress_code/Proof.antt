@@ -4,8 +4,6 @@ use Rattle.runners.specs.Agreeing.{progressCode}
 use mathlib.Core.Path.{sym, ap}
 use Rattle.runners.proofs.same.progress_code.Statement.{statement}
 use Rattle.runners.proofs.same.progress_code.Tie as tie
-use Rattle.runners.proofs.same.progress_code.Reads as reads
-use Rattle.runners.proofs.same.progress_code.Lts as lts
 
 enum-told : tie.Need-enum-told
 enum-told c = search needs

@@ -7,9 +7,6 @@ use Rattle.runners.specs.Agreeing.{codeOf}
 use mathlib.Core.Path.{sym, ap, _∙_}
 use Rattle.runners.proofs.same.refusal_code.Statement.{statement}
 use Rattle.runners.proofs.same.refusal_code.Tie as tie
-use Rattle.runners.proofs.same.refusal_code.Reads as reads
-use Rattle.runners.proofs.same.refusal_code.Lts as lts
-use Rattle.hierarchy.proofs.fault_number.Reads as fault-number-reads
 
 enum-known-why : tie.Need-enum-known-why
 enum-known-why c = search needs

@@ -6,9 +6,6 @@ use Rattle.runners.specs.Agreeing.{codeOf}
 use mathlib.Core.Path.{sym, ap}
 use Rattle.runners.proofs.same.reply_code.Statement.{statement}
 use Rattle.runners.proofs.same.reply_code.Tie as tie
-use Rattle.runners.proofs.same.reply_code.Reads as reads
-use Rattle.runners.proofs.same.reply_code.Lts as lts
-use Rattle.runners.proofs.same.refusal_code.Reads as refusal-code-reads
 
 enum-told : tie.Need-enum-told
 enum-told c = search needs

@@ -9,8 +9,6 @@ use native.Mathlib.Omega.{arith}
 use Rattle.runners.proofs.AgreeLaws.{lengths-differ, entries-differ, entries-same, entries-more}
 use borrow.Author.Needs.{needs}
 use Rattle.runners.proofs.same.same_markings.Tie as tie
-use Rattle.runners.proofs.same.same_markings.Reads as reads
-use Rattle.runners.proofs.same.same_markings.Lts as lts
 
 abbrev Inv-loop : tie.InvT-loop
 Inv-loop a b i₀ i = (length a ≡ length b) × (i ≤ length a) × ((k : ℕ) → k < i → entry a k ≡ entry b k)

@@ -6,9 +6,6 @@ use mathlib.Core.Path.{ap}
 use Rattle.runners.proofs.AgreeLaws.{reply-differs, reply-value}
 use Rattle.runners.proofs.same.same_reply.Statement.{statement}
 use Rattle.runners.proofs.same.same_reply.Tie as tie
-use Rattle.runners.proofs.same.same_reply.Reads as reads
-use Rattle.runners.proofs.same.same_reply.Lts as lts
-use Rattle.runners.proofs.same.reply_code.Reads as reply-code-reads
 
 reply-code-requires : tie.Need-reply-code-requires
 reply-code-requires c κs = search needs

@@ -3,12 +3,6 @@ use borrow.Author.Needs.{needs}
 use Rattle.runners.proofs.AgreeLaws.{prefix-few, prefix-long, prefix-seen, markings-differ, degrees-differ, states-same, failed, passed}
 use Rattle.runners.proofs.same.same_state.Statement.{statement}
 use Rattle.runners.proofs.same.same_state.Tie as tie
-use Rattle.runners.proofs.same.same_state.Reads as reads
-use Rattle.runners.proofs.same.same_state.Lts as lts
-use Rattle.runners.proofs.same.clamped.Reads as clamped-reads
-use Rattle.runners.proofs.same.same_degrees.Reads as same-degrees-reads
-use Rattle.runners.proofs.same.same_markings.Reads as same-markings-reads
-use Rattle.runners.proofs.same.same_transfers.Reads as same-transfers-reads
 
 clamped-requires : tie.Need-clamped-requires
 clamped-requires c κs = search needs

@@ -11,10 +11,6 @@ use native.Mathlib.Omega.{arith}
 use Rattle.runners.proofs.AgreeLaws.{counts-differ, transfers-differ, transfers-same, SameTo, same-more}
 use borrow.Author.Needs.{needs}
 use Rattle.runners.proofs.same.same_transfers.Tie as tie
-use Rattle.runners.proofs.same.same_transfers.Reads as reads
-use Rattle.runners.proofs.same.same_transfers.Lts as lts
-use Rattle.runners.proofs.same.clamped.Reads as clamped-reads
-use Rattle.runners.proofs.same.progress_code.Reads as progress-code-reads
 
 abbrev Inv-loop : tie.InvT-loop
 Inv-loop a b n t₀ t = (length (a .slots) ≡ 255) × (length (b .slots) ≡ 255) × (min (b .transitions) 255 ≡ min (a .transitions) 255) × (n ≡ min (a .transitions) 255) × SameTo a b t
