@@ -20,6 +20,8 @@ import net
 
 SIZES = {"most_subnets": 3, "most_rows": 3, "most_signals": 3}
 LAYERS = ("card", "hierarchy", "runners")
+# What `rt check` leaves of them: layers that have not changed since are not proved again.
+PROVED = ("log", "rlib", "stamp")
 
 # How many cases of each outcome.
 CARDS = {"accepted": 12, **{number: 2 for number in range(1, 17)}}
@@ -221,6 +223,9 @@ def main():
         for layer in LAYERS:
             shutil.copytree(root / "crates" / layer, copy / "crates" / layer)
         shutil.copy(root / "crates.txt", copy)
+        for part in PROVED:
+            if (root / "target" / part).is_dir():
+                shutil.copytree(root / "target" / part, copy / "target" / part)
         with open(copy / "crates.txt", "a") as listing:
             listing.write("computed: card hierarchy runners\n")
         for part in ("src", "specs", "proofs"):

@@ -1,8 +1,9 @@
-//! Times the proved reader and check beside the plain ones, in turn, on the cards named as arguments. The first argument names a file of
-//! cards on which only their answers are compared, each after its length in four bytes.
+//! Times the proved reader, check and rows beside the plain ones, in turn, on the cards named as arguments. The first argument names a file
+//! of cards on which only their answers are compared, each after its length in four bytes.
 
 mod check;
 mod reader;
+mod runner;
 
 use std::hint::black_box;
 use std::time::Instant;
@@ -10,10 +11,20 @@ use std::time::Instant;
 const SAMPLES: usize = 501;
 const SAMPLE_NANOSECONDS: f64 = 200_000.0;
 const TURNED_BITS: usize = 1000;
+const ROWS: usize = 200;
 
 extern "C" {
     fn read_field(card: *const u8, length: usize, i: usize) -> u64;
     fn check_card(card: *const u8, length: usize) -> u64;
+    fn flat_rows(card: *const u8, length: usize, rows: *const u16, degrees: usize) -> u64;
+    fn subnet_rows(
+        card: *const u8,
+        length: usize,
+        order: *const u16,
+        subnets: usize,
+        rows: *const u16,
+        degrees: usize,
+    ) -> u64;
 }
 
 fn proved_read(data: &[u8], i: usize) -> u64 {
@@ -22,6 +33,78 @@ fn proved_read(data: &[u8], i: usize) -> u64 {
 
 fn proved_check(data: &[u8]) -> u64 {
     unsafe { check_card(data.as_ptr(), data.len()) }
+}
+
+fn proved_flat(data: &[u8], rows: &[u16]) -> u64 {
+    unsafe { flat_rows(data.as_ptr(), data.len(), rows.as_ptr(), rows.len()) }
+}
+
+fn proved_subnets(data: &[u8], order: &[u16], rows: &[u16]) -> u64 {
+    unsafe {
+        subnet_rows(
+            data.as_ptr(),
+            data.len(),
+            order.as_ptr(),
+            order.len(),
+            rows.as_ptr(),
+            rows.len(),
+        )
+    }
+}
+
+/// The markings as one number, as the proved rows give it.
+fn sum(markings: &[u32]) -> u64 {
+    let at = |p: usize| u64::from(markings.get(p).copied().unwrap_or(0));
+    (0..255).fold(0, |n, p| (n * 31 + at(p)) % 4294967291)
+}
+
+/// Rows of degrees that rise and fall, most of them above 0.
+fn random_rows(signals: usize) -> Vec<u16> {
+    let mut seed = 1u32;
+    let mut next = || {
+        seed = seed.wrapping_mul(1664525).wrapping_add(1013904223);
+        (seed >> 16) as u16 % 1001
+    };
+    (0..ROWS * signals).map(|_| next()).collect()
+}
+
+/// Times rows, without the loading in front of them, and prints the time of one.
+fn time_rows(data: &[u8]) {
+    let Ok(card) = reader::read(data) else {
+        panic!("an accepted card");
+    };
+    let net = runner::Net::load(&card);
+    let signals = usize::from(card.signals);
+    let rows = random_rows(signals);
+    let order: Vec<u16> = (0..card.subnets.len() as u16).rev().collect();
+    let mut state = net.fresh();
+    let taken = rows.chunks(signals).filter(|row| net.row(&mut state, row)).count();
+    assert_eq!(proved_flat(data, &rows), sum(&state.markings), "flat rows");
+    assert_eq!(proved_subnets(data, &order, &rows), sum(&state.markings), "subnet rows");
+    let plain = || {
+        let mut state = net.fresh();
+        for row in black_box(&rows).chunks(signals) {
+            black_box(net.row(&mut state, row));
+        }
+    };
+    let mut times = (Vec::new(), Vec::new(), Vec::new());
+    for _ in 0..SAMPLES / 10 {
+        let flat = nanoseconds(1, || proved_flat(black_box(data), &rows));
+        let subnets = nanoseconds(1, || proved_subnets(black_box(data), &order, &rows));
+        times.0.push((flat - nanoseconds(1, || proved_flat(black_box(data), &[]))) / ROWS as f64);
+        times.1.push((subnets - nanoseconds(1, || proved_subnets(black_box(data), &order, &[]))) / ROWS as f64);
+        times.2.push(nanoseconds(1, plain) / ROWS as f64);
+    }
+    let (flat, subnets, plain) = (median(times.0), median(times.1), median(times.2));
+    println!(
+        "  rows, {taken} of {ROWS} taken: flat {:.2} us, subnets {:.2} us, plain {:.2} us   ratios {:.2} and {:.2}; {:.2} ns an arc",
+        flat / 1000.0,
+        subnets / 1000.0,
+        plain / 1000.0,
+        flat / plain,
+        subnets / flat,
+        flat / card.arcs.len() as f64
+    );
 }
 
 /// A card's numbers, field after field.
@@ -172,5 +255,8 @@ fn main() {
             || proved_check(black_box(&data)),
             || check::check(black_box(&data)),
         );
+        if word == "accepted" {
+            time_rows(&data);
+        }
     }
 }

@@ -1,5 +1,7 @@
-// Reader and check for the benchmark in tests/bench, which calls them from Rust. Each answer is one number: three counts of 16 bits; or bit
-// 47, then 7 bits for the fault and 40 for its position.
+// Reader, check and rows for the benchmark in tests/bench, which calls them from Rust. An answer of reader or check is one number: three
+// counts of 16 bits; or bit 47, then 7 bits for the fault and 40 for its position.
+mod rows;
+
 use card::reader::ReadAnswer;
 use card::reader::read;
 use hierarchy::Answer;
