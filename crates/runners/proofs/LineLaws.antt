@@ -8,7 +8,7 @@ use mathlib.Core.List.{List, [], _∷_, _++_, map, append-assoc}
 use native.Mathlib.Omega.{arith}
 use native.Mathlib.Numerals.{unary-clauses, add-one}
 use native.Mathlib.Nat.{pow-suc, zero-add}
-use lib.ListN.{length, getD, set, take, replicate, length-set, length-append, length-replicate, length-map}
+use lib.ListN.{length, getD, set, take, replicate, length-set, length-append, length-replicate}
 use lib.Seq.{set-append-seam, take-suc, take-all}
 use lib.Dec.{ltb}
 use borrow.Author.Tests.{lt-ltb, le-ltb, ltb-false}
@@ -186,10 +186,6 @@ module _ {A : Type 0} (f : A → List ℕ) (xs : List A) (x : List ℕ) (at i : 
 pub words-none : {A : Type 0} (f : A → List ℕ) (xs : List A) (x : List ℕ) (at : ℕ) → Puts x at (spaced (map f (take 0 xs))) x at
 unfolding spaced
 words-none f xs x at = puts-none x at
-
--- an array's length is told of its entries as values
-pub unmapped : (A B : Type 0) (f : A → B) (xs : List A) (n : ℕ) → length (map f xs) ≡ n → length xs ≡ n
-unmapped A B f xs n e = sym (length-map xs f) ∙ e
 
 -- the words of a state and of a refusal
 pub state-words : (s : NetState) (x : List ℕ) (at : ℕ) (y : List ℕ) (m : ℕ) (z : List ℕ) (n : ℕ) (u : List ℕ) (k : ℕ) (v : List ℕ) (r : ℕ)

@@ -33,6 +33,7 @@ use Rattle.runners.specs.declared.Slot.{Slot}
 use Rattle.runners.specs.declared.State.{State as Lent}
 use Rattle.runners.specs.declared.Refusal.the-variants.{BadRow, BadDegree, Conflict}
 use Rattle.runners.specs.declared.Reply.the-variants.{Ok, No}
+use Rattle.runners.proofs.VisitTurns.{slot-at}
 use Rattle.runners.proofs.FlatLaws.{place-flat, flat-below, flat-place}
 use Rattle.runners.proofs.TraceLaws.{valid-is}
 use Rattle.runners.proofs.FreshLaws.{map-table}
@@ -40,7 +41,7 @@ use Rattle.runners.proofs.StepLaws.{conflict-is, flow-split, owed-split
 use Rattle.runners.proofs.VisitLaws.{candidate-same, facts, effects-sum}
 use Rattle.runners.proofs.RoundLaws.{owner}
 use Rattle.runners.proofs.FewLaws.{remaining-few, claims-few}
-use Rattle.runners.proofs.TestLaws.{lowest-below, slot-read}
+use Rattle.runners.proofs.TestLaws.{lowest-below}
 
 -- a list by its first entries and those behind them
 pub joined : {A : Type 0} (d : A) (xs ys : List A) (n : ℕ) (f : ℕ → A) → n ≤ length ys → length xs ≡ length ys → ((i : ℕ) → i < n → getD xs i d ≡ f i)
@@ -260,10 +261,10 @@ module _ (c : Card) (m : Meets c) (l : Lent) (h : Counts c l) (row : List ℕ) (
         slot-r : (t : ℕ) → t < T → getD (r .slots) t (slot Idle) ≡ slot (advanced f (transfer (started f s row) t) (moves f s row t))
         slot-r t b =
             let e : startedOn (isMarked marks) (s .transfers) t ≡ transfer (started f s row) t = rw (started-at t b, marked t b) in
-            ap slot (sym (slot-read (r .slots) t) ∙ sh .own t b ∙ ap₂ (advanced f) e (amount-moves t b))
+            ap slot (sym (slot-at (r .slots) t) ∙ sh .own t b ∙ ap₂ (advanced f) e (amount-moves t b))
 
         slot-past : (t : ℕ) → T ≤ t → getD (r .slots) t (slot Idle) ≡ getD (l .slots) t (slot Idle)
-        slot-past t b = ap slot (sym (slot-read (r .slots) t) ∙ sh .others t b ∙ slot-read (l .slots) t)
+        slot-past t b = ap slot (sym (slot-at (r .slots) t) ∙ sh .others t b ∙ slot-at (l .slots) t)
 
         slots-is : r .slots ≡ map slot ((next f s row) .transfers) ++ drop (l .transitions) (l .slots)
         unfolding next

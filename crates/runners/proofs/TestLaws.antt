@@ -6,7 +6,7 @@ use mathlib.Core.Bool.{Bool, true, false, not, _&&_, false≢true}
 use mathlib.Core.List.{List, [], _∷_, map}
 use mathlib.Core.Option.{Option, none, some, Option·map, Option·some-injective, Option·some-ne-none}
 use native.Mathlib.Omega.{arith}
-use lib.ListN.{length, getD, take, List·getD-eq-default, List·getD-map}
+use lib.ListN.{length, getD, take, List·getD-eq-default}
 use lib.Seq.{getD-take, length-take-le}
 use lib.Dec.{leb, ltb, eqb}
 use borrow.Author.Tests.{not-true, eq-eqb, ne-eqb, lt-leb, le-leb, le-ltb}
@@ -21,7 +21,7 @@ use Rattle.runners.proofs.FlatLaws.{place-flat}
 use Rattle.runners.proofs.VisitLaws.{every-same}
 use Rattle.runners.proofs.FewLaws.{remaining-few, claims-few}
 use Rattle.runners.specs.State.{scale, entry, transfer, flow, owed, due, covered, Claims}
-use Rattle.runners.specs.Calls.{view, slot, inRange, consistent, valid, names, eachOnce}
+use Rattle.runners.specs.Calls.{view, inRange, consistent, valid, names, eachOnce}
 use Rattle.runners.specs.Flattening.{flatPlaceRow, flatten}
 use Rattle.runners.specs.FlatRows.{PlacesTo}
 use Rattle.runners.specs.Visits.{posting, amount}
@@ -29,7 +29,6 @@ use Rattle.runners.specs.Boards.{Counts, AllPosted, turn, slotAt, holds,
 use Rattle.runners.specs.Answers.{rowFault, replyOf}
 use Rattle.runners.specs.declared.Transfer.{Transfer}
 use Rattle.runners.specs.declared.Transfer.the-variants.{Idle, Carrying}
-use Rattle.runners.specs.declared.Slot.{Slot}
 use Rattle.runners.specs.declared.State.{State as Lent}
 use Rattle.runners.specs.declared.Refusal.the-variants.{BadRow, BadDegree}
 use Rattle.runners.specs.declared.Reply.the-variants.{Ok, No}
@@ -163,10 +162,6 @@ module _ (c : Card) (l : Lent) (h : Counts c l) where
 
   pub degrees-good : (g : ℕ) → l .signals ≤ g → Below g (λ i. leb (entry (l .degrees) i) 1000) true → true ≡ every (c .signals) low
   degrees-good g b w = sym (every-all (c .signals) (c .signals) low (λ i d. let e : i < l .signals = omega (arith, h .signals) in degree-seen i e ∙ w i (omega arith)) (omega arith))
-
--- the transfer of a slot
-pub slot-read : (slots : List Slot) (t : ℕ) → slotAt slots t ≡ (getD slots t (slot Idle)) .transfer
-slot-read slots t = List·getD-map (λ (x : Slot). x .transfer) slots t (slot Idle)
 
 -- the order 0, 1, .., S - 1
 abbrev pub upTo32 : List ℕ

@@ -1,5 +1,5 @@
 -- The visits of the code are those of the definitions: what a transition posts, starts and moves in its turn. Assumes nothing.
-use Prim.Native.Nat.{ℕ, zero, suc, _+_, _-_, _*_, _≤_, _<_, min}
+use Prim.Native.Nat.{ℕ, suc, _+_, _-_, _*_, _≤_, _<_, min}
 use mathlib.Core.Path.{_≡_, refl, sym, ap, ap₂, subst, _∙_}
 use mathlib.Core.Logic.{_≢_, _⊎_, inl, inr}
 use mathlib.Core.Bool.{Bool, true, false, _&&_, cond}
@@ -29,7 +29,7 @@ use Rattle.runners.specs.declared.Slot.{Slot}
 use Rattle.runners.specs.declared.State.{State as Lent}
 use Rattle.runners.proofs.MovedLaws.{moved-zero, moved-join, moved-same}
 use Rattle.runners.proofs.FlatLaws.{arc-flat, flat-below}
-use Rattle.runners.proofs.VisitLaws.{facts}
+use Rattle.runners.proofs.VisitLaws.{every-same, facts}
 use Rattle.runners.proofs.FlatRowLaws.{below-all}
 
 -- what remains
@@ -178,11 +178,6 @@ module _ (c : Card) (numbers starts : List ℕ) (h : InTables c numbers starts) 
   part-posted row cl found clear part e = e ∙ ap (remaining (flatten c)) transfer-is
 
   -- the second visit judges a transition on the whole array of markings; its arcs' places are all below the last
-  every-same : (m : ℕ) (f g : ℕ → Bool) → ((j : ℕ) → j < m → f j ≡ g j) → every m f ≡ every m g
-  unfolding every
-  every-same zero f g e = refl
-  every-same (suc m) f g e = ap₂ (λ (a b : Bool). a && b) (every-same m f g (λ j b. e j (omega arith))) (e m (omega arith))
-
   allows-whole : (cl : Claims) (ms : List ℕ) (a : Arc) → a .place < l .places → allows (flatten c) cl ms a ≡ allows (flatten c) cl (take (l .places) ms) a
   unfolding allows
   allows-whole cl ms a b = rw (getD-take (l .places) ms (a .place) 0 b) refl

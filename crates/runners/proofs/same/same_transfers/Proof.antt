@@ -1,9 +1,8 @@
 -- `runners::same::same_transfers` meets its contract. Assumes nothing.
 use Rattle.runners.proofs.same.same_transfers.Statement.{statement}
-use Rattle.runners.proofs.VisitTurns.{unmapped}
+use Rattle.runners.proofs.VisitTurns.{slot-at, unmapped}
 use Rattle.runners.proofs.AgreeLaws.{min-few}
 use Rattle.runners.specs.Agreeing.{progressCode}
-use Rattle.runners.proofs.TestLaws.{slot-read}
 use mathlib.Core.Path.{_≡_, sym, ap, _∙_}
 use Prim.Native.Nat.{_-_, min}
 use lib.ListN.{length}
@@ -52,7 +51,7 @@ progress-code-requires-2 : tie.Need-progress-code-requires-2 Inv-loop μ-loop
 progress-code-requires-2 c κs = search needs
 
 returns-3 : tie.Need-returns-3 Inv-loop μ-loop
-returns-3 c = transfers-differ ((c .before .before .before .before .before .before .before .before .before .before .before .args) .t1) ((c .before .before .before .before .before .before .before .before .before .before .before .args) .t2) ((c .before .before .before .before .before .before .before .loop) .inv .0) ((c .before .before .before .before .before .before .before .loop) .inv .1) ((c .before .before .before .before .before .before .before .loop) .inv .2) ((c .before .before .before .before .before .before .before .loop) .t) (omega (arith, (c .before .before .before .before .before .before .before .loop) .inv .3, (c .before .before .before .before .before .if2) .left)) (λ e. (c .if3) .taken ((c .before .before .progress-code) .ensures ∙ sym (ap progressCode (slot-read ((c .before .before .before .before .before .before .before .before .before .before .before .args) .t1 .slots) ((c .before .before .before .before .before .before .before .loop) .t))) ∙ e ∙ ap progressCode (slot-read ((c .before .before .before .before .before .before .before .before .before .before .before .args) .t2 .slots) ((c .before .before .before .before .before .before .before .loop) .t)) ∙ sym ((c .before .progress-code2) .ensures)))
+returns-3 c = transfers-differ ((c .before .before .before .before .before .before .before .before .before .before .before .args) .t1) ((c .before .before .before .before .before .before .before .before .before .before .before .args) .t2) ((c .before .before .before .before .before .before .before .loop) .inv .0) ((c .before .before .before .before .before .before .before .loop) .inv .1) ((c .before .before .before .before .before .before .before .loop) .inv .2) ((c .before .before .before .before .before .before .before .loop) .t) (omega (arith, (c .before .before .before .before .before .before .before .loop) .inv .3, (c .before .before .before .before .before .if2) .left)) (λ e. (c .if3) .taken ((c .before .before .progress-code) .ensures ∙ sym (ap progressCode (slot-at ((c .before .before .before .before .before .before .before .before .before .before .before .args) .t1 .slots) ((c .before .before .before .before .before .before .before .loop) .t))) ∙ e ∙ ap progressCode (slot-at ((c .before .before .before .before .before .before .before .before .before .before .before .args) .t2 .slots) ((c .before .before .before .before .before .before .before .loop) .t)) ∙ sym ((c .before .progress-code2) .ensures)))
 
 add-t : tie.Need-add-t Inv-loop μ-loop
 add-t c = search needs
@@ -61,7 +60,7 @@ loop-less : tie.Need-loop-less Inv-loop μ-loop
 loop-less c = search needs
 
 loop-again : tie.Need-loop-again Inv-loop μ-loop
-loop-again c = ((c .before .before .before .before .before .before .before .loop) .inv .0, (c .before .before .before .before .before .before .before .loop) .inv .1, (c .before .before .before .before .before .before .before .loop) .inv .2, (c .before .before .before .before .before .before .before .loop) .inv .3, same-more ((c .before .before .before .before .before .before .before .before .before .before .before .args) .t1) ((c .before .before .before .before .before .before .before .before .before .before .before .args) .t2) ((c .before .before .before .before .before .before .before .loop) .t) ((c .before .before .before .before .before .before .before .loop) .inv .4) (ap progressCode (slot-read ((c .before .before .before .before .before .before .before .before .before .before .before .args) .t1 .slots) ((c .before .before .before .before .before .before .before .loop) .t)) ∙ sym ((c .before .before .progress-code) .ensures) ∙ (c .if3) .left ∙ (c .before .progress-code2) .ensures ∙ sym (ap progressCode (slot-read ((c .before .before .before .before .before .before .before .before .before .before .before .args) .t2 .slots) ((c .before .before .before .before .before .before .before .loop) .t)))))
+loop-again c = ((c .before .before .before .before .before .before .before .loop) .inv .0, (c .before .before .before .before .before .before .before .loop) .inv .1, (c .before .before .before .before .before .before .before .loop) .inv .2, (c .before .before .before .before .before .before .before .loop) .inv .3, same-more ((c .before .before .before .before .before .before .before .before .before .before .before .args) .t1) ((c .before .before .before .before .before .before .before .before .before .before .before .args) .t2) ((c .before .before .before .before .before .before .before .loop) .t) ((c .before .before .before .before .before .before .before .loop) .inv .4) (ap progressCode (slot-at ((c .before .before .before .before .before .before .before .before .before .before .before .args) .t1 .slots) ((c .before .before .before .before .before .before .before .loop) .t)) ∙ sym ((c .before .before .progress-code) .ensures) ∙ (c .if3) .left ∙ (c .before .progress-code2) .ensures ∙ sym (ap progressCode (slot-at ((c .before .before .before .before .before .before .before .before .before .before .before .args) .t2 .slots) ((c .before .before .before .before .before .before .before .loop) .t)))))
 
 returns-4 : tie.Need-returns-4 Inv-loop μ-loop
 returns-4 c = transfers-same ((c .before .before .before .before .before .args) .t1) ((c .before .before .before .before .before .args) .t2) ((c .before .loop) .inv .0) ((c .before .loop) .inv .1) ((c .before .loop) .inv .2) ((c .before .loop) .t) (omega (arith, min-few ((c .before .before .before .before .before .args) .t1 .transitions) 255, (c .loop-test) .left)) ((c .before .loop) .inv .4)

@@ -8,7 +8,8 @@ use Rattle.card.specs.Card.{Card}
 use Rattle.hierarchy.proofs.WalkLaws.{Below, below-start, below-more, test-holds}
 use Rattle.runners.specs.Calls.{inRange}
 use Rattle.runners.specs.Boards.{slotAt}
-use Rattle.runners.proofs.TestLaws.{transfers-bad, transfers-good, slot-read}
+use Rattle.runners.proofs.VisitTurns.{slot-at}
+use Rattle.runners.proofs.TestLaws.{transfers-bad, transfers-good}
 use Rattle.runners.proofs.tests.transfers_in_range.Statement.{statement}
 use Rattle.runners.proofs.tests.transfers_in_range.Tie as tie
 
@@ -38,7 +39,7 @@ returns-2 c =
     let a = c .before .before .before .before .before .before .args in
     let z = c .before .before .before .before .before .loop in
     let r = c .before .in-range in
-    λ k h b. transfers-bad k (a .t1) h (z .t) (r .result) (c .before .before .before .before .loop-test .taken) (r .ensures k ∙ ap (inRange k) (sym (slot-read (a .t1 .slots) (z .t)))) (c .if2 .taken)
+    λ k h b. transfers-bad k (a .t1) h (z .t) (r .result) (c .before .before .before .before .loop-test .taken) (r .ensures k ∙ ap (inRange k) (sym (slot-at (a .t1 .slots) (z .t)))) (c .if2 .taken)
 
 add-t : tie.Need-add-t Inv-loop μ-loop
 add-t c = search needs
@@ -51,7 +52,7 @@ loop-again c =
     let z = c .before .before .before .before .before .loop in
     let a = c .before .before .before .before .before .before .args in
     let r = c .before .in-range in
-    λ k. below-more (z .t) (λ u. inRange k (slotAt (a .t1 .slots) u)) true (z .inv k) (test-holds (r .result) _ (r .ensures k ∙ ap (inRange k) (sym (slot-read (a .t1 .slots) (z .t)))) (c .if2 .left))
+    λ k. below-more (z .t) (λ u. inRange k (slotAt (a .t1 .slots) u)) true (z .inv k) (test-holds (r .result) _ (r .ensures k ∙ ap (inRange k) (sym (slot-at (a .t1 .slots) (z .t)))) (c .if2 .left))
 
 returns-3 : tie.Need-returns-3 Inv-loop μ-loop
 returns-3 c =
