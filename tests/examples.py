@@ -2,7 +2,6 @@
 """The examples' files are those that make_examples.py writes now, the run program prints their lines, and so does the command in README.md."""
 
 import subprocess
-import sys
 
 import make_examples
 import programs
@@ -19,15 +18,4 @@ def tests():
         yield f"examples/run {name}", script.stdout, expected
 
 
-def main():
-    count = wrong = 0
-    for name, got, expected in tests():
-        count += 1
-        if got != expected:
-            wrong += 1
-            print(f"{name}: {got!r} is not {expected!r}")
-    print(f"{count - wrong} passed, {wrong} failed")
-    sys.exit(1 if wrong else 0)
-
-
-main()
+programs.compare(tests())

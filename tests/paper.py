@@ -2,8 +2,6 @@
 """The paper's cases of bench card A and the others, starred or not, as the programs print them. Each line here is the paper's own, or worked out
 from it by hand."""
 
-import sys
-
 import layer3
 import programs
 
@@ -69,15 +67,4 @@ def tests():
     yield "run, the flat card", programs.run(flat, rows), BENCH_LINES
 
 
-def main():
-    count = wrong = 0
-    for name, got, expected in tests():
-        count += 1
-        if got != expected:
-            wrong += 1
-            print(f"{name}: {got!r} is not {expected!r}")
-    print(f"{count - wrong} passed, {wrong} failed")
-    sys.exit(1 if wrong else 0)
-
-
-main()
+programs.compare(tests())

@@ -3,6 +3,7 @@
 import os
 import pathlib
 import subprocess
+import sys
 import tempfile
 
 root = pathlib.Path(__file__).resolve().parent.parent
@@ -27,3 +28,16 @@ def run(card, rows):
 
 def flatten(card):
     return printed("flatten", card)
+
+
+def compare(tests):
+    """Shows each test whose bytes are not those expected, counts them all, and ends the script. A test: what is looked at, what is there,
+    and what must be."""
+    count = wrong = 0
+    for name, got, expected in tests:
+        count += 1
+        if got != expected:
+            wrong += 1
+            print(f"{name}: {got!r} is not {expected!r}")
+    print(f"{count - wrong} passed, {wrong} failed")
+    sys.exit(1 if wrong else 0)
