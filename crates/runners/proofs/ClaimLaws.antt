@@ -11,7 +11,7 @@ use lib.ListN.{length, getD}
 use lib.Dec.{eqb, leb}
 use Rattle.card.specs.Finite.{sumTo}
 use Rattle.card.specs.Card.{Arc, Card, draws, fills, placeAt, transitionAt, arcAt, firstPlace, flatPlace}
-use Rattle.card.specs.Index.{Lists, ArcThere, firstPlaceStart, placeField, transitionRow}
+use Rattle.card.specs.Index.{Lists, ArcThere, firstPlaceStart, transitionRowStart, placeField, transitionRow}
 use Rattle.hierarchy.specs.Arcs.{arcOf, Begins}
 use Rattle.hierarchy.specs.Conditions.{IsPlace}
 use Rattle.hierarchy.specs.declared.arcs.Arc as declared
@@ -22,6 +22,10 @@ use Rattle.runners.specs.Step.{allows}
 use Rattle.runners.specs.Boards.{InTables, Moved, Grown, nothing, share, posted}
 use Rattle.runners.proofs.FlatLaws.{place-flat, arc-flat, there}
 use Rattle.runners.proofs.MovedLaws.{moved-none, moved-then, moved-same}
+
+-- where a transition's row begins
+pub begins : (c : Card) (numbers starts : List ℕ) → InTables c numbers starts → (i t at : ℕ) → Lists c i t → at ≡ getD starts (transitionRowStart t) 0 → Begins c at i t
+begins c numbers starts h i t at l e = record { lists = l; at = e ∙ h .loaded .indexed .transitionRow i t l }
 
 -- the weights of the first j arcs of transition t at place p
 abbrev pub weights : Card → (way t j p : ℕ) → ℕ

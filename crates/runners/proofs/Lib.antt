@@ -10,9 +10,11 @@ pub mod VisitLaws
 pub mod OrderLaws
 pub mod MovedLaws
 pub mod ClaimLaws
+pub mod TransferLaws
 pub mod VisitTurns
 pub mod OnceLaws
 pub mod RoundLaws
+pub mod RestLaws
 pub mod FewLaws
 pub mod TestLaws
 pub mod StepRow

@@ -1,14 +1,13 @@
 -- The rounds, visit by visit in the order that was lent: after the first n visits their subnets' work is done and nothing else, and after all
 -- of them the whole round's. Assumes nothing.
-use Prim.Native.Nat.{ℕ, zero, suc, _+_, _≤_, _<_}
-use mathlib.Core.Path.{_≡_, refl, sym, ap, ap₂, subst, _∙_}
+use Prim.Native.Nat.{ℕ, suc, _+_, _≤_, _<_}
+use mathlib.Core.Path.{_≡_, refl, sym, ap, subst, _∙_}
 use mathlib.Core.Logic.{_⊎_, inl, inr}
-use mathlib.Core.Bool.{Bool, true, false, false≢true}
-use mathlib.Core.List.{List, [], _∷_, map}
+use mathlib.Core.Bool.{Bool, true}
+use mathlib.Core.List.{List}
 use native.Mathlib.Omega.{arith}
 use native.Mathlib.Numerals.{add-one}
-use lib.ListN.{length, getD, take}
-use lib.Seq.{getD-take}
+use lib.ListN.{length, getD}
 use Rattle.card.specs.Finite.{sumTo}
 use Rattle.card.specs.Card.{Card, draws, fills, subnetAt, firstTransition}
 use Rattle.card.proofs.BitLaws.{lt-or-ge}
@@ -16,15 +15,12 @@ use Rattle.card.proofs.Decides.{Some}
 use Rattle.card.proofs.Sums.{sum-mono, sum-owner}
 use Rattle.hierarchy.specs.Conditions.{Meets}
 use Rattle.runners.specs.Flattening.{flatten}
-use Rattle.runners.specs.State.{transfer, flow, Claims}
-use Rattle.runners.specs.Step.{candidateOn}
+use Rattle.runners.specs.State.{NetState, entry, flow, Claims}
 use Rattle.runners.specs.Calls.{eachOnce}
-use Rattle.runners.specs.Visits.{OwnsTransition, Round, posting, finding, moving, Turn, amount, after, effect, SameView, SameEffect}
-use Rattle.runners.specs.Boards.{Moved, nothing, Grown, Counts, turn, isMarked, slotAt, Posted, Marked, Shifted, AllPosted, AllMarked, AllShifted}
-use Rattle.runners.specs.declared.Transfer.{Transfer}
-use Rattle.runners.specs.declared.Transfer.the-variants.{Idle}
-use Rattle.runners.specs.declared.State.{State as Lent}
+use Rattle.runners.specs.Visits.{OwnsTransition, Round, moving, Turn, amount, effect}
+use Rattle.runners.specs.Boards.{Moved, nothing, Grown, turn, ToMove, Posted, Shifted, AllPosted, AllMarked, AllShifted}
 use Rattle.runners.proofs.VisitLaws.{effects-sum}
+use Rattle.runners.proofs.VisitTurns.{GoodMark, GoodRest}
 use Rattle.runners.proofs.OnceLaws.{Once, once, sum-once, once-distinct}
 use Rattle.runners.proofs.MovedLaws.{moved-none, moved-then, moved-same}
 
@@ -49,7 +45,7 @@ module _ (c : Card) where
         let o = sum-owner (length (c .subnets)) (λ s. (subnetAt c s) .transitions) t (omega (arith, m .wellformed .rows .transitionCount)) in
         (o .range, o .below, record { low = o .low; high = o .high })
 
-    owned-below : (s t : ℕ) → s < length (c .subnets) → OwnsTransition c s t → t < length (c .transitions)
+    pub owned-below : (s t : ℕ) → s < length (c .subnets) → OwnsTransition c s t → t < length (c .transitions)
     unfolding firstTransition
     owned-below s t l o = omega (arith, m .wellformed .rows .transitionCount, o .high, starts-mono (suc s) (length (c .subnets)) l)
 
@@ -134,146 +130,82 @@ module _ (i : Turn) (order : List ℕ) (e : eachOnce (length ((i .card) .subnets
       let v = o .named (w .0) (w .1) in
       (v .0, omega (arith, v .1, o .size), subst (λ (s : ℕ). OwnsTransition (i .card) s t) (sym (v .2)) (w .2))
 
--- The second round also marks: the candidates of the subnets that were visited.
-pub record MarkedTo (i : Turn) (order : List ℕ) (n : ℕ) (marks marks′ : List ℕ) : Type 0 where
-  pub long : length marks′ ≡ length marks
-  pub done : length marks ≡ 255 → (j t : ℕ) → j < n → OwnsTransition (i .card) (getD order j 0) t
-      → isMarked marks′ t ≡ candidateOn (flatten (i .card)) (i .standing) (i .state) (i .row) t
+-- Numbers by transition, which the visits set, each its own: after n visits those of the subnets that were visited are good, and the others as
+-- they were.
+pub record NumbersTo (c : Card) (good : (t v : ℕ) → Type 0) (order : List ℕ) (n : ℕ) (a b : List ℕ) : Type 0 where
+  pub long : length b ≡ length a
+  pub own : length a ≡ 255 → (j t : ℕ) → j < n → OwnsTransition c (getD order j 0) t → good t (entry b t)
+  pub others : (t : ℕ) → ((j : ℕ) → j < n → ¬ OwnsTransition c (getD order j 0) t) → entry b t ≡ entry a t
 
-module _ (i : Turn) (order : List ℕ) where
-  pub marked-start : (marks : List ℕ) → MarkedTo i order 0 marks marks
-  marked-start marks = record { long = refl; done = λ q j t l o. absurd (omega arith) }
+module _ (i : Turn) (good : (t v : ℕ) → Type 0) (order : List ℕ) where
+  pub numbers-start : (a : List ℕ) → NumbersTo (i .card) good order 0 a a
+  numbers-start a = record { long = refl; own = λ q j t l o. absurd (omega arith); others = λ t h. refl }
 
-  pub marked-more : (n : ℕ) (marks marks′ marks″ : List ℕ) → eachOnce (length ((i .card) .subnets)) order ≡ true → n < length order
-      → MarkedTo i order n marks marks′ → Marked (getD order n 0) i marks′ marks″ → MarkedTo i order (n + 1) marks marks″
-  marked-more n marks marks′ marks″ e l g h = record { long = h .long ∙ g .long; done = λ q j t k o. at q j t o (up-to n j k) }
-    where
-      at : length marks ≡ 255 → (j t : ℕ) → OwnsTransition (i .card) (getD order j 0) t → (j < n) ⊎ (j ≡ n)
-          → isMarked marks″ t ≡ candidateOn (flatten (i .card)) (i .standing) (i .state) (i .row) t
-      at q j t o (inl k) = rw (h .others t (not-again i order e n j t k l o)) (g .done q j t k o)
-      at q j t o (inr k) = h .own (g .long ∙ q) t (subst (λ (a : ℕ). OwnsTransition (i .card) (getD order a 0) t) k o)
+  module _ (e : eachOnce (length ((i .card) .subnets)) order ≡ true) where
+    pub numbers-more : (n : ℕ) (a b d : List ℕ) → n < length order → NumbersTo (i .card) good order n a b → length d ≡ length b
+        → (length b ≡ 255 → (t : ℕ) → OwnsTransition (i .card) (getD order n 0) t → good t (entry d t))
+        → ((t : ℕ) → ¬ OwnsTransition (i .card) (getD order n 0) t → entry d t ≡ entry b t) → NumbersTo (i .card) good order (n + 1) a d
+    numbers-more n a b d l g long own others =
+        record {
+          long = long ∙ g .long;
+          own = λ q j t k o. at q j t o (up-to n j k);
+          others = λ t f. others t (f n (omega arith)) ∙ g .others t (λ j q. f j (omega arith));
+        }
+      where
+        at : length a ≡ 255 → (j t : ℕ) → OwnsTransition (i .card) (getD order j 0) t → (j < n) ⊎ (j ≡ n) → good t (entry d t)
+        at q j t o (inl k) = rw (others t (not-again i order e n j t k l o)) (g .own q j t k o)
+        at q j t o (inr k) = own (g .long ∙ q) t (subst (λ (z : ℕ). OwnsTransition (i .card) (getD order z 0) t) k o)
 
-  pub marked-all : (n : ℕ) (marks marks′ : List ℕ) → Meets (i .card) → eachOnce (length ((i .card) .subnets)) order ≡ true → n ≡ length order
-      → MarkedTo i order n marks marks′ → AllMarked i marks marks′
-  marked-all n marks marks′ m e q g =
-      record {
-        long = g .long;
-        marked = λ z t l. let w = owner-at i order e n t m q l in g .done z (w .0) t (w .1) (w .2);
-      }
+    -- those of the next subnet are as they were
+    pub numbers-next : (n : ℕ) (a b : List ℕ) → n < length order → NumbersTo (i .card) good order n a b → (t : ℕ) → OwnsTransition (i .card) (getD order n 0) t → entry b t ≡ entry a t
+    numbers-next n a b l g t o = g .others t (λ j q w. not-again i order e n j t q l w o)
 
--- The third round: markings and transfers have moved, of the subnets that were visited.
-pub record ShiftedTo (i : Turn) (order : List ℕ) (n : ℕ) (l l′ : Lent) : Type 0 where
-  pub markings : Moved (l .markings) (l′ .markings) (partly moving i order n draws) (partly moving i order n fills)
-  pub own : (j t : ℕ) → j < n → OwnsTransition (i .card) (getD order j 0) t → slotAt (l′ .slots) t ≡ after moving i t
-  pub others : (t : ℕ) → ((j : ℕ) → j < n → ¬ OwnsTransition (i .card) (getD order j 0) t) → slotAt (l′ .slots) t ≡ slotAt (l .slots) t
-  pub long : length (l′ .slots) ≡ length (l .slots)
-  pub degrees : l′ .degrees ≡ l .degrees
-  pub counts : (l′ .places ≡ l .places) × (l′ .transitions ≡ l .transitions) × (l′ .signals ≡ l .signals)
+    pub numbers-all : (n : ℕ) (a b : List ℕ) → Meets (i .card) → n ≡ length order → NumbersTo (i .card) good order n a b → length a ≡ 255 → (t : ℕ) → t < length ((i .card) .transitions) → good t (entry b t)
+    numbers-all n a b m q g z t l = let w = owner-at i order e n t m q l in g .own z (w .0) t (w .1) (w .2)
 
--- entries that are equal are equal in lists cut to one length
-take-past : {A : Type 0} (n : ℕ) (xs : List A) (i : ℕ) (d : A) → n ≤ i → getD (take n xs) i d ≡ d
-take-past zero xs i d l = refl
-take-past (suc n) [] i d l = refl
-take-past (suc n) (x ∷ xs) zero d l = absurd (omega arith)
-take-past (suc n) (x ∷ xs) (suc i) d l = take-past n xs i d (omega arith)
+-- The second round also marks.
+pub marked-all : (i : Turn) (order : List ℕ) (n : ℕ) (marks marks′ : List ℕ) → Meets (i .card) → eachOnce (length ((i .card) .subnets)) order ≡ true → n ≡ length order
+    → NumbersTo (i .card) (GoodMark i) order n marks marks′ → AllMarked i marks marks′
+marked-all i order n marks marks′ m e q g = record { long = g .long; marked = numbers-all i (GoodMark i) order e n marks marks′ m q g }
 
-take-same : (n t : ℕ) (xs ys : List Transfer) → transfer xs t ≡ transfer ys t → transfer (take n xs) t ≡ transfer (take n ys) t
-take-same n t xs ys e = go (lt-or-ge t n)
-  where
-    go : (t < n) ⊎ (n ≤ t) → transfer (take n xs) t ≡ transfer (take n ys) t
-    go (inl l) = getD-take n xs t Idle l ∙ e ∙ sym (getD-take n ys t Idle l)
-    go (inr l) = take-past n xs t Idle l ∙ sym (take-past n ys t Idle l)
+-- The third round moves.
+module _ (c : Card) (x : NetState) (row : List ℕ) (k : Claims) (found : ℕ → Bool) (clear : Bool) (order : List ℕ) where
+  abbrev i : Turn
+  i = turn c x row k found clear
 
--- only the second visit reads what places hold
-abbrev readsPlaces : Round → Bool
-readsPlaces posting = false
-readsPlaces finding = true
-readsPlaces moving = false
+  pub record ShiftedTo (n : ℕ) (ms ms′ rest rest′ : List ℕ) : Type 0 where
+    pub markings : Moved ms ms′ (partly moving i order n draws) (partly moving i order n fills)
+    pub rests : NumbersTo c (GoodRest i) order n rest rest′
 
-module _ (c : Card) (l : Lent) (row : List ℕ) (k : Claims) (found : ℕ → Bool) (clear : Bool) (order : List ℕ) where
-  abbrev first : Turn
-  first = turn c l row k found clear
-
-  abbrev later : Lent → Turn
-  later x = turn c x row k found clear
-
-  -- for a subnet that was not visited the state is, in all that its visit may read, the one at the start
-  same-view : (s : ℕ) (x : Lent) → x .degrees ≡ l .degrees → x .transitions ≡ l .transitions → x .signals ≡ l .signals
-      → ((t : ℕ) → OwnsTransition c s t → slotAt (x .slots) t ≡ slotAt (l .slots) t) → SameView moving s (later x) first
-  same-view s x ed et es h =
-      record {
-        first = refl;
-        count = refl;
-        transitions = λ t o. record { row = refl; arcs = λ n q. refl; transfers = carried t (h t o) };
-        numbers = λ q n y. refl;
-        places = λ e. absurd (false≢true (ap readsPlaces e));
-        row = refl;
-        degrees = ap₂ (λ (n : ℕ) (xs : List ℕ). take n xs) es ed;
-        verdict = λ e. record { found = λ t o. refl; clear = refl };
-      }
-    where
-      carried : (t : ℕ) → slotAt (x .slots) t ≡ slotAt (l .slots) t → transfer ((later x) .state .transfers) t ≡ transfer (first .state .transfers) t
-      carried t e = rw et (take-same (l .transitions) t (map (λ y. y .transfer) (x .slots)) (map (λ y. y .transfer) (l .slots)) e)
-
-  pub shifted-start : ShiftedTo first order 0 l l
+  pub shifted-start : (ms rest : List ℕ) → ShiftedTo 0 ms ms rest rest
   unfolding sumTo
-  shifted-start =
+  shifted-start ms rest = record { markings = moved-none ms; rests = numbers-start i (GoodRest i) order rest }
+
+  -- what the visit of the next subnet finds is still the state before the row
+  pub next-finds : (n : ℕ) (ms ms′ rest rest′ degrees : List ℕ) → eachOnce (length (c .subnets)) order ≡ true → n < length order → ShiftedTo n ms ms′ rest rest′
+      → ToMove c (getD order n 0) x rest degrees → ToMove c (getD order n 0) x rest′ degrees
+  next-finds n ms ms′ rest rest′ degrees e l g f =
+      record { rests = λ t o. numbers-next i (GoodRest i) order e n rest rest′ l (g .rests) t o ∙ f .rests t o; ranged = f .ranged; degrees = f .degrees }
+
+  pub shifted-more : (n : ℕ) (ms ms′ ms″ rest rest′ rest″ : List ℕ) → eachOnce (length (c .subnets)) order ≡ true → n < length order
+      → ShiftedTo n ms ms′ rest rest′ → Shifted (getD order n 0) i ms′ ms″ rest′ rest″ → ShiftedTo (n + 1) ms ms″ rest rest″
+  shifted-more n ms ms′ ms″ rest rest′ rest″ e l g h =
       record {
-        markings = moved-none (l .markings);
-        own = λ j t q o. absurd (omega arith);
-        others = λ t h. refl;
-        long = refl;
-        degrees = refl;
-        counts = (refl, refl, refl);
+        markings = moved-same ms ms″
+            (λ p. partly moving i order n draws p + effect moving (getD order n 0) i draws p) (λ p. partly moving i order n fills p + effect moving (getD order n 0) i fills p)
+            (partly moving i order (n + 1) draws) (partly moving i order (n + 1) fills) (partly-more moving i order n draws) (partly-more moving i order n fills)
+            (moved-then ms ms′ ms″ (partly moving i order n draws) (partly moving i order n fills)
+            (effect moving (getD order n 0) i draws) (effect moving (getD order n 0) i fills) (g .markings) (h .markings));
+        rests = numbers-more i (GoodRest i) order e n rest rest′ rest″ l (g .rests) (h .long) (h .own) (h .others);
       }
 
-  pub counts-kept : (n : ℕ) (x : Lent) → ShiftedTo first order n l x → Counts c l → Counts c x
-  counts-kept n x g h =
-      record { places = g .counts .0 ∙ h .places; transitions = g .counts .1 ∙ h .transitions; signals = g .counts .2 ∙ h .signals }
-
-  pub shifted-more : (n : ℕ) (x y : Lent) → eachOnce (length (c .subnets)) order ≡ true → n < length order
-      → ShiftedTo first order n l x → Shifted (getD order n 0) (later x) x y → ShiftedTo first order (n + 1) l y
-  shifted-more n x y e b g h =
+  pub shifted-all : (n : ℕ) (ms ms′ rest rest′ : List ℕ) → Meets c → eachOnce (length (c .subnets)) order ≡ true → n ≡ length order → ShiftedTo n ms ms′ rest rest′ → AllShifted i ms ms′ rest rest′
+  shifted-all n ms ms′ rest rest′ m e q g =
       record {
-        markings = moved-same (l .markings) (y .markings)
-            (λ p. partly moving first order n draws p + effect moving (getD order n 0) (later x) draws p)
-            (λ p. partly moving first order n fills p + effect moving (getD order n 0) (later x) fills p)
-            (partly moving first order (n + 1) draws) (partly moving first order (n + 1) fills) (more draws) (more fills)
-            (moved-then (l .markings) (x .markings) (y .markings) (partly moving first order n draws) (partly moving first order n fills)
-            (effect moving (getD order n 0) (later x) draws) (effect moving (getD order n 0) (later x) fills) (g .markings) (h .markings));
-        own = λ j t q o. at j t o (up-to n j q);
-        others = λ t f. h .others t (f n (omega arith)) ∙ g .others t (λ j q. f j (omega arith));
-        long = h .long ∙ g .long;
-        degrees = h .degrees ∙ g .degrees;
-        counts = (h .counts .0 ∙ g .counts .0, h .counts .1 ∙ g .counts .1, h .counts .2 ∙ g .counts .2);
+        markings = moved-same ms ms′ (partly moving i order n draws) (partly moving i order n fills)
+            (flow (flatten c) (amount moving i) draws) (flow (flatten c) (amount moving i) fills) (whole draws) (whole fills) (g .markings);
+        own = numbers-all i (GoodRest i) order e n rest rest′ m q (g .rests);
       }
     where
-      same : SameEffect moving (getD order n 0) (later x) first
-      same =
-          h .facts .local first (same-view (getD order n 0) x (g .degrees) (g .counts .1) (g .counts .2)
-          (λ t o. g .others t (λ j q a. not-again first order e n j t q b a o)))
-
-      more : (direction p : ℕ) → partly moving first order n direction p + effect moving (getD order n 0) (later x) direction p ≡ partly moving first order (n + 1) direction p
-      more direction p = rw (same .effects direction p) (partly-more moving first order n direction p)
-
-      at : (j t : ℕ) → OwnsTransition c (getD order j 0) t → (j < n) ⊎ (j ≡ n) → slotAt (y .slots) t ≡ after moving first t
-      at j t o (inl q) = h .others t (not-again first order e n j t q b o) ∙ g .own j t q o
-      at j t o (inr q) =
-          let a = subst (λ (i : ℕ). OwnsTransition c (getD order i 0) t) q o in
-          h .own t a ∙ same .afters t a
-
-  pub shifted-all : (n : ℕ) (x : Lent) → Meets c → eachOnce (length (c .subnets)) order ≡ true → n ≡ length order
-      → ShiftedTo first order n l x → AllShifted first l x
-  shifted-all n x m e q g =
-      record {
-        markings = moved-same (l .markings) (x .markings) (partly moving first order n draws) (partly moving first order n fills)
-            (flow (flatten c) (amount moving first) draws) (flow (flatten c) (amount moving first) fills) (whole draws) (whole fills) (g .markings);
-        own = λ t b. let w = owner-at first order e n t m q b in g .own (w .0) t (w .1) (w .2);
-        others = λ t b. g .others t (λ j a o. omega (arith, owned-below c m (getD order j 0) t (visited (length (c .subnets)) order j e (omega (arith, q))) o));
-        long = g .long;
-        degrees = g .degrees;
-        counts = g .counts;
-      }
-    where
-      whole : (direction p : ℕ) → partly moving first order n direction p ≡ flow (flatten c) (amount moving first) direction p
-      whole direction p = partly-all moving first order n direction p m (once (length (c .subnets)) order e) q
+      whole : (direction p : ℕ) → partly moving i order n direction p ≡ flow (flatten c) (amount moving i) direction p
+      whole direction p = partly-all moving i order n direction p m (once (length (c .subnets)) order e) q

@@ -32,7 +32,7 @@ abbrev pub InRange : Card → Transfer → Type 0
 InRange f Idle = Unit {0}
 InRange f (Carrying c) = c < scale f
 
-inRange-is : (f : Card) (x : Transfer) → Decides (inRange f x) (InRange f x)
+pub inRange-is : (f : Card) (x : Transfer) → Decides (inRange f x) (InRange f x)
 inRange-is f Idle = (λ h. tt, λ h. refl)
 inRange-is f (Carrying c) = lt-is c (scale f)
 

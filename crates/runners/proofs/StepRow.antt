@@ -25,7 +25,7 @@ use Rattle.runners.specs.Rows.{settle}
 use Rattle.runners.specs.Calls.{view, slot, store, valid}
 use Rattle.runners.specs.FlatRows.{PlacesTo}
 use Rattle.runners.specs.Visits.{posting, finding, moving, Turn, amount, after, SameView, isClear, stepTurn}
-use Rattle.runners.specs.Boards.{Counts, AllPosted, AllMarked, AllShifted, turn, posted, isMarked, holds, orPast}
+use Rattle.runners.specs.Boards.{Counts, AllPosted, AllMarked, AllShifted, Stored, turn, posted, isMarked, holds, orPast}
 use Rattle.runners.specs.Answers.{IsRow, withDegrees, rowFault}
 use Rattle.runners.specs.declared.Transfer.{Transfer}
 use Rattle.runners.specs.declared.Transfer.the-variants.{Idle, Carrying}
@@ -33,7 +33,7 @@ use Rattle.runners.specs.declared.Slot.{Slot}
 use Rattle.runners.specs.declared.State.{State as Lent}
 use Rattle.runners.specs.declared.Refusal.the-variants.{BadRow, BadDegree, Conflict}
 use Rattle.runners.specs.declared.Reply.the-variants.{Ok, No}
-use Rattle.runners.proofs.VisitTurns.{slot-at}
+use Rattle.runners.proofs.TransferLaws.{slot-at}
 use Rattle.runners.proofs.FlatLaws.{place-flat, flat-below, flat-place}
 use Rattle.runners.proofs.TraceLaws.{valid-is}
 use Rattle.runners.proofs.FreshLaws.{map-table}
@@ -93,7 +93,7 @@ module _ (c : Card) (m : Meets c) (l : Lent) (h : Counts c l) (row : List ℕ) (
 
   -- what the second visit's turn is, with the step's own candidates and verdict
   abbrev i : Turn
-  i = turn c l row (posted o d) (candidate f s row) (isClear (conflict f s row))
+  i = turn c s row (posted o d) (candidate f s row) (isClear (conflict f s row))
 
   module _ (p1 : AllPosted posting i z o z d) (p2 : AllPosted finding i z x z y) (p3 : AllMarked i z marks) where
     same-T : length (f .transitions) ≡ T
@@ -216,9 +216,9 @@ module _ (c : Card) (m : Meets c) (l : Lent) (h : Counts c l) (row : List ℕ) (
           go (some p) w v = absurd (omega (arith, below p w))
 
     -- the third round
-    module _ (k : Claims) (r : Lent) where
+    module _ (k : Claims) (ms rest rest′ : List ℕ) (r : Lent) where
       abbrev j : Turn
-      j = turn c l row k (isMarked marks) true
+      j = turn c s row k (isMarked marks) true
 
       amount-moves : (t : ℕ) → t < T → amount moving j t ≡ moves f s row t
       unfolding moves
@@ -233,7 +233,7 @@ module _ (c : Card) (m : Meets c) (l : Lent) (h : Counts c l) (row : List ℕ) (
           effects-sum moving j m way p
           ∙ sum-zero (length (c .subnets)) _ (λ q a. facts moving q j m a .elsewhere way p (λ u n w e. omega (arith, flat-below c m q u n a w)))
 
-      module _ (sh : AllShifted j l r) (free : conflict f s row ≡ none) (ml : length (l .markings) ≡ 255) (sl : length (l .slots) ≡ 255) where
+      module _ (sh : AllShifted j (l .markings) ms rest rest′) (st : Stored l ms rest′ r) (rl : length rest ≡ 255) (free : conflict f s row ≡ none) (ml : length (l .markings) ≡ 255) (sl : length (l .slots) ≡ 255) where
         marking-seen : (p : ℕ) → p < P → entry (s .markings) p ≡ entry (l .markings) p
         marking-seen p b = getD-take (l .places) (l .markings) p 0 (omega (arith, h .places))
 
@@ -241,7 +241,7 @@ module _ (c : Card) (m : Meets c) (l : Lent) (h : Counts c l) (row : List ℕ) (
         unfolding scale
         room p b = omega (arith, flat-place c m p b .capacity)
 
-        marking-r : (p : ℕ) → p < P → entry (r .markings) p ≡ entry (s .markings) p + flow f (moves f s row) fills p - flow f (moves f s row) draws p
+        marking-r : (p : ℕ) → p < P → entry ms p ≡ entry (s .markings) p + flow f (moves f s row) fills p - flow f (moves f s row) draws p
         marking-r p b =
             let a = conflict-is f s row .0 free p (omega (arith, same-P)) in
             let e = marking-seen p b in
@@ -249,11 +249,11 @@ module _ (c : Card) (m : Meets c) (l : Lent) (h : Counts c l) (row : List ℕ) (
             (omega (arith, a .space, due-split f s row p, flow-moves fills p, e, room p b)) in
             omega (arith, g, e, flow-moves draws p, flow-moves fills p, a .has, owed-split f s row p)
 
-        markings-is : r .markings ≡ (next f s row) .markings ++ drop (l .places) (l .markings)
+        markings-is : ms ≡ (next f s row) .markings ++ drop (l .places) (l .markings)
         unfolding next
         markings-is =
             let n : length (f .places) ≡ l .places = same-P ∙ sym (h .places) in
-            joined 0 (r .markings) (l .markings) (length (f .places)) (λ p. entry (s .markings) p + flow f (moves f s row) fills p - flow f (moves f s row) draws p)
+            joined 0 ms (l .markings) (length (f .places)) (λ p. entry (s .markings) p + flow f (moves f s row) fills p - flow f (moves f s row) draws p)
             (omega (arith, same-P, ml, m .wellformed .rows .fewPlaces)) (sh .markings .long) (λ p b. marking-r p (omega (arith, same-P)))
             (λ p b. sh .markings .kept p (flow-past draws p (omega (arith, same-P))) (flow-past fills p (omega (arith, same-P))))
             ∙ ap (λ (q : ℕ). table 0 (length (f .places)) (λ p. entry (s .markings) p + flow f (moves f s row) fills p - flow f (moves f s row) draws p) ++ drop q (l .markings)) n
@@ -261,24 +261,24 @@ module _ (c : Card) (m : Meets c) (l : Lent) (h : Counts c l) (row : List ℕ) (
         slot-r : (t : ℕ) → t < T → getD (r .slots) t (slot Idle) ≡ slot (advanced f (transfer (started f s row) t) (moves f s row t))
         slot-r t b =
             let e : startedOn (isMarked marks) (s .transfers) t ≡ transfer (started f s row) t = rw (started-at t b, marked t b) in
-            ap slot (sym (slot-at (r .slots) t) ∙ sh .own t b ∙ ap₂ (advanced f) e (amount-moves t b))
+            ap slot (sym (slot-at (r .slots) t) ∙ st .own t (omega (arith, h .transitions)) ∙ sh .own rl t b ∙ ap₂ (advanced f) e (amount-moves t b))
 
         slot-past : (t : ℕ) → T ≤ t → getD (r .slots) t (slot Idle) ≡ getD (l .slots) t (slot Idle)
-        slot-past t b = ap slot (sym (slot-at (r .slots) t) ∙ sh .others t b ∙ slot-at (l .slots) t)
+        slot-past t b = ap slot (sym (slot-at (r .slots) t) ∙ st .others t (omega (arith, h .transitions)) ∙ slot-at (l .slots) t)
 
         slots-is : r .slots ≡ map slot ((next f s row) .transfers) ++ drop (l .transitions) (l .slots)
         unfolding next
         slots-is =
             let n : length (f .transitions) ≡ l .transitions = same-T ∙ sym (h .transitions) in
             joined (slot Idle) (r .slots) (l .slots) (length (f .transitions)) (λ t. slot (advanced f (transfer (started f s row) t) (moves f s row t)))
-            (omega (arith, same-T, sl, m .wellformed .rows .fewTransitions)) (sh .long) (λ t b. slot-r t (omega (arith, same-T))) (λ t b. slot-past t (omega (arith, same-T)))
+            (omega (arith, same-T, sl, m .wellformed .rows .fewTransitions)) (st .long) (λ t b. slot-r t (omega (arith, same-T))) (λ t b. slot-past t (omega (arith, same-T)))
             ∙ ap₂ (λ (xs : List Slot) (q : ℕ). xs ++ drop q (l .slots)) (sym (map-table slot 0 (length (f .transitions)) (λ t. advanced f (transfer (started f s row) t) (moves f s row t)))) n
 
         stored : length row ≡ c .signals → withDegrees r row ≡ store l (next f s row)
         unfolding next
         stored e =
             let g : length row ≡ l .signals = e ∙ sym (h .signals) in
-            rw (markings-is, slots-is, sh .degrees, sh .counts .0, sh .counts .1, sh .counts .2, g)
+            rw (st .markings, markings-is, slots-is, st .degrees, st .counts .0, st .counts .1, st .counts .2, g)
 
         pub row-moved : (w : Lent) → w ≡ withDegrees r row → length row ≡ c .signals
             → IsRow (settle (Option·map Conflict (conflict f s row)) l (store l (next f s row))) (record { reply = Ok; state = w })

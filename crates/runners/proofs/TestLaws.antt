@@ -187,9 +187,9 @@ order-once s l =
 
 -- A place is covered by what the first round posts on a board of zeros.
 module _ (c : Card) (l : Lent) (h : Counts c l) (m : Meets c) (rows : List ℕ) (x : PlacesTo c rows (length (c .places))) (z : List ℕ) (long : length z ≡ 255) (zeros : (p : ℕ) → p < 255 → entry z p ≡ 0)
-    (row : List ℕ) (k : Claims) (found : ℕ → Bool) (clear : Bool) (o d : List ℕ) (all : AllPosted posting (turn c l row k found clear) z o z d) where
-  abbrev few : (way p : ℕ) → flow (flatten c) (amount posting (turn c l row k found clear)) way p ≤ 2015775000
-  few = claims-few c m (amount posting (turn c l row k found clear)) (λ t b. remaining-few (flatten c) (transfer ((view l) .transfers) t))
+    (row : List ℕ) (k : Claims) (found : ℕ → Bool) (clear : Bool) (o d : List ℕ) (all : AllPosted posting (turn c (view l) row k found clear) z o z d) where
+  abbrev few : (way p : ℕ) → flow (flatten c) (amount posting (turn c (view l) row k found clear)) way p ≤ 2015775000
+  few = claims-few c m (amount posting (turn c (view l) row k found clear)) (λ t b. remaining-few (flatten c) (transfer ((view l) .transfers) t))
 
   holds-covered : (p : ℕ) → p < length (c .places) → holds rows (l .markings) o d z z p ≡ covered (flatten c) ((view l) .markings) ((view l) .transfers) p
   unfolding covered owed due scale

@@ -3,85 +3,53 @@ use Prim.Native.Nat.{ℕ, suc, _+_, _-_, _*_, _≤_, _<_, min}
 use mathlib.Core.Path.{_≡_, refl, sym, ap, ap₂, subst, _∙_}
 use mathlib.Core.Logic.{_≢_, _⊎_, inl, inr}
 use mathlib.Core.Bool.{Bool, true, false, _&&_, cond}
-use mathlib.Core.List.{List, map}
+use mathlib.Core.List.{List}
 use native.Mathlib.Omega.{arith}
-use lib.ListN.{length, getD, set, take, length-set, List·getD-map}
-use lib.Seq.{getD-take, getD-set-same, getD-set-other}
-use lib.Dec.{ltb}
+use lib.ListN.{length, getD, set, length-set}
+use lib.Seq.{getD-set-same, getD-set-other}
+use lib.Dec.{ltb, eqb}
 use borrow.Author.Tests.{lt-ltb, eq-eqb, ne-eqb}
 use Rattle.card.specs.Finite.{sumTo, every}
 use Rattle.card.specs.Card.{Arc, Card, draws, fills, subnetAt, transitionAt, arcAt, firstTransition}
 use Rattle.card.specs.Index.{Lists, firstTransitionStart, transitionRowStart}
 use Rattle.card.specs.Wellformed.{TransitionRow}
-use Rattle.card.proofs.Sums.{sum-zero, map-length, all-at}
+use Rattle.card.proofs.Sums.{sum-zero, all-at}
 use Rattle.card.proofs.BitLaws.{lt-or-ge}
-use Rattle.hierarchy.specs.Arcs.{Begins}
 use Rattle.hierarchy.proofs.LoadedLaws.{transitions-of}
 use Rattle.runners.specs.Flattening.{flatten}
-use Rattle.runners.specs.State.{Claims, scale, entry, transfer, remaining, incidence}
+use Rattle.runners.specs.State.{NetState, Claims, scale, entry, transfer, remaining, incidence}
 use Rattle.runners.specs.Step.{idle, allows, candidateOn, startedOn, rise, advanced}
-use Rattle.runners.specs.Calls.{view, slot}
-use Rattle.runners.specs.Visits.{Round, posting, finding, moving, Turn, amount, after, effect}
-use Rattle.runners.specs.Boards.{InTables, Moved, Grown, Counts, turn, posted, isMarked, Marked, slotAt, Shifted}
+use Rattle.runners.specs.Calls.{inRange}
+use Rattle.runners.specs.Visits.{OwnsTransition, Round, posting, finding, moving, Turn, amount, after, effect}
+use Rattle.runners.specs.Boards.{InTables, Moved, Grown, turn, posted, isMarked, transferOf, Rests, ToFind, ToMove, Marked, Shifted}
 use Rattle.runners.specs.declared.Transfer.{Transfer}
-use Rattle.runners.specs.declared.Transfer.the-variants.{Idle, Carrying}
-use Rattle.runners.specs.declared.Slot.{Slot}
-use Rattle.runners.specs.declared.State.{State as Lent}
+use Rattle.runners.specs.declared.Transfer.the-variants.{Carrying}
 use Rattle.runners.proofs.MovedLaws.{moved-zero, moved-join, moved-same}
-use Rattle.runners.proofs.FlatLaws.{arc-flat, flat-below}
+use Rattle.runners.proofs.FlatLaws.{arc-flat}
+use Rattle.runners.proofs.ClaimLaws.{begins}
 use Rattle.runners.proofs.VisitLaws.{every-same, facts}
 use Rattle.runners.proofs.FlatRowLaws.{below-all}
-
--- what remains
-pub rest-idle : (f : Card) (x : Transfer) → x ≡ Idle → 0 ≡ remaining f x
-rest-idle f x e = rw e refl
-
-pub rest-carrying : (f : Card) (x : Transfer) (c : ℕ) → x ≡ Carrying c → 1000 - c ≡ remaining f x
-unfolding scale
-rest-carrying f x c e = rw e refl
-
-pub rest-none : (f : Card) (x : Transfer) (c : ℕ) → x ≡ Carrying c → 1000 ≤ c → 0 ≡ remaining f x
-rest-none f x c e l = let z : 0 ≡ 1000 - c = omega arith in z ∙ rest-carrying f x c e
-
--- a transfer that has moved
-pub advanced-idle : (f : Card) (x : Transfer) (d : ℕ) → x ≡ Idle → Idle ≡ advanced f x d
-advanced-idle f x d e = rw e refl
-
-pub advanced-full : (f : Card) (x : Transfer) (c d : ℕ) → x ≡ Carrying c → c + d ≡ 1000 → Idle ≡ advanced f x d
-unfolding scale
-advanced-full f x c d e l = rw (e, eq-eqb (c + d) 1000 l) refl
-
-pub advanced-part : (f : Card) (x : Transfer) (c d : ℕ) → x ≡ Carrying c → (c + d ≡ 1000 → ⊥) → Carrying (c + d) ≡ advanced f x d
-unfolding scale
-advanced-part f x c d e n = rw (e, ne-eqb (c + d) 1000 n) refl
-
--- a progress that has no room in 16 bits is past 1000, and nothing remains of it
-pub advanced-past : (f : Card) (x : Transfer) (c d : ℕ) → x ≡ Carrying c → c < 65536 → 65535 - c < d → d ≤ remaining f x → Carrying c ≡ advanced f x d
-advanced-past f x c d e r n l = absurd (omega (arith, rest-carrying f x c e))
+use Rattle.runners.proofs.TransferLaws.{told, idle-told, started-rest, started-range, advanced-told}
 
 -- a candidate's claim
-pub claims-not : (x : Transfer) (degree : ℕ) (b : Bool) → degree ≡ 0 → _≡_ {A = ℕ} 0 (cond (idle x && ltb 0 degree && b) 1000 0)
-claims-not Idle degree b e = rw e refl
-claims-not (Carrying c) degree b e = refl
+pub claims-busy : (r degree : ℕ) (b : Bool) → (r ≡ 0 → ⊥) → _≡_ {A = ℕ} 0 (cond (eqb r 0 && ltb 0 degree && b) 1000 0)
+claims-busy r degree b n = rw (ne-eqb r 0 n)
 
-pub claims-all : (x : Transfer) (degree : ℕ) (b : Bool) → x ≡ Idle → (degree ≡ 0 → ⊥) → b ≡ true → _≡_ {A = ℕ} 1000 (cond (idle x && ltb 0 degree && b) 1000 0)
-claims-all x degree b e n t = rw (e, lt-ltb 0 degree (omega arith), t) refl
+pub claims-not : (r degree : ℕ) (b : Bool) → degree ≡ 0 → _≡_ {A = ℕ} 0 (cond (eqb r 0 && ltb 0 degree && b) 1000 0)
+claims-not r degree b e = rw e (go (eqb r 0))
+  where
+    go : (v : Bool) → _≡_ {A = ℕ} 0 (cond (v && false && b) 1000 0)
+    go true = refl
+    go false = refl
 
-pub claims-none : (x : Transfer) (degree : ℕ) (b : Bool) → x ≡ Idle → (degree ≡ 0 → ⊥) → b ≡ false → _≡_ {A = ℕ} 0 (cond (idle x && ltb 0 degree && b) 1000 0)
-claims-none x degree b e n t = rw (e, lt-ltb 0 degree (omega arith), t) refl
+pub claims-all : (r degree : ℕ) (b : Bool) → r ≡ 0 → (degree ≡ 0 → ⊥) → b ≡ true → _≡_ {A = ℕ} 1000 (cond (eqb r 0 && ltb 0 degree && b) 1000 0)
+claims-all r degree b e n t = rw (eq-eqb r 0 e, lt-ltb 0 degree (omega arith), t)
 
-pub claims-busy : (x : Transfer) (c degree : ℕ) (b : Bool) → x ≡ Carrying c → _≡_ {A = ℕ} 0 (cond (idle x && ltb 0 degree && b) 1000 0)
-claims-busy x c degree b e = rw e refl
+pub claims-none : (r degree : ℕ) (b : Bool) → r ≡ 0 → (degree ≡ 0 → ⊥) → b ≡ false → _≡_ {A = ℕ} 0 (cond (eqb r 0 && ltb 0 degree && b) 1000 0)
+claims-none r degree b e n t = rw (eq-eqb r 0 e, lt-ltb 0 degree (omega arith), t)
 
 pub still-long : (a b d : List ℕ) → length a ≡ length b → length b ≡ length d → length a ≡ length d
 still-long a b d e f = e ∙ f
-
--- lengths: an array of structs is known by a list of their parts, and a column keeps its length
-pub unmapped : {A B : Type 0} (f : A → B) (xs : List A) (n : ℕ) → length (map f xs) ≡ n → length xs ≡ n
-unmapped f xs n e = sym (map-length f xs) ∙ e
-
-pub still-255 : (a b : List ℕ) → length a ≡ length b → length b ≡ 255 → length a ≡ 255
-still-255 a b e f = e ∙ f
 
 pub set-still : (a b d : List ℕ) (i v : ℕ) → a ≡ set b i v → length b ≡ length d → length a ≡ length d
 set-still a b d i v e f = ap length e ∙ length-set b i v ∙ f
@@ -109,9 +77,10 @@ module _ (r : Round) (s : ℕ) (i : Turn) (direction : ℕ) where
   pub grown-start : (a : List ℕ) → Grown a a (partial r s i 0 direction)
   grown-start a = moved-zero a _ _ (λ p. refl) (partial-none r s i direction)
 
-  pub grown-more : (k part : ℕ) (a b e : List ℕ) → part ≡ amount r i (firstTransition (i .card) s + k) → Grown a b (partial r s i k direction)
-      → Grown b e (λ p. part * incidence (flatten (i .card)) direction (firstTransition (i .card) s + k) p) → Grown a e (partial r s i (k + 1) direction)
-  grown-more k part a b e q f g = moved-join a b e _ _ _ _ _ _ f g (λ p. refl) (partial-more r s i k part q direction)
+  pub grown-more : (k first part : ℕ) (a b e : List ℕ) → first ≡ firstTransition (i .card) s → part ≡ amount r i (firstTransition (i .card) s + k) → Grown a b (partial r s i k direction)
+      → Grown b e (λ p. part * incidence (flatten (i .card)) direction (first + k) p) → Grown a e (partial r s i (k + 1) direction)
+  grown-more k first part a b e ef q f g =
+      moved-join a b e _ _ _ _ _ _ f (subst (λ (z : ℕ). Grown b e (λ p. part * incidence (flatten (i .card)) direction (z + k) p)) ef g) (λ p. refl) (partial-more r s i k part q direction)
 
   pub grown-end : (k : ℕ) (a b : List ℕ) → k ≡ (subnetAt (i .card) s) .transitions → Grown a b (partial r s i k direction) → Grown a b (effect r s i direction)
   grown-end k a b q f = moved-same a b _ _ _ _ (λ p. refl) (partial-all r s i k q direction) f
@@ -121,10 +90,13 @@ module _ (r : Round) (s : ℕ) (i : Turn) where
   pub moving-start : (a : List ℕ) → Moved a a (partial r s i 0 draws) (partial r s i 0 fills)
   moving-start a = moved-zero a _ _ (partial-none r s i draws) (partial-none r s i fills)
 
-  pub moving-more : (k part : ℕ) (a b e : List ℕ) → part ≡ amount r i (firstTransition (i .card) s + k) → Moved a b (partial r s i k draws) (partial r s i k fills)
-      → Moved b e (λ p. part * incidence (flatten (i .card)) draws (firstTransition (i .card) s + k) p) (λ p. part * incidence (flatten (i .card)) fills (firstTransition (i .card) s + k) p)
+  pub moving-more : (k first part : ℕ) (a b e : List ℕ) → first ≡ firstTransition (i .card) s → part ≡ amount r i (firstTransition (i .card) s + k) → Moved a b (partial r s i k draws) (partial r s i k fills)
+      → Moved b e (λ p. part * incidence (flatten (i .card)) draws (first + k) p) (λ p. part * incidence (flatten (i .card)) fills (first + k) p)
       → Moved a e (partial r s i (k + 1) draws) (partial r s i (k + 1) fills)
-  moving-more k part a b e q f g = moved-join a b e _ _ _ _ _ _ f g (partial-more r s i k part q draws) (partial-more r s i k part q fills)
+  moving-more k first part a b e ef q f g =
+      moved-join a b e _ _ _ _ _ _ f
+      (subst (λ (z : ℕ). Moved b e (λ p. part * incidence (flatten (i .card)) draws (z + k) p) (λ p. part * incidence (flatten (i .card)) fills (z + k) p)) ef g)
+      (partial-more r s i k part q draws) (partial-more r s i k part q fills)
 
   pub moving-end : (k : ℕ) (a b : List ℕ) → k ≡ (subnetAt (i .card) s) .transitions → Moved a b (partial r s i k draws) (partial r s i k fills)
       → Moved a b (effect r s i draws) (effect r s i fills)
@@ -135,7 +107,19 @@ next-first : (c : Card) (s : ℕ) → firstTransition c (suc s) ≡ firstTransit
 unfolding firstTransition sumTo
 next-first c s = refl
 
--- a subnet's transitions in a card's tables
+-- a transition's signal in a card's tables
+module _ (c : Card) (numbers starts : List ℕ) (h : InTables c numbers starts) (i t at : ℕ) (l : Lists c i t) (e : at ≡ getD starts (transitionRowStart t) 0) where
+  signal-is : (g : ℕ) → g ≡ getD numbers at 0 → g ≡ (transitionAt c t) .signal
+  signal-is g eg = eg ∙ rw (begins c numbers starts h i t at l e .at) (h .loaded .laid .transition i t l .signal)
+
+  pub degree-of : (row : List ℕ) (g degree : ℕ) → g ≡ getD numbers at 0 → degree ≡ entry row g → degree ≡ entry row ((transitionAt c t) .signal)
+  degree-of row g degree eg ed = ed ∙ ap (entry row) (signal-is g eg)
+
+  pub rise-of : (row degrees : List ℕ) (g degree last : ℕ) → g ≡ getD numbers at 0 → degree ≡ entry row g → last ≡ entry degrees g
+      → degree - last ≡ entry row ((transitionAt c t) .signal) - entry degrees ((transitionAt c t) .signal)
+  rise-of row degrees g degree last eg ed el = ap₂ (λ (u v : ℕ). u - v) (degree-of row g degree eg ed) (degree-of degrees g last eg el)
+
+-- a subnet's transitions there
 module _ (c : Card) (numbers starts : List ℕ) (h : InTables c numbers starts) (s : ℕ) (below : s < length (c .subnets)) where
   pub counted : (row count : ℕ) → row ≡ getD starts s 0 → count ≡ getD numbers (row + 3) 0 → count ≡ (subnetAt c s) .transitions
   counted row count er ec = transitions-of c numbers starts (h .loaded) s row count below er ec
@@ -143,15 +127,17 @@ module _ (c : Card) (numbers starts : List ℕ) (h : InTables c numbers starts) 
   pub first-is : (first : ℕ) → first ≡ getD starts (firstTransitionStart s) 0 → first ≡ firstTransition c s
   first-is first e = e ∙ h .loaded .indexed .firstTransition s (omega arith)
 
-  pub lists : (k : ℕ) → k < (subnetAt c s) .transitions → Lists c s (firstTransition c s + k)
-  lists k l = record { subnet = below; first = omega arith; last = omega (arith, next-first c s) }
+  lists-own : (k : ℕ) → k < (subnetAt c s) .transitions → Lists c s (firstTransition c s + k)
+  lists-own k l = record { subnet = below; first = omega arith; last = omega (arith, next-first c s) }
 
-  pub below-last : (k : ℕ) → k < (subnetAt c s) .transitions → firstTransition c s + k < length (c .transitions)
-  below-last k l = below-all c (h .meets) s (firstTransition c s + k) (lists k l)
+  pub lists : (k first : ℕ) → k < (subnetAt c s) .transitions → first ≡ firstTransition c s → Lists c s (first + k)
+  lists k first l ef = rw ef (lists-own k l)
 
-  pub begins : (k first at : ℕ) → k < (subnetAt c s) .transitions → first ≡ firstTransition c s → at ≡ getD starts (transitionRowStart (first + k)) 0 → Begins c at s (firstTransition c s + k)
-  begins k first at l ef ea =
-      record { lists = lists k l; at = ea ∙ rw ef (h .loaded .indexed .transitionRow s (firstTransition c s + k) (lists k l)) }
+  pub owns : (k : ℕ) → k < (subnetAt c s) .transitions → OwnsTransition c s (firstTransition c s + k)
+  owns k l = record { low = lists-own k l .first; high = lists-own k l .last }
+
+  below-last : (k : ℕ) → k < (subnetAt c s) .transitions → firstTransition c s + k < length (c .transitions)
+  below-last k l = below-all c (h .meets) s (firstTransition c s + k) (lists-own k l)
 
   pub below-few : (k : ℕ) → k < (subnetAt c s) .transitions → firstTransition c s + k < 255
   below-few k l = omega (arith, below-last k l, h .meets .wellformed .rows .fewTransitions)
@@ -161,201 +147,163 @@ module _ (c : Card) (numbers starts : List ℕ) (h : InTables c numbers starts) 
   not-past row count first k er ec ef l g =
       omega (arith, counted row count er ec, first-is first ef, below-last k (omega (arith, counted row count er ec)), h .meets .wellformed .rows .fewTransitions)
 
--- the transfer of a transition, in an array and in the lent state
-pub slot-at : (slots : List Slot) (t : ℕ) → slotAt slots t ≡ (getD slots t (slot Idle)) .transfer
-slot-at slots t = List·getD-map (λ (x : Slot). x .transfer) slots t (slot Idle)
+  module _ (x : NetState) (k first : ℕ) (inside : k < (subnetAt c s) .transitions) (ef : first ≡ firstTransition c s) (rest : List ℕ) where
+    abbrev t : ℕ
+    t = firstTransition c s + k
 
-pub slot-is : (c : Card) (l : Lent) (t : ℕ) → Counts c l → t < length (c .transitions) → (getD (l .slots) t (slot Idle)) .transfer ≡ transfer ((view l) .transfers) t
-slot-is c l t n b = sym (getD-take (l .transitions) (map (λ (x : Slot). x .transfer) (l .slots)) t Idle (omega (arith, n .transitions)) ∙ slot-at (l .slots) t)
+    rest-own : Rests c s x rest → (left : ℕ) → left ≡ entry rest (first + k) → left ≡ remaining (flatten c) (transfer (x .transfers) t)
+    rest-own r left e = e ∙ rw ef (r t (owns k inside))
 
-module _ (c : Card) (numbers starts : List ℕ) (h : InTables c numbers starts) (s : ℕ) (below : s < length (c .subnets)) (l : Lent) (n : Counts c l) (k first : ℕ) (inside : k < (subnetAt c s) .transitions) (ef : first ≡ firstTransition c s) where
-  pub transfer-is : (getD (l .slots) (first + k) (slot Idle)) .transfer ≡ transfer ((view l) .transfers) (firstTransition c s + k)
-  transfer-is = rw ef (slot-is c l (firstTransition c s + k) n (below-last c numbers starts h s below k inside))
+    -- the first visit
+    pub part-posted : (row : List ℕ) (cl : Claims) (found : ℕ → Bool) (clear : Bool) → Rests c s x rest → (part : ℕ) → part ≡ entry rest (first + k)
+        → part ≡ amount posting (turn c x row cl found clear) t
+    part-posted row cl found clear r part e = rest-own r part e
 
-  -- the first visit
-  pub part-posted : (row : List ℕ) (cl : Claims) (found : ℕ → Bool) (clear : Bool) (part : ℕ) → part ≡ remaining (flatten c) ((getD (l .slots) (first + k) (slot Idle)) .transfer)
-      → part ≡ amount posting (turn c l row cl found clear) (firstTransition c s + k)
-  part-posted row cl found clear part e = e ∙ ap (remaining (flatten c)) transfer-is
+    -- the second visit judges a transition on the markings that it is lent, which are the state's at each place that its arcs name
+    allows-seen : (cl : Claims) (ms : List ℕ) (a : Arc) → entry ms (a .place) ≡ entry (x .markings) (a .place) → allows (flatten c) cl ms a ≡ allows (flatten c) cl (x .markings) a
+    unfolding allows
+    allows-seen cl ms a e = rw e
 
-  -- the second visit judges a transition on the whole array of markings; its arcs' places are all below the last
-  allows-whole : (cl : Claims) (ms : List ℕ) (a : Arc) → a .place < l .places → allows (flatten c) cl ms a ≡ allows (flatten c) cl (take (l .places) ms) a
-  unfolding allows
-  allows-whole cl ms a b = rw (getD-take (l .places) ms (a .place) 0 b) refl
+    arc-seen : (ms : List ℕ) → ToFind c s x ms rest → (j : ℕ) → j < (transitionAt c t) .arcs → entry ms ((arcAt (flatten c) t j) .place) ≡ entry (x .markings) ((arcAt (flatten c) t j) .place)
+    arc-seen ms f j b =
+        let o = owns k inside in
+        rw (arc-flat c t j) (f .markings _ _ (h .meets .conditions .transitions s t below (o .low) (o .high) .sees j b))
 
-  arc-below : (j : ℕ) → j < (transitionAt c (firstTransition c s + k)) .arcs → (arcAt (flatten c) (firstTransition c s + k) j) .place < l .places
-  arc-below j b =
-      let o = lists c numbers starts h s below k inside in
-      let q = flat-below c (h .meets) s _ _ below (h .meets .conditions .transitions s (firstTransition c s + k) below (o .first) (o .last) .sees j b) in
-      rw (arc-flat c (firstTransition c s + k) j) (omega (arith, q, n .places))
+    pub part-found : (row owed due ms : List ℕ) → ToFind c s x ms rest → (left part : ℕ) → left ≡ entry rest (first + k)
+        → part ≡ cond (eqb left 0 && ltb 0 (entry row ((transitionAt c (first + k)) .signal)) && every ((transitionAt c (first + k)) .arcs) (λ j. allows (flatten c) (posted owed due) ms (arcAt (flatten c) (first + k) j))) 1000 0
+        → part ≡ cond (candidateOn (flatten c) (posted owed due) x row t) 1000 0
+    unfolding candidateOn flatten
+    part-found row owed due ms f left part el e =
+        e
+        ∙ ap (λ (z : ℕ). cond (eqb left 0 && ltb 0 (entry row ((transitionAt c (z + k)) .signal)) && every ((transitionAt c (z + k)) .arcs) (λ j. allows (flatten c) (posted owed due) ms (arcAt (flatten c) (z + k) j))) 1000 0) ef
+        ∙ ap₂ (λ (u v : Bool). cond (u && ltb 0 (entry row ((transitionAt c t) .signal)) && v) 1000 0)
+        (idle-told (flatten c) (transfer (x .transfers) t) left (f .ranged t (owns k inside)) (rest-own (f .rests) left el))
+        (every-same ((transitionAt c t) .arcs) _ _ (λ j d. allows-seen (posted owed due) ms (arcAt (flatten c) t j) (arc-seen ms f j d)))
 
-  pub part-found : (row owed due : List ℕ) (at g degree part : ℕ) → Begins c at s (firstTransition c s + k) → g ≡ getD numbers at 0 → degree ≡ entry row g
-      → part ≡ cond (idle ((getD (l .slots) (first + k) (slot Idle)) .transfer) && ltb 0 degree && every ((transitionAt c (firstTransition c s + k)) .arcs) (λ j. allows (flatten c) (posted owed due) (l .markings) (arcAt (flatten c) (firstTransition c s + k) j))) 1000 0
-      → part ≡ cond (candidateOn (flatten c) (posted owed due) (view l) row (firstTransition c s + k)) 1000 0
-  unfolding candidateOn flatten
-  part-found row owed due at g degree part b eg ed e =
-      let signal : g ≡ (transitionAt c (firstTransition c s + k)) .signal = eg ∙ rw (b .at) (h .loaded .laid .transition s (firstTransition c s + k) (lists c numbers starts h s below k inside) .signal) in
-      e ∙ rw (transfer-is, ed, signal) (ap (λ (v : Bool). cond (idle (transfer ((view l) .transfers) (firstTransition c s + k)) && ltb 0 (entry row ((transitionAt c (firstTransition c s + k)) .signal)) && v) 1000 0)
-      (every-same ((transitionAt c (firstTransition c s + k)) .arcs) _ _ (λ j d. allows-whole (posted owed due) (l .markings) (arcAt (flatten c) (firstTransition c s + k) j) (arc-below j d))))
+    -- the third visit: how far a transition moves, and where that leaves it
+    module _ (row degrees marks : List ℕ) (cl : Claims) (f : ToMove c s x rest degrees) (was mark left d : ℕ) (ew : was ≡ entry rest (first + k)) (em : mark ≡ entry marks (first + k)) (el : left ≡ cond (ltb 0 mark) 1000 was)
+        (ed : d ≡ min (entry row ((transitionAt c (first + k)) .signal) - entry degrees ((transitionAt c (first + k)) .signal)) left) where
+      abbrev i : Turn
+      i = turn c x row cl (isMarked marks) true
+
+      abbrev start : Transfer
+      start = startedOn (isMarked marks) (x .transfers) t
+
+      mark-own : mark ≡ entry marks t
+      mark-own = em ∙ ap (λ (z : ℕ). entry marks (z + k)) ef
+
+      start-is : cond (ltb 0 mark) (Carrying 0) (transfer (x .transfers) t) ≡ start
+      start-is = rw mark-own refl
+
+      left-is : left ≡ remaining (flatten c) start
+      left-is = el ∙ started-rest (flatten c) (transfer (x .transfers) t) mark was (rest-own (f .rests) was ew) ∙ ap (remaining (flatten c)) start-is
+
+      start-range : inRange (flatten c) start ≡ true
+      start-range = ap (inRange (flatten c)) (sym start-is) ∙ started-range (flatten c) (transfer (x .transfers) t) mark (f .ranged t (owns k inside))
+
+      signal-below : (transitionAt c t) .signal < c .signals
+      signal-below = all-at (TransitionRow (c .signals)) (c .transitions) (record { signal = 0; arcs = 0 }) (h .meets .wellformed .rows .transitions) t (below-last k inside) .signal
+
+      rise-is : entry row ((transitionAt c (first + k)) .signal) - entry degrees ((transitionAt c (first + k)) .signal) ≡ rise (flatten c) (x .degrees) row t
+      unfolding flatten
+      rise-is = rw (ef, f .degrees ((transitionAt c t) .signal) signal-below)
+
+      pub part-moved : d ≡ amount moving i t
+      part-moved = ed ∙ ap₂ (λ (u v : ℕ). min u v) rise-is left-is
+
+      pub after-moved : transferOf (left - d) ≡ after moving i t
+      after-moved = advanced-told (flatten c) start left d start-range left-is (omega (arith, ed)) ∙ ap (advanced (flatten c) start) part-moved
 
 -- how a mark is read
 mark-read : (b : Bool) → ltb 0 (cond {A = ℕ} b 1000 0) ≡ b
 mark-read true = refl
 mark-read false = refl
 
-pub amount-found : (c : Card) (l : Lent) (row : List ℕ) (cl : Claims) (found : ℕ → Bool) (clear : Bool) (t part : ℕ) → part ≡ cond (candidateOn (flatten c) cl (view l) row t) 1000 0
-    → part ≡ amount finding (turn c l row cl found clear) t
+pub found-marked : (c : Card) (cl : Claims) (x : NetState) (row : List ℕ) (t part : ℕ) → part ≡ cond (candidateOn (flatten c) cl x row t) 1000 0 → ltb 0 part ≡ candidateOn (flatten c) cl x row t
+found-marked c cl x row t part e = ap (λ (v : ℕ). ltb 0 v) e ∙ mark-read (candidateOn (flatten c) cl x row t)
+
+pub amount-found : (c : Card) (x : NetState) (row : List ℕ) (cl : Claims) (found : ℕ → Bool) (clear : Bool) (t part : ℕ) → part ≡ cond (candidateOn (flatten c) cl x row t) 1000 0
+    → part ≡ amount finding (turn c x row cl found clear) t
 unfolding scale
-amount-found c l row cl found clear t part e = e
+amount-found c x row cl found clear t part e = e
 
--- the first k transitions of a subnet are marked
-pub record MarkedTo (s : ℕ) (i : Turn) (k : ℕ) (marks marks′ : List ℕ) : Type 0 where
-  pub own : length marks ≡ 255 → (j : ℕ) → j < k
-      → isMarked marks′ (firstTransition (i .card) s + j) ≡ candidateOn (flatten (i .card)) (i .standing) (i .state) (i .row) (firstTransition (i .card) s + j)
-  pub others : (t : ℕ) → ((j : ℕ) → j < k → t ≢ firstTransition (i .card) s + j) → entry marks′ t ≡ entry marks t
+-- Numbers by transition, of which a visit sets its own: from the first on, k of them are good, and the others as they were.
+pub record SetTo (f : ℕ) (good : (t v : ℕ) → Type 0) (k : ℕ) (a b : List ℕ) : Type 0 where
+  pub own : length a ≡ 255 → (j : ℕ) → j < k → good (f + j) (entry b (f + j))
+  pub others : (t : ℕ) → ((j : ℕ) → j < k → t ≢ f + j) → entry b t ≡ entry a t
 
-pub marked-start : (s : ℕ) (i : Turn) (marks : List ℕ) → MarkedTo s i 0 marks marks
-marked-start s i marks = record { own = λ e j b. absurd (omega arith); others = λ t b. refl }
+module _ (f : ℕ) (good : (t v : ℕ) → Type 0) where
+  pub set-start : (a : List ℕ) → SetTo f good 0 a a
+  set-start a = record { own = λ e j b. absurd (omega arith); others = λ t b. refl }
 
-pub marked-more : (s : ℕ) (i : Turn) (k first part : ℕ) (a b e : List ℕ) → length b ≡ length a → first ≡ firstTransition (i .card) s → firstTransition (i .card) s + k < 255
-    → part ≡ cond (candidateOn (flatten (i .card)) (i .standing) (i .state) (i .row) (firstTransition (i .card) s + k)) 1000 0
-    → e ≡ set b (first + k) part → MarkedTo s i k a b → MarkedTo s i (k + 1) a e
-marked-more s i k first part a b e long ef few ep ee h = rw (ee, ef) (record { own = λ q j g. at q j g (lt-or-ge j k); others = other })
-  where
-    f : ℕ
-    f = firstTransition (i .card) s
+  pub set-more : (k first v : ℕ) (a b e : List ℕ) → length b ≡ length a → first ≡ f → f + k < 255 → good (f + k) v → e ≡ set b (first + k) v → SetTo f good k a b → SetTo f good (k + 1) a e
+  set-more k first v a b e long ef few g ee h = rw (ee, ef) (record { own = λ q j d. at q j d (lt-or-ge j k); others = other })
+    where
+      at : length a ≡ 255 → (j : ℕ) → j < k + 1 → (j < k) ⊎ (k ≤ j) → good (f + j) (entry (set b (f + k) v) (f + j))
+      at q j d (inl l) = rw (getD-set-other b (f + k) (f + j) v 0 (λ z. omega arith)) (h .own q j l)
+      at q j d (inr l) =
+          let z : j ≡ k = omega arith in
+          rw (z, getD-set-same b (f + k) v 0 (omega (arith, long, q))) g
 
-    at : length a ≡ 255 → (j : ℕ) → j < k + 1 → (j < k) ⊎ (k ≤ j) → isMarked (set b (f + k) part) (f + j) ≡ candidateOn (flatten (i .card)) (i .standing) (i .state) (i .row) (f + j)
-    at q j g (inl d) = ap (λ (x : ℕ). ltb 0 x) (getD-set-other b (f + k) (f + j) part 0 (λ z. omega arith)) ∙ h .own q j d
-    at q j g (inr d) =
-        let z : j ≡ k = omega arith in
-        rw z (ap (λ (x : ℕ). ltb 0 x) (getD-set-same b (f + k) part 0 (omega (arith, long, q)) ∙ ep) ∙ mark-read (candidateOn (flatten (i .card)) (i .standing) (i .state) (i .row) (f + k)))
+      other : (t : ℕ) → ((j : ℕ) → j < k + 1 → t ≢ f + j) → entry (set b (f + k) v) t ≡ entry a t
+      other t n = getD-set-other b (f + k) t v 0 (n k (omega arith)) ∙ h .others t (λ j d. n j (omega arith))
 
-    other : (t : ℕ) → ((j : ℕ) → j < k + 1 → t ≢ f + j) → entry (set b (f + k) part) t ≡ entry a t
-    other t g = getD-set-other b (f + k) t part 0 (g k (omega arith)) ∙ h .others t (λ j d. g j (omega arith))
+-- the next one is as it was
+pub set-next : (f : ℕ) (good : (t v : ℕ) → Type 0) (k first : ℕ) (a b : List ℕ) (v : ℕ) → first ≡ f → v ≡ entry b (first + k) → SetTo f good k a b → v ≡ entry a (first + k)
+set-next f good k first a b v ef e x = e ∙ rw ef (x .others (f + k) (λ j d z. omega arith))
 
-pub marked-end : (s : ℕ) (i : Turn) (k : ℕ) (a b : List ℕ) → k ≡ (subnetAt (i .card) s) .transitions → length b ≡ length a → MarkedTo s i k a b → Marked s i a b
+module _ (c : Card) (s : ℕ) (good : (t v : ℕ) → Type 0) (k : ℕ) (e : k ≡ (subnetAt c s) .transitions) (a b : List ℕ) (h : SetTo (firstTransition c s) good k a b) where
+  pub set-own : length a ≡ 255 → (t : ℕ) → OwnsTransition c s t → good t (entry b t)
+  set-own q t o =
+      let d : t - firstTransition c s < k = omega (arith, o .low, o .high, next-first c s, e) in
+      let z : t ≡ firstTransition c s + (t - firstTransition c s) = omega (arith, o .low) in
+      rw z (h .own q (t - firstTransition c s) d)
+
+  pub set-others : (t : ℕ) → ¬ OwnsTransition c s t → entry b t ≡ entry a t
+  set-others t n = h .others t (λ j d z. n (record { low = omega (arith, z); high = omega (arith, z, d, e, next-first c s) }))
+
+-- the candidates that a visit marks
+abbrev pub GoodMark : Turn → (t v : ℕ) → Type 0
+GoodMark i t v = ltb 0 v ≡ candidateOn (flatten (i .card)) (i .standing) (i .state) (i .row) t
+
+pub marked-end : (s : ℕ) (i : Turn) (k : ℕ) (a b : List ℕ) → k ≡ (subnetAt (i .card) s) .transitions → length b ≡ length a → SetTo (firstTransition (i .card) s) (GoodMark i) k a b → Marked s i a b
 marked-end s i k a b e long h =
-    record {
-      long = long;
-      own = λ q t o.
-          let d : t - f < k = omega (arith, o .low, o .high, next-first (i .card) s, e) in
-          let z : t ≡ f + (t - f) = omega (arith, o .low) in
-          rw z (h .own q (t - f) d);
-      others = λ t n. h .others t (λ j d z. n (record { low = omega (arith, z); high = omega (arith, z, d, e, next-first (i .card) s) }));
-    }
-  where
-    f : ℕ
-    f = firstTransition (i .card) s
+    record { long = long; own = set-own (i .card) s (GoodMark i) k e a b h; others = set-others (i .card) s (GoodMark i) k e a b h }
 
-pub marked-at : (marks : List ℕ) (mark first f k : ℕ) → mark ≡ entry marks (first + k) → first ≡ f → mark ≡ entry marks (f + k)
-marked-at marks mark first f k e ef = e ∙ ap (λ (a : ℕ). entry marks (a + k)) ef
-
--- the third visit: how far a transition moves, and where that leaves it
-module _ (c : Card) (numbers starts : List ℕ) (h : InTables c numbers starts) (s : ℕ) (below : s < length (c .subnets)) (l : Lent) (n : Counts c l) (k : ℕ) (inside : k < (subnetAt c s) .transitions) (row marks : List ℕ) (cl : Claims) where
-  abbrev t : ℕ
-  t = firstTransition c s + k
-
-  abbrev i : Turn
-  i = turn c l row cl (isMarked marks) true
-
-  signal-below : (transitionAt c t) .signal < l .signals
-  signal-below = omega (arith, n .signals, all-at (TransitionRow (c .signals)) (c .transitions) (record { signal = 0; arcs = 0 }) (h .meets .wellformed .rows .transitions) t (below-last c numbers starts h s below k inside) .signal)
-
-  module _ (at g last degree d mark : ℕ) (before x y : Transfer) (b : Begins c at s t) (eg : g ≡ getD numbers at 0) (el : last ≡ entry (l .degrees) g) (ed : degree ≡ entry row g) (em : mark ≡ entry marks t)
-      (eb : before ≡ transfer ((view l) .transfers) t) (ex : x ≡ cond (ltb 0 mark) (Carrying 0) before) (es : d ≡ min (degree - last) (remaining (flatten c) x)) (ey : d ≤ remaining (flatten c) x → y ≡ advanced (flatten c) x d) where
-    started-is : x ≡ startedOn (isMarked marks) ((view l) .transfers) t
-    started-is = ex ∙ rw (em, eb) refl
-
-    signal-is : g ≡ (transitionAt c t) .signal
-    signal-is = eg ∙ rw (b .at) (h .loaded .laid .transition s t (b .lists) .signal)
-
-    rise-is : degree - last ≡ rise (flatten c) ((view l) .degrees) row t
-    unfolding flatten
-    rise-is = rw (ed, el, signal-is, getD-take (l .signals) (l .degrees) ((transitionAt c t) .signal) 0 signal-below) refl
-
-    pub part-moved : d ≡ amount moving i t
-    part-moved = es ∙ ap₂ (λ (u v : ℕ). min u v) rise-is (ap (remaining (flatten c)) started-is)
-
-    pub after-moved : y ≡ after moving i t
-    after-moved = ey (omega (arith, es)) ∙ ap₂ (λ (u : Transfer) (v : ℕ). advanced (flatten c) u v) started-is part-moved
-
--- the first k transitions of a subnet have moved
-pub record SlotsTo (s : ℕ) (i : Turn) (k : ℕ) (a b : List Slot) : Type 0 where
-  pub own : (j : ℕ) → j < k → slotAt b (firstTransition (i .card) s + j) ≡ after moving i (firstTransition (i .card) s + j)
-  pub others : (t : ℕ) → ((j : ℕ) → j < k → t ≢ firstTransition (i .card) s + j) → slotAt b t ≡ slotAt a t
-
-pub slots-start : (s : ℕ) (i : Turn) (a : List Slot) → SlotsTo s i 0 a a
-slots-start s i a = record { own = λ j b. absurd (omega arith); others = λ t b. refl }
-
-pub slots-more : (s : ℕ) (i : Turn) (k first : ℕ) (y : Transfer) (a b : List Slot) → length b ≡ 255 → first ≡ firstTransition (i .card) s → firstTransition (i .card) s + k < 255
-    → y ≡ after moving i (firstTransition (i .card) s + k) → SlotsTo s i k a b → SlotsTo s i (k + 1) a (set b (first + k) (slot y))
-slots-more s i k first y a b long ef few e h = rw ef (record { own = λ j g. at j g (lt-or-ge j k); others = other })
-  where
-    f : ℕ
-    f = firstTransition (i .card) s
-
-    at : (j : ℕ) → j < k + 1 → (j < k) ⊎ (k ≤ j) → slotAt (set b (f + k) (slot y)) (f + j) ≡ after moving i (f + j)
-    at j g (inl d) =
-        slot-at (set b (f + k) (slot y)) (f + j) ∙ ap (λ (x : Slot). x .transfer) (getD-set-other b (f + k) (f + j) (slot y) (slot Idle) (λ z. omega arith)) ∙ sym (slot-at b (f + j)) ∙ h .own j d
-    at j g (inr d) =
-        let z : j ≡ k = omega arith in
-        rw z (slot-at (set b (f + k) (slot y)) (f + k) ∙ ap (λ (x : Slot). x .transfer) (getD-set-same b (f + k) (slot y) (slot Idle) (omega (arith, long, few))) ∙ e)
-
-    other : (t : ℕ) → ((j : ℕ) → j < k + 1 → t ≢ f + j) → slotAt (set b (f + k) (slot y)) t ≡ slotAt a t
-    other t g =
-        slot-at (set b (f + k) (slot y)) t ∙ ap (λ (x : Slot). x .transfer) (getD-set-other b (f + k) t (slot y) (slot Idle) (g k (omega arith))) ∙ sym (slot-at b t) ∙ h .others t (λ j d. g j (omega arith))
-
--- a transition that has not had its turn is as it was
-pub slots-next : (c : Card) (numbers starts : List ℕ) → InTables c numbers starts → (s : ℕ) → s < length (c .subnets) → (l : Lent) → Counts c l → (k first : ℕ) → k < (subnetAt c s) .transitions → first ≡ firstTransition c s
-    → (i : Turn) → i .card ≡ c → (b : List Slot) → SlotsTo s i k (l .slots) b → (getD b (first + k) (slot Idle)) .transfer ≡ transfer ((view l) .transfers) (firstTransition c s + k)
-slots-next c numbers starts h s below l n k first inside ef i ec b x =
-    rw ef (sym (slot-at b (firstTransition c s + k)) ∙ x .others (firstTransition c s + k) (λ j d z. omega (arith, d, ap (λ (e : Card). firstTransition e s) ec)) ∙ slot-at (l .slots) (firstTransition c s + k)
-    ∙ slot-is c l (firstTransition c s + k) n (below-last c numbers starts h s below k inside))
+-- what it leaves of its transfers
+abbrev pub GoodRest : Turn → (t v : ℕ) → Type 0
+GoodRest i t v = transferOf v ≡ after moving i t
 
 -- all that the third visit does
-module _ (c : Card) (numbers starts : List ℕ) (h : InTables c numbers starts) (s : ℕ) (below : s < length (c .subnets)) (l : Lent) (n : Counts c l) (row : List ℕ) (cl : Claims) (found : ℕ → Bool) where
-  pub shifted-all : (clear : Bool) → clear ≡ true → (k : ℕ) (l′ : Lent) → k ≡ (subnetAt c s) .transitions
-      → Moved (l .markings) (l′ .markings) (partial moving s (turn c l row cl found true) k draws) (partial moving s (turn c l row cl found true) k fills)
-      → SlotsTo s (turn c l row cl found true) k (l .slots) (l′ .slots) → length (l′ .slots) ≡ length (l .slots) → l′ .degrees ≡ l .degrees
-      → (l′ .places ≡ l .places) × (l′ .transitions ≡ l .transitions) × (l′ .signals ≡ l .signals) → Shifted s (turn c l row cl found clear) l l′
-  shifted-all clear ec k l′ e ms xs long degrees counts = subst (λ (v : Bool). Shifted s (turn c l row cl found v) l l′) (sym ec) all
+module _ (c : Card) (numbers starts : List ℕ) (h : InTables c numbers starts) (s : ℕ) (below : s < length (c .subnets)) (x : NetState) (row : List ℕ) (cl : Claims) (found : ℕ → Bool) where
+  pub shifted-all : (clear : Bool) → clear ≡ true → (k : ℕ) (ms ms′ rest rest′ : List ℕ) → k ≡ (subnetAt c s) .transitions
+      → Moved ms ms′ (partial moving s (turn c x row cl found true) k draws) (partial moving s (turn c x row cl found true) k fills)
+      → SetTo (firstTransition c s) (GoodRest (turn c x row cl found true)) k rest rest′ → length rest′ ≡ length rest → Shifted s (turn c x row cl found clear) ms ms′ rest rest′
+  shifted-all clear ec k ms ms′ rest rest′ e m r long = subst (λ (v : Bool). Shifted s (turn c x row cl found v) ms ms′ rest rest′) (sym ec) all
     where
-      i : Turn
-      i = turn c l row cl found true
-
-      f : ℕ
-      f = firstTransition c s
-
-      all : Shifted s (turn c l row cl found true) l l′
+      all : Shifted s (turn c x row cl found true) ms ms′ rest rest′
       all =
           record {
-            facts = facts moving s (turn c l row cl found true) (h .meets) below;
-            markings = moving-end moving s (turn c l row cl found true) k (l .markings) (l′ .markings) e ms;
-            own = λ t o.
-                let d : t - f < k = omega (arith, o .low, o .high, next-first c s, e) in
-                let z : t ≡ f + (t - f) = omega (arith, o .low) in
-                rw z (xs .own (t - f) d);
-            others = λ t m. xs .others t (λ j d z. m (record { low = omega (arith, z); high = omega (arith, z, d, e, next-first c s) }));
+            facts = facts moving s (turn c x row cl found true) (h .meets) below;
+            markings = moving-end moving s (turn c x row cl found true) k ms ms′ e m;
+            own = set-own c s (GoodRest (turn c x row cl found true)) k e rest rest′ r;
+            others = set-others c s (GoodRest (turn c x row cl found true)) k e rest rest′ r;
             long = long;
-            degrees = degrees;
-            counts = counts;
           }
 
-  no-effect : (direction p : ℕ) → effect moving s (turn c l row cl found false) direction p ≡ 0
+  no-effect : (direction p : ℕ) → effect moving s (turn c x row cl found false) direction p ≡ 0
   unfolding effect
   no-effect direction p = sum-zero ((subnetAt c s) .transitions) _ (λ k b. omega arith)
 
-  pub shifted-none : (clear : Bool) → clear ≡ false → Shifted s (turn c l row cl found clear) l l
-  shifted-none clear ec = subst (λ (v : Bool). Shifted s (turn c l row cl found v) l l) (sym ec) none
+  pub shifted-none : (clear : Bool) → clear ≡ false → (ms rest degrees : List ℕ) → ToMove c s x rest degrees → Shifted s (turn c x row cl found clear) ms ms rest rest
+  shifted-none clear ec ms rest degrees f = subst (λ (v : Bool). Shifted s (turn c x row cl found v) ms ms rest rest) (sym ec) none
     where
-      none : Shifted s (turn c l row cl found false) l l
+      none : Shifted s (turn c x row cl found false) ms ms rest rest
       none =
           record {
-            facts = facts moving s (turn c l row cl found false) (h .meets) below;
-            markings = moved-zero (l .markings) _ _ (no-effect draws) (no-effect fills);
-            own = λ t o. slot-at (l .slots) t ∙ slot-is c l t n (below-all c (h .meets) s t (record { subnet = below; first = o .low; last = o .high }));
+            facts = facts moving s (turn c x row cl found false) (h .meets) below;
+            markings = moved-zero ms _ _ (no-effect draws) (no-effect fills);
+            own = λ q t o. told (flatten c) (transfer (x .transfers) t) (entry rest t) (f .ranged t o) (f .rests t o);
             others = λ t m. refl;
             long = refl;
-            degrees = refl;
-            counts = (refl, refl, refl);
           }

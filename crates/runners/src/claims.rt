@@ -1,10 +1,10 @@
-// What the arcs of a transition post on the claims board, what they move, and whether they let it start. A transition is named by where its
-// row begins in a card's tables; each arc is resolved to a flat place as it is met. Every function takes any slices; what it does is the
-// card's where they hold an accepted one.
+// What a transition's arcs post on the claims board, what they move, and whether they let it start. Each arc is resolved to a flat place as
+// it is met. Every function takes any slices; what it does is the card's where they hold an accepted one.
 use card::tables::arc_count;
 use card::tables::capacity;
 use card::tables::first_place;
 use card::tables::subnet_row;
+use card::tables::transition_row;
 use hierarchy::arcs::Arc;
 use hierarchy::arcs::arc_at;
 ghost use mathlib.Core.Path.{_≡_};
@@ -85,8 +85,8 @@ fn place_of(starts: &[u32], a: Arc) -> usize
     first_place(starts, a.subnet) as usize + a.place as usize
 }
 
-// The arcs of a transition post this part of their weights, in thousandths.
-pub fn post_transition(
+// The arcs of the transition whose row begins at row post this part of their weights, in thousandths.
+fn post_arcs(
     numbers: &[u16],
     starts: &[u32],
     row: u32,
@@ -99,9 +99,6 @@ pub fn post_transition(
     ensures { λ r. ⌜ ((c : Card) (i t : ℕ) → InTables c (now (numbers .entry)) (now (starts .entry)) → Begins c row i t → Grown (now (owed .entry)) (now (owed .exit)) (λ p. part * incidence (flatten c) draws t p)) ⌝ }
     ensures { λ r. ⌜ ((c : Card) (i t : ℕ) → InTables c (now (numbers .entry)) (now (starts .entry)) → Begins c row i t → Grown (now (due .entry)) (now (due .exit)) (λ p. part * incidence (flatten c) fills t p)) ⌝ }
 {
-    if part == 0 {
-        return;
-    }
     let count = arc_count(numbers, row);
     let mut j = 0;
     while j < count {
@@ -112,14 +109,32 @@ pub fn post_transition(
     }
 }
 
-// They move it.
-pub fn move_transition(numbers: &[u16], starts: &[u32], row: u32, part: u16, markings: &mut [u32])
-    ensures { λ r. ⌜ length (now (markings .exit)) ≡ length (now (markings .entry)) ⌝ }
-    ensures { λ r. ⌜ ((c : Card) (i t : ℕ) → InTables c (now (numbers .entry)) (now (starts .entry)) → Begins c row i t → Moved (now (markings .entry)) (now (markings .exit)) (λ p. part * incidence (flatten c) draws t p) (λ p. part * incidence (flatten c) fills t p)) ⌝ }
+// Transition t posts this part of its weights. One that posts nothing costs nothing.
+pub fn post_transition(
+    numbers: &[u16],
+    starts: &[u32],
+    t: u32,
+    part: u16,
+    owed: &mut [u32],
+    due: &mut [u32],
+)
+    ensures { λ r. ⌜ length (now (owed .exit)) ≡ length (now (owed .entry)) ⌝ }
+    ensures { λ r. ⌜ length (now (due .exit)) ≡ length (now (due .entry)) ⌝ }
+    ensures { λ r. ⌜ ((c : Card) (i : ℕ) → InTables c (now (numbers .entry)) (now (starts .entry)) → Lists c i t → Grown (now (owed .entry)) (now (owed .exit)) (λ p. part * incidence (flatten c) draws t p)) ⌝ }
+    ensures { λ r. ⌜ ((c : Card) (i : ℕ) → InTables c (now (numbers .entry)) (now (starts .entry)) → Lists c i t → Grown (now (due .entry)) (now (due .exit)) (λ p. part * incidence (flatten c) fills t p)) ⌝ }
 {
     if part == 0 {
         return;
     }
+    let row = transition_row(starts, t);
+    post_arcs(numbers, starts, row, part, owed, due);
+}
+
+// They move it.
+fn move_arcs(numbers: &[u16], starts: &[u32], row: u32, part: u16, markings: &mut [u32])
+    ensures { λ r. ⌜ length (now (markings .exit)) ≡ length (now (markings .entry)) ⌝ }
+    ensures { λ r. ⌜ ((c : Card) (i t : ℕ) → InTables c (now (numbers .entry)) (now (starts .entry)) → Begins c row i t → Moved (now (markings .entry)) (now (markings .exit)) (λ p. part * incidence (flatten c) draws t p) (λ p. part * incidence (flatten c) fills t p)) ⌝ }
+{
     let count = arc_count(numbers, row);
     let mut j = 0;
     while j < count {
@@ -128,6 +143,18 @@ pub fn move_transition(numbers: &[u16], starts: &[u32], row: u32, part: u16, mar
         move_at(a.direction, p, part as u32 * a.weight as u32, markings);
         j += 1;
     }
+}
+
+// Transition t moves it.
+pub fn move_transition(numbers: &[u16], starts: &[u32], t: u32, part: u16, markings: &mut [u32])
+    ensures { λ r. ⌜ length (now (markings .exit)) ≡ length (now (markings .entry)) ⌝ }
+    ensures { λ r. ⌜ ((c : Card) (i : ℕ) → InTables c (now (numbers .entry)) (now (starts .entry)) → Lists c i t → Moved (now (markings .entry)) (now (markings .exit)) (λ p. part * incidence (flatten c) draws t p) (λ p. part * incidence (flatten c) fills t p)) ⌝ }
+{
+    if part == 0 {
+        return;
+    }
+    let row = transition_row(starts, t);
+    move_arcs(numbers, starts, row, part, markings);
 }
 
 // Whether the place that an arc names has the tokens, or the room, for the arc's whole weight beside the claims that stand.

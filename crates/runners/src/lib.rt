@@ -12,6 +12,7 @@ mod rounds;
 pub mod row;
 pub mod same;
 mod tests;
+mod transfers;
 mod verdict;
 mod visits;
 

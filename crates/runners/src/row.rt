@@ -12,6 +12,8 @@ use crate::rounds::move_all;
 use crate::rounds::post_all;
 use crate::tests::row_test;
 use crate::tests::state_test;
+use crate::transfers::rests;
+use crate::transfers::stored;
 use crate::verdict::uncovered;
 use card::tables::signals;
 use hierarchy::Answer;
@@ -69,9 +71,11 @@ fn step(
 ) -> RowAnswer
     ensures { λ r. ⌜ ((c : Card) → InTables c (now (numbers .entry)) (now (starts .entry)) → PlacesTo c (now (rows .entry)) (length (c .places)) → places ≡ length (c .places) → valid (flattenOf c) state ≡ true → eachOnce (length (c .subnets)) (now (order .entry)) ≡ true → rowFault (flattenOf c) (now (row .entry)) ≡ none → IsRow (settle (Option·map Conflict (conflict (flattenOf c) (view state) (now (row .entry)))) state (store state (nextOf (flattenOf c) (view state) (now (row .entry))))) r) ⌝ }
 {
+    let mut markings = state.markings;
+    let mut rest = rests(state);
     let mut owed = [0; 255];
     let mut due = [0; 255];
-    post_all(numbers, starts, order, state, &mut owed, &mut due);
+    post_all(numbers, starts, order, &rest, &mut owed, &mut due);
     let mut drawn = [0; 255];
     let mut filled = [0; 255];
     let mut marks = [0; 255];
@@ -79,7 +83,8 @@ fn step(
         numbers,
         starts,
         order,
-        state,
+        &markings,
+        &rest,
         row,
         &owed,
         &due,
@@ -87,7 +92,6 @@ fn step(
         &mut filled,
         &mut marks,
     );
-    let markings = state.markings;
     let p = uncovered(rows, places, &markings, &owed, &due, &drawn, &filled);
     if p != places {
         return RowAnswer {
@@ -95,7 +99,19 @@ fn step(
             state: state,
         };
     }
-    let next = move_all(numbers, starts, order, state, row, &marks, true);
+    let degrees = state.degrees;
+    move_all(
+        numbers,
+        starts,
+        order,
+        &degrees,
+        row,
+        &marks,
+        true,
+        &mut markings,
+        &mut rest,
+    );
+    let next = stored(state, markings, rest);
     RowAnswer {
         reply: Reply::Ok,
         state: record_degrees(next, row),

@@ -5,6 +5,7 @@ use crate::Sizes;
 use crate::State;
 use crate::Transfer;
 use crate::rounds::post_all;
+use crate::transfers::rests;
 use crate::verdict::uncovered;
 ghost use mathlib.Core.Path.{_≡_};
 ghost use mathlib.Core.Bool.{Bool};
@@ -144,9 +145,17 @@ fn all_covered(numbers: &[u16], starts: &[u32], rows: &[u16], subnets: u16, stat
         31,
     ];
     let n = subnets as usize;
+    let rest = rests(state);
     let mut owed = [0; 255];
     let mut due = [0; 255];
-    post_all(numbers, starts, &order[..n], state, &mut owed, &mut due);
+    post_all(
+        numbers,
+        starts,
+        &order[..n],
+        &rest,
+        &mut owed,
+        &mut due,
+    );
     let markings = state.markings;
     let none = [0; 255];
     let places = state.places as u16;

@@ -1,94 +1,33 @@
 -- `runners::claims::move_transition` meets its contract. Assumes nothing.
-use Rattle.runners.proofs.claims.move_transition.Statement.{statement}
-use Rattle.runners.proofs.ClaimLaws.{weights, in-arcs, product-fits, arc-is, moved-more, moved-all, moved-start, moved-idle}
-use Rattle.runners.specs.Boards.{InTables, Moved}
+use borrow.Author.Needs.{needs}
+use denote.Ref.{now}
+use mathlib.Core.Path.{refl}
+use Rattle.card.specs.Card.{draws, fills}
 use Rattle.runners.specs.State.{incidence}
 use Rattle.runners.specs.Flattening.{flatten}
-use Rattle.hierarchy.specs.Arcs.{Begins}
-use Rattle.card.specs.Card.{Card, draws, fills}
-use borrow.Author.Needs.{needs}
-use lib.ListN.{length}
-use denote.Ref.{now}
-use native.Mathlib.Omega.{arith}
-use mathlib.Core.Path.{_≡_, refl, _∙_}
-use Prim.Native.Nat.{ℕ, _*_, _-_, _≤_}
+use Rattle.runners.proofs.ClaimLaws.{begins, moved-idle}
+use Rattle.runners.proofs.claims.move_transition.Statement.{statement}
 use Rattle.runners.proofs.claims.move_transition.Tie as tie
-use Rattle.runners.proofs.claims.move_transition.Reads as reads
-use Rattle.runners.proofs.claims.move_transition.Lts as lts
-use Rattle.card.proofs.tables.arc_count.Reads as arc-count-reads
-use Rattle.hierarchy.proofs.arcs.arc_at.Reads as arc-at-reads
-use Rattle.runners.proofs.claims.move_at.Reads as move-at-reads
-use Rattle.runners.proofs.claims.place_of.Reads as place-of-reads
 
-abbrev Inv-loop : tie.InvT-loop
-Inv-loop numbers starts row part markings₀ count j₀ markings j = (length markings ≡ length markings₀) × (j ≤ count)
-    × ((c : Card) (i t : ℕ) → InTables c numbers starts → Begins c row i t → Moved markings₀ markings (λ p. part * weights c draws t j p) (λ p. part * weights c fills t j p))
+returns : tie.Need-returns
+returns c =     let a = c .before .before .before .before .args in
+    (refl, λ k i h b. moved-idle (a .part) (incidence (flatten k) draws (a .t)) (incidence (flatten k) fills (a .t)) (now (a .markings)) (c .if1 .taken))
 
-abbrev μ-loop : tie.MeasureT-loop
-μ-loop numbers starts row part markings₀ count j₀ markings j = count - j
+transition-row-requires : tie.Need-transition-row-requires
+transition-row-requires c κs = search needs
 
-returns : tie.Need-returns Inv-loop μ-loop
-returns c = (refl, λ k i t h b. moved-idle ((c .before .before .before .before .args) .part) (incidence (flatten k) draws t) (incidence (flatten k) fills t) (now ((c .before .before .before .before .args) .markings)) ((c .if1) .taken))
+move-arcs-requires : tie.Need-move-arcs-requires
+move-arcs-requires c κs = search needs
 
-arc-count-requires : tie.Need-arc-count-requires Inv-loop μ-loop
-arc-count-requires c κs = search needs
+same-length : tie.Need-same-length
+same-length c = search needs
 
-loop-holds : tie.Need-loop-holds Inv-loop μ-loop
-loop-holds c = (refl, omega arith, λ k i t h b. moved-start k ((c .before .before .before .before .before .args) .part) t (now ((c .before .before .before .before .before .args) .markings)))
-
-arc-at-requires : tie.Need-arc-at-requires Inv-loop μ-loop
-arc-at-requires c κs = search needs
-
-place-of-requires : tie.Need-place-of-requires Inv-loop μ-loop
-place-of-requires c κs = search needs
-
-cast-move-at : tie.Need-cast-move-at Inv-loop μ-loop
-cast-move-at c = search needs
-
-mul-move-at : tie.Need-mul-move-at Inv-loop μ-loop
-mul-move-at c = omega (arith, product-fits ((c .before .before .before .before .before .before .before .before .before .before .args) .part) ((c .before .before .arc-at) .result .weight) (omega arith) (omega (arith, (c .struct-known) .given)))
-
-move-at-requires : tie.Need-move-at-requires Inv-loop μ-loop
-move-at-requires c κs = search needs
-
-add-j : tie.Need-add-j Inv-loop μ-loop
-add-j c = search needs
-
-loop-less : tie.Need-loop-less Inv-loop μ-loop
-loop-less c = search needs
-
-loop-again : tie.Need-loop-again Inv-loop μ-loop
-loop-again c = (
-  ((c .before .before .move-at) .ensures .long) ∙ (c .before .before .before .before .before .before .before .before .loop) .inv .0,
-  omega arith,
-  λ k i t h b.
-      let x = (c .before .before .before .before .before .before .before .before .loop) .inv .2 k i t h b in
-      let l = in-arcs k (now ((c .before .before .before .before .before .before .before .before .before .before .before .before .before .before .args) .numbers)) (now ((c .before .before .before .before .before .before .before .before .before .before .before .before .before .before .args) .starts)) h ((c .before .before .before .before .before .before .before .before .before .before .before .before .before .before .args) .row) i t b ((c .before .before .before .before .before .before .before .before .before .arc-count) .result) ((c .before .before .before .before .before .before .before .before .loop) .j) ((c .before .before .before .before .before .before .before .before .before .arc-count) .ensures) ((c .before .before .before .before .before .before .before .loop-test) .taken) in
-      moved-more k (now ((c .before .before .before .before .before .before .before .before .before .before .before .before .before .before .args) .numbers)) (now ((c .before .before .before .before .before .before .before .before .before .before .before .before .before .before .args) .starts)) h ((c .before .before .before .before .before .before .before .before .before .before .before .before .before .before .args) .row) i t b ((c .before .before .before .before .before .before .before .before .loop) .j) l ((c .before .before .before .before .before .before .arc-at) .result) (arc-is k (now ((c .before .before .before .before .before .before .before .before .before .before .before .before .before .before .args) .numbers)) (now ((c .before .before .before .before .before .before .before .before .before .before .before .before .before .before .args) .starts)) h ((c .before .before .before .before .before .before .before .before .before .before .before .before .before .before .args) .row) i t b ((c .before .before .before .before .before .before .before .before .loop) .j) l ((c .before .before .before .before .before .before .arc-at) .result) ((c .before .before .before .before .before .before .arc-at) .ensures)) ((c .before .before .before .before .before .place-of) .result) ((c .before .before .before .before .before .place-of) .ensures) ((c .before .before .before .before .before .before .before .before .before .before .before .before .before .before .args) .part) (now ((c .before .before .before .before .before .before .before .before .before .before .before .before .before .before .args) .markings)) ((c .before .before .before .before .before .before .before .before .loop) .markings) _ x ((c .before .before .move-at) .ensures),
-)
-
-same-length : tie.Need-same-length Inv-loop μ-loop
-same-length c = (c .before .loop) .inv .0
-
-returns-2 : tie.Need-returns-2 Inv-loop μ-loop
-returns-2 c = ((c .before .loop) .inv .0, λ k i t h b. moved-all k (now ((c .before .before .before .before .before .before .before .args) .numbers)) (now ((c .before .before .before .before .before .before .before .args) .starts)) h ((c .before .before .before .before .before .before .before .args) .row) i t b ((c .before .before .arc-count) .result) ((c .before .loop) .j) ((c .before .before .before .before .before .before .before .args) .part) (now ((c .before .before .before .before .before .before .before .args) .markings)) ((c .before .loop) .markings) ((c .before .before .arc-count) .ensures) ((c .before .loop) .inv .1) (omega (arith, (c .loop-test) .left)) ((c .before .loop) .inv .2 k i t h b))
+returns-2 : tie.Need-returns-2
+returns-2 c =     let a = c .before .before .before .before .before .before .before .before .before .args in
+    let r = c .before .before .before .before .transition-row in
+    let p = c .before .before .move-arcs in
+    (p .ensures .0, λ k i h b. p .ensures .1 k i (a .t) h (begins k (now (a .numbers)) (now (a .starts)) h i (a .t) (r .result) b (r .ensures)))
 
 pub move-transition-spec : {M : Type 1} → statement M
 move-transition-spec =
-    tie.close
-    (tie.spec
-    Inv-loop
-    μ-loop
-    returns
-    arc-count-requires
-    loop-holds
-    arc-at-requires
-    place-of-requires
-    cast-move-at
-    mul-move-at
-    move-at-requires
-    add-j
-    loop-less
-    loop-again
-    same-length
-    returns-2)
+    tie.close (tie.spec returns transition-row-requires move-arcs-requires same-length returns-2)

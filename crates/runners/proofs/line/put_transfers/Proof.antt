@@ -1,7 +1,7 @@
 -- `runners::line::put_transfers` meets its contract. Assumes nothing.
 use Rattle.runners.proofs.line.put_transfers.Statement.{statement}
 use Rattle.runners.proofs.LineLaws.{puts-long, words-none, word-more, word-count, word-all}
-use Rattle.runners.proofs.VisitTurns.{unmapped}
+use Rattle.runners.proofs.TransferLaws.{unmapped}
 use Rattle.runners.specs.declared.Transfer.the-variants.{Idle}
 use Rattle.runners.specs.declared.Slot.{Slot}
 use Rattle.runners.specs.Lines.{Puts, spaced, transferWord}

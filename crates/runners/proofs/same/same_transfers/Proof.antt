@@ -1,6 +1,6 @@
 -- `runners::same::same_transfers` meets its contract. Assumes nothing.
 use Rattle.runners.proofs.same.same_transfers.Statement.{statement}
-use Rattle.runners.proofs.VisitTurns.{slot-at, unmapped}
+use Rattle.runners.proofs.TransferLaws.{slot-at, unmapped}
 use Rattle.runners.proofs.AgreeLaws.{min-few}
 use Rattle.runners.specs.Agreeing.{progressCode}
 use mathlib.Core.Path.{_≡_, sym, ap, _∙_}

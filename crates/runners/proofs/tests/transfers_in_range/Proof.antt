@@ -8,7 +8,7 @@ use Rattle.card.specs.Card.{Card}
 use Rattle.hierarchy.proofs.WalkLaws.{Below, below-start, below-more, test-holds}
 use Rattle.runners.specs.Calls.{inRange}
 use Rattle.runners.specs.Boards.{slotAt}
-use Rattle.runners.proofs.VisitTurns.{slot-at}
+use Rattle.runners.proofs.TransferLaws.{slot-at}
 use Rattle.runners.proofs.TestLaws.{transfers-bad, transfers-good}
 use Rattle.runners.proofs.tests.transfers_in_range.Statement.{statement}
 use Rattle.runners.proofs.tests.transfers_in_range.Tie as tie

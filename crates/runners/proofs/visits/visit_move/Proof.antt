@@ -1,32 +1,36 @@
 -- `runners::visits::visit_move` meets its contract. Assumes nothing.
-use Prim.Native.Nat.{_+_, _-_, _≤_, _<_}
-use mathlib.Core.Bool.{true}
-use mathlib.Core.Path.{_≡_, refl, sym, _∙_}
+use Prim.Native.Nat.{ℕ, _+_, _-_, _≤_, _<_}
+use mathlib.Core.List.{List}
+use mathlib.Core.Bool.{Bool}
+use mathlib.Core.Path.{_≡_, refl}
 use native.Mathlib.Omega.{arith}
-use lib.ListN.{length, length-set}
+use lib.ListN.{length}
 use denote.Ref.{now}
-use borrow.Author.Tests.{not-true, not-false}
-use borrow.Author.Needs.{needs}
 use Rattle.card.specs.Card.{Card, draws, fills, subnetAt, firstTransition}
-use Rattle.runners.specs.Boards.{InTables, Counts, turn, isMarked, Moved}
+use Rattle.runners.specs.State.{NetState, Claims}
+use mathlib.Core.Bool.{true}
+use borrow.Author.Tests.{not-true, not-false}
+use Rattle.runners.specs.Boards.{InTables, ToMove, turn, isMarked, Moved}
 use Rattle.runners.specs.Visits.{moving}
-use Rattle.runners.specs.State.{Claims}
-use Rattle.runners.proofs.VisitTurns.{partial, moving-start, moving-more, counted, first-is, begins, below-few, not-past, part-moved, after-moved, SlotsTo, slots-start, slots-more, slots-next, shifted-all, shifted-none, marked-at, still-255, unmapped}
+use Rattle.runners.proofs.VisitTurns.{partial, moving-start, moving-more, counted, first-is, lists, below-few, not-past, part-moved, after-moved, still-long, set-still, SetTo, set-start, set-more, GoodRest, shifted-all, shifted-none}
+use borrow.Author.Needs.{needs}
+use Rattle.runners.proofs.VisitTurns.{partial, moving-start, moving-more, counted, first-is, lists, below-few, not-past, part-moved, after-moved, still-long, set-still, SetTo, set-start, set-more, set-next, GoodRest, shifted-all, shifted-none}
 use Rattle.runners.proofs.visits.visit_move.Statement.{statement}
 use Rattle.runners.proofs.visits.visit_move.Tie as tie
 
 abbrev Inv-loop : tie.InvT-loop
-Inv-loop numbers starts s state row marks clear next₀ markings₀ degrees count first k₀ next markings k = (length markings ≡ 255) × (length (next .slots) ≡ 255) × (k ≤ count)
-    × (next .degrees ≡ state .degrees) × ((next .places ≡ state .places) × (next .transitions ≡ state .transitions) × (next .signals ≡ state .signals))
-    × ((c : Card) (cl : Claims) → InTables c numbers starts → Counts c state → s < length (c .subnets)
-    → Moved (state .markings) markings (partial moving s (turn c state row cl (isMarked marks) true) k draws) (partial moving s (turn c state row cl (isMarked marks) true) k fills)
-    × SlotsTo s (turn c state row cl (isMarked marks) true) k (state .slots) (next .slots))
+Inv-loop numbers starts s degrees row marks clear markings₀ rest₀ count first k₀ markings rest k = (length markings ≡ length markings₀) × (length rest ≡ length rest₀) × (k ≤ count)
+    × ((c : Card) (x : NetState) (cl : Claims) → InTables c numbers starts → s < length (c .subnets) → ToMove c s x rest₀ degrees
+    → Moved markings₀ markings (partial moving s (turn c x row cl (isMarked marks) true) k draws) (partial moving s (turn c x row cl (isMarked marks) true) k fills)
+    × SetTo (firstTransition c s) (GoodRest (turn c x row cl (isMarked marks) true)) k rest₀ rest)
 
 abbrev μ-loop : tie.MeasureT-loop
-μ-loop numbers starts s state row marks clear next₀ markings₀ degrees count first k₀ next markings k = count - k
+μ-loop numbers starts s degrees row marks clear markings₀ rest₀ count first k₀ markings rest k = count - k
 
 returns : tie.Need-returns Inv-loop μ-loop
-returns c = λ k cl h n b m. shifted-none k (now ((c .before .before .before .before .before .args) .numbers)) (now ((c .before .before .before .before .before .args) .starts)) h ((c .before .before .before .before .before .args) .s) b ((c .before .before .before .before .before .args) .state) n (now ((c .before .before .before .before .before .args) .row)) cl (isMarked (now ((c .before .before .before .before .before .args) .marks))) ((c .before .before .before .before .before .args) .clear) (not-true ((c .before .before .before .before .before .args) .clear) ((c .if1) .taken))
+returns c =
+    let a = c .before .before .before .before .before .before .before .before .args in
+    (refl, (refl, λ k x cl h b f. shifted-none k (now (a .numbers)) (now (a .starts)) h (a .s) b x (now (a .row)) cl (isMarked (now (a .marks))) (a .clear) (not-true (a .clear) (c .if1 .taken)) (now (a .markings)) (now (a .rest)) (now (a .degrees)) f))
 
 subnet-row-requires : tie.Need-subnet-row-requires Inv-loop μ-loop
 subnet-row-requires c κs = search needs
@@ -38,16 +42,15 @@ first-transition-requires : tie.Need-first-transition-requires Inv-loop μ-loop
 first-transition-requires c κs = search needs
 
 loop-holds : tie.Need-loop-holds Inv-loop μ-loop
-loop-holds c = (
-  (let e : length ((c .before .before .before .before .before .before .before .before .before .before .args) .state .markings) ≡ 255 = search (needs, (c .before .before .before .before .before .before .before .before .before .before .good) .1 .1 .1 .0) in e),
-  unmapped _ ((c .before .before .before .before .before .before .before .before .before .before .args) .state .slots) 255 ((c .before .before .before .before .before .before .before .before .before .before .good) .1 .1 .1 .0 .1 .1 .1 .0 .1 .0 .1),
-  omega arith,
-  refl,
-  (refl, refl, refl),
-  λ k cl h n b.
-      let i = turn k ((c .before .before .before .before .before .before .before .before .before .before .args) .state) (now ((c .before .before .before .before .before .before .before .before .before .before .args) .row)) cl (isMarked (now ((c .before .before .before .before .before .before .before .before .before .before .args) .marks))) true in
-      (moving-start moving ((c .before .before .before .before .before .before .before .before .before .before .args) .s) i ((c .before .before .before .before .before .before .before .before .before .before .args) .state .markings), slots-start ((c .before .before .before .before .before .before .before .before .before .before .args) .s) i ((c .before .before .before .before .before .before .before .before .before .before .args) .state .slots)),
-)
+loop-holds c =
+    let a = c .before .before .before .before .before .before .before .before .before .before .before .args in (
+      refl,
+      refl,
+      omega arith,
+      λ k x cl h b f.
+          let i = turn k x (now (a .row)) cl (isMarked (now (a .marks))) true in
+          (moving-start moving (a .s) i (now (a .markings)), set-start (firstTransition k (a .s)) (GoodRest i) (now (a .rest))),
+    )
 
 cast-t : tie.Need-cast-t Inv-loop μ-loop
 cast-t c = search needs
@@ -58,59 +61,51 @@ cast-t-2 c = search needs
 add-t : tie.Need-add-t Inv-loop μ-loop
 add-t c = search needs
 
+same-length : tie.Need-same-length Inv-loop μ-loop
+same-length c = c .before .before .loop .inv .0
+
+same-length-2 : tie.Need-same-length-2 Inv-loop μ-loop
+same-length-2 c = c .before .before .loop .inv .1
+
 returns-2 : tie.Need-returns-2 Inv-loop μ-loop
-returns-2 c = λ k cl h n b m. absurd (not-past k (now ((c .before .before .before .before .before .before .before .before .before .before .before .before .before .args) .numbers)) (now ((c .before .before .before .before .before .before .before .before .before .before .before .before .before .args) .starts)) h ((c .before .before .before .before .before .before .before .before .before .before .before .before .before .args) .s) b ((c .before .before .before .before .before .subnet-row) .result) ((c .before .before .before .before .transition-count) .result) ((c .before .before .before .first-transition) .result) ((c .before .before .loop) .k) ((c .before .before .before .before .before .subnet-row) .ensures) ((c .before .before .before .before .transition-count) .ensures) ((c .before .before .before .first-transition) .ensures) ((c .before .loop-test) .taken) ((c .if2) .taken))
-
-mul-slot : tie.Need-mul-slot Inv-loop μ-loop
-mul-slot c = search needs
-
-element-copy-out-slot : tie.Need-element-copy-out-slot Inv-loop μ-loop
-element-copy-out-slot c = search needs
+returns-2 c =
+    let a = c .before .before .before .before .before .before .before .before .before .before .before .before .before .before .args in
+    let l = c .before .before .loop in (
+      l .inv .0,
+      (
+        l .inv .1,
+        λ k x cl h b f.
+            absurd (not-past k (now (a .numbers)) (now (a .starts)) h (a .s) b (c .before .before .before .before .before .subnet-row .result) (c .before .before .before .before .transition-count .result) (c .before .before .before .first-transition .result) (l .k)
+            (c .before .before .before .before .before .subnet-row .ensures) (c .before .before .before .before .transition-count .ensures) (c .before .before .before .first-transition .ensures) (c .before .loop-test .taken) (c .if2 .taken)),
+      ),
+    )
 
 number-at-requires : tie.Need-number-at-requires Inv-loop μ-loop
 number-at-requires c κs = search needs
 
-started-requires : tie.Need-started-requires Inv-loop μ-loop
-started-requires c κs = search needs
-
-cast-transition-row : tie.Need-cast-transition-row Inv-loop μ-loop
-cast-transition-row c = search needs
-
-transition-row-requires : tie.Need-transition-row-requires Inv-loop μ-loop
-transition-row-requires c κs = search needs
-
-signal-requires : tie.Need-signal-requires Inv-loop μ-loop
-signal-requires c κs = search needs
-
-cast-g : tie.Need-cast-g Inv-loop μ-loop
-cast-g c = search needs
-
-slice-aggregate-number-at : tie.Need-slice-aggregate-number-at Inv-loop μ-loop
-slice-aggregate-number-at c = search (needs, (c .before .before .before .before .before .before .before .before .before .before .before .before .before .before .before .before .before .before .before .good) .1 .1 .1 .0)
-
 number-at-requires-2 : tie.Need-number-at-requires-2 Inv-loop μ-loop
 number-at-requires-2 c κs = search needs
 
-number-at-requires-3 : tie.Need-number-at-requires-3 Inv-loop μ-loop
-number-at-requires-3 c κs = search needs
+started-requires : tie.Need-started-requires Inv-loop μ-loop
+started-requires c κs = search needs
+
+cast-stride : tie.Need-cast-stride Inv-loop μ-loop
+cast-stride c = search needs
 
 stride-requires : tie.Need-stride-requires Inv-loop μ-loop
 stride-requires c κs = search needs
 
-slice-aggregate-move-transition : tie.Need-slice-aggregate-move-transition Inv-loop μ-loop
-slice-aggregate-move-transition c = search needs
+cast-move-transition : tie.Need-cast-move-transition Inv-loop μ-loop
+cast-move-transition c = search needs
 
 move-transition-requires : tie.Need-move-transition-requires Inv-loop μ-loop
 move-transition-requires c κs = search needs
 
-advanced-requires : tie.Need-advanced-requires Inv-loop μ-loop
-advanced-requires c κs = search needs
+sub-mark : tie.Need-sub-mark Inv-loop μ-loop
+sub-mark c = omega (arith, c .before .before .before .before .before .stride .ensures .0)
 
-mul-t25 : tie.Need-mul-t25 Inv-loop μ-loop
-mul-t25 c = search needs
-
-element-set-from-next : tie.Need-element-set-from-next Inv-loop μ-loop
-element-set-from-next c = search needs
+mark-requires : tie.Need-mark-requires Inv-loop μ-loop
+mark-requires c κs = search needs
 
 add-k : tie.Need-add-k Inv-loop μ-loop
 add-k c = search needs
@@ -119,34 +114,57 @@ loop-less : tie.Need-loop-less Inv-loop μ-loop
 loop-less c = search needs
 
 loop-again : tie.Need-loop-again Inv-loop μ-loop
-loop-again c = (
-  still-255 ((c .before .before .move-transition) .last .1 .1 .1 .1 .0) ((c .before .before .before .before .before .before .before .before .before .before .before .before .before .before .before .loop) .markings) ((c .before .before .move-transition) .ensures .0) ((c .before .before .before .before .before .before .before .before .before .before .before .before .before .before .before .loop) .inv .0),
-  length-set ((c .before .before .before .before .before .before .before .before .before .before .before .before .before .before .before .loop) .next .slots) ((c .before .before .before .before .before .before .before .before .before .before .before .before .before .before .before .before .first-transition) .result + (c .before .before .before .before .before .before .before .before .before .before .before .before .before .before .before .loop) .k) _ ∙ (c .before .before .before .before .before .before .before .before .before .before .before .before .before .before .before .loop) .inv .1,
-  omega arith,
-  (c .before .before .before .before .before .before .before .before .before .before .before .before .before .before .before .loop) .inv .3,
-  (c .before .before .before .before .before .before .before .before .before .before .before .before .before .before .before .loop) .inv .4,
-  λ k cl h n b.
-      let count = counted k (now ((c .before .before .before .before .before .before .before .before .before .before .before .before .before .before .before .before .before .before .before .before .before .before .before .before .before .before .args) .numbers)) (now ((c .before .before .before .before .before .before .before .before .before .before .before .before .before .before .before .before .before .before .before .before .before .before .before .before .before .before .args) .starts)) h ((c .before .before .before .before .before .before .before .before .before .before .before .before .before .before .before .before .before .before .before .before .before .before .before .before .before .before .args) .s) b ((c .before .before .before .before .before .before .before .before .before .before .before .before .before .before .before .before .before .before .subnet-row) .result) ((c .before .before .before .before .before .before .before .before .before .before .before .before .before .before .before .before .before .transition-count) .result) ((c .before .before .before .before .before .before .before .before .before .before .before .before .before .before .before .before .before .before .subnet-row) .ensures) ((c .before .before .before .before .before .before .before .before .before .before .before .before .before .before .before .before .before .transition-count) .ensures) in
-      let inside : (c .before .before .before .before .before .before .before .before .before .before .before .before .before .before .before .loop) .k < (subnetAt k ((c .before .before .before .before .before .before .before .before .before .before .before .before .before .before .before .before .before .before .before .before .before .before .before .before .before .before .args) .s)) .transitions = omega (arith, count, (c .before .before .before .before .before .before .before .before .before .before .before .before .before .before .loop-test) .taken) in
-      let first = first-is k (now ((c .before .before .before .before .before .before .before .before .before .before .before .before .before .before .before .before .before .before .before .before .before .before .before .before .before .before .args) .numbers)) (now ((c .before .before .before .before .before .before .before .before .before .before .before .before .before .before .before .before .before .before .before .before .before .before .before .before .before .before .args) .starts)) h ((c .before .before .before .before .before .before .before .before .before .before .before .before .before .before .before .before .before .before .before .before .before .before .before .before .before .before .args) .s) b ((c .before .before .before .before .before .before .before .before .before .before .before .before .before .before .before .before .first-transition) .result) ((c .before .before .before .before .before .before .before .before .before .before .before .before .before .before .before .before .first-transition) .ensures) in
-      let at = begins k (now ((c .before .before .before .before .before .before .before .before .before .before .before .before .before .before .before .before .before .before .before .before .before .before .before .before .before .before .args) .numbers)) (now ((c .before .before .before .before .before .before .before .before .before .before .before .before .before .before .before .before .before .before .before .before .before .before .before .before .before .before .args) .starts)) h ((c .before .before .before .before .before .before .before .before .before .before .before .before .before .before .before .before .before .before .before .before .before .before .before .before .before .before .args) .s) b ((c .before .before .before .before .before .before .before .before .before .before .before .before .before .before .before .loop) .k) ((c .before .before .before .before .before .before .before .before .before .before .before .before .before .before .before .before .first-transition) .result) ((c .before .before .before .before .before .before .before .before .before .transition-row) .result) inside first ((c .before .before .before .before .before .before .before .before .before .transition-row) .ensures) in
-      let t = firstTransition k ((c .before .before .before .before .before .before .before .before .before .before .before .before .before .before .before .before .before .before .before .before .before .before .before .before .before .before .args) .s) + (c .before .before .before .before .before .before .before .before .before .before .before .before .before .before .before .loop) .k in
-      let i = turn k ((c .before .before .before .before .before .before .before .before .before .before .before .before .before .before .before .before .before .before .before .before .before .before .before .before .before .before .args) .state) (now ((c .before .before .before .before .before .before .before .before .before .before .before .before .before .before .before .before .before .before .before .before .before .before .before .before .before .before .args) .row)) cl (isMarked (now ((c .before .before .before .before .before .before .before .before .before .before .before .before .before .before .before .before .before .before .before .before .before .before .before .before .before .before .args) .marks))) true in
-      let so = (c .before .before .before .before .before .before .before .before .before .before .before .before .before .before .before .loop) .inv .5 k cl h n b in
-      let was = slots-next k (now ((c .before .before .before .before .before .before .before .before .before .before .before .before .before .before .before .before .before .before .before .before .before .before .before .before .before .before .args) .numbers)) (now ((c .before .before .before .before .before .before .before .before .before .before .before .before .before .before .before .before .before .before .before .before .before .before .before .before .before .before .args) .starts)) h ((c .before .before .before .before .before .before .before .before .before .before .before .before .before .before .before .before .before .before .before .before .before .before .before .before .before .before .args) .s) b ((c .before .before .before .before .before .before .before .before .before .before .before .before .before .before .before .before .before .before .before .before .before .before .before .before .before .before .args) .state) n ((c .before .before .before .before .before .before .before .before .before .before .before .before .before .before .before .loop) .k) ((c .before .before .before .before .before .before .before .before .before .before .before .before .before .before .before .before .first-transition) .result) inside first i refl ((c .before .before .before .before .before .before .before .before .before .before .before .before .before .before .before .loop) .next .slots) (so .1) in
-      let mark = marked-at (now ((c .before .before .before .before .before .before .before .before .before .before .before .before .before .before .before .before .before .before .before .before .before .before .before .before .before .before .args) .marks)) ((c .before .before .before .before .before .before .before .before .before .before .before .number-at) .result) ((c .before .before .before .before .before .before .before .before .before .before .before .before .before .before .before .before .first-transition) .result) (firstTransition k ((c .before .before .before .before .before .before .before .before .before .before .before .before .before .before .before .before .before .before .before .before .before .before .before .before .before .before .args) .s)) ((c .before .before .before .before .before .before .before .before .before .before .before .before .before .before .before .loop) .k) ((c .before .before .before .before .before .before .before .before .before .before .before .number-at) .ensures) first in (
-        moving-more moving ((c .before .before .before .before .before .before .before .before .before .before .before .before .before .before .before .before .before .before .before .before .before .before .before .before .before .before .args) .s) i ((c .before .before .before .before .before .before .before .before .before .before .before .before .before .before .before .loop) .k) ((c .before .before .before .before .stride) .result) ((c .before .before .before .before .before .before .before .before .before .before .before .before .before .before .before .before .before .before .before .before .before .before .before .before .before .before .args) .state .markings) ((c .before .before .before .before .before .before .before .before .before .before .before .before .before .before .before .loop) .markings) ((c .before .before .move-transition) .last .1 .1 .1 .1 .0) (part-moved k (now ((c .before .before .before .before .before .before .before .before .before .before .before .before .before .before .before .before .before .before .before .before .before .before .before .before .before .before .args) .numbers)) (now ((c .before .before .before .before .before .before .before .before .before .before .before .before .before .before .before .before .before .before .before .before .before .before .before .before .before .before .args) .starts)) h ((c .before .before .before .before .before .before .before .before .before .before .before .before .before .before .before .before .before .before .before .before .before .before .before .before .before .before .args) .s) b ((c .before .before .before .before .before .before .before .before .before .before .before .before .before .before .before .before .before .before .before .before .before .before .before .before .before .before .args) .state) n ((c .before .before .before .before .before .before .before .before .before .before .before .before .before .before .before .loop) .k) inside (now ((c .before .before .before .before .before .before .before .before .before .before .before .before .before .before .before .before .before .before .before .before .before .before .before .before .before .before .args) .row)) (now ((c .before .before .before .before .before .before .before .before .before .before .before .before .before .before .before .before .before .before .before .before .before .before .before .before .before .before .args) .marks)) cl ((c .before .before .before .before .before .before .before .before .before .transition-row) .result) ((c .before .before .before .before .before .before .before .before .signal) .result) ((c .before .before .before .before .before .before .number-at2) .result) ((c .before .before .before .before .before .number-at3) .result) ((c .before .before .before .before .stride) .result) ((c .before .before .before .before .before .before .before .before .before .before .before .number-at) .result) _ ((c .before .before .before .before .before .before .before .before .before .before .started) .result) ((c .advanced) .result) at ((c .before .before .before .before .before .before .before .before .signal) .ensures) ((c .before .before .before .before .before .before .number-at2) .ensures) ((c .before .before .before .before .before .number-at3) .ensures) mark was ((c .before .before .before .before .before .before .before .before .before .before .started) .ensures) ((c .before .before .before .before .stride) .ensures k) ((c .advanced) .ensures k)) (so .0) ((c .before .before .move-transition) .ensures .1 k ((c .before .before .before .before .before .before .before .before .before .before .before .before .before .before .before .before .before .before .before .before .before .before .before .before .before .before .args) .s) t h at),
-        slots-more ((c .before .before .before .before .before .before .before .before .before .before .before .before .before .before .before .before .before .before .before .before .before .before .before .before .before .before .args) .s) i ((c .before .before .before .before .before .before .before .before .before .before .before .before .before .before .before .loop) .k) ((c .before .before .before .before .before .before .before .before .before .before .before .before .before .before .before .before .first-transition) .result) ((c .advanced) .result) ((c .before .before .before .before .before .before .before .before .before .before .before .before .before .before .before .before .before .before .before .before .before .before .before .before .before .before .args) .state .slots) ((c .before .before .before .before .before .before .before .before .before .before .before .before .before .before .before .loop) .next .slots) ((c .before .before .before .before .before .before .before .before .before .before .before .before .before .before .before .loop) .inv .1) first (below-few k (now ((c .before .before .before .before .before .before .before .before .before .before .before .before .before .before .before .before .before .before .before .before .before .before .before .before .before .before .args) .numbers)) (now ((c .before .before .before .before .before .before .before .before .before .before .before .before .before .before .before .before .before .before .before .before .before .before .before .before .before .before .args) .starts)) h ((c .before .before .before .before .before .before .before .before .before .before .before .before .before .before .before .before .before .before .before .before .before .before .before .before .before .before .args) .s) b ((c .before .before .before .before .before .before .before .before .before .before .before .before .before .before .before .loop) .k) inside) (after-moved k (now ((c .before .before .before .before .before .before .before .before .before .before .before .before .before .before .before .before .before .before .before .before .before .before .before .before .before .before .args) .numbers)) (now ((c .before .before .before .before .before .before .before .before .before .before .before .before .before .before .before .before .before .before .before .before .before .before .before .before .before .before .args) .starts)) h ((c .before .before .before .before .before .before .before .before .before .before .before .before .before .before .before .before .before .before .before .before .before .before .before .before .before .before .args) .s) b ((c .before .before .before .before .before .before .before .before .before .before .before .before .before .before .before .before .before .before .before .before .before .before .before .before .before .before .args) .state) n ((c .before .before .before .before .before .before .before .before .before .before .before .before .before .before .before .loop) .k) inside (now ((c .before .before .before .before .before .before .before .before .before .before .before .before .before .before .before .before .before .before .before .before .before .before .before .before .before .before .args) .row)) (now ((c .before .before .before .before .before .before .before .before .before .before .before .before .before .before .before .before .before .before .before .before .before .before .before .before .before .before .args) .marks)) cl ((c .before .before .before .before .before .before .before .before .before .transition-row) .result) ((c .before .before .before .before .before .before .before .before .signal) .result) ((c .before .before .before .before .before .before .number-at2) .result) ((c .before .before .before .before .before .number-at3) .result) ((c .before .before .before .before .stride) .result) ((c .before .before .before .before .before .before .before .before .before .before .before .number-at) .result) _ ((c .before .before .before .before .before .before .before .before .before .before .started) .result) ((c .advanced) .result) at ((c .before .before .before .before .before .before .before .before .signal) .ensures) ((c .before .before .before .before .before .before .number-at2) .ensures) ((c .before .before .before .before .before .number-at3) .ensures) mark was ((c .before .before .before .before .before .before .before .before .before .before .started) .ensures) ((c .before .before .before .before .stride) .ensures k) ((c .advanced) .ensures k)) (so .1),
-      ),
-)
+loop-again c =
+    let a = c .before .before .before .before .before .before .before .before .before .before .before .before .before .before .before .before .before .before .before .before .before .before .before .before .before .before .before .args in
+    let l = c .before .before .before .before .before .before .before .before .before .before .before .before .before .before .before .loop in
+    let v = c .before .before .before .before .before .before .move-transition in
+    let m = c .before .before .mark in
+    let r = c .before .before .before .before .before .before .before .before .before .before .before .before .before .before .before .before .before .before .subnet-row in
+    let n = c .before .before .before .before .before .before .before .before .before .before .before .before .before .before .before .before .before .transition-count in
+    let f = c .before .before .before .before .before .before .before .before .before .before .before .before .before .before .before .before .first-transition in
+    let w = c .before .before .before .before .before .before .before .before .before .before .before .number-at in
+    let u = c .before .before .before .before .before .before .before .before .before .before .number-at2 in
+    let g = c .before .before .before .before .before .before .before .before .before .started in
+    let d = c .before .before .before .before .before .before .before .before .stride in (
+      still-long (v .last .1 .1 .1 .1 .0) (l .markings) (now (a .markings)) (v .ensures .0) (l .inv .0),
+      set-still (m .last .0) (l .rest) (now (a .rest)) (f .result + l .k) (g .result - d .result) (m .ensures) (l .inv .1),
+      omega (arith, c .before .before .before .before .before .before .before .before .before .before .before .before .before .before .loop-test .taken),
+      λ k x cl h b e.
+          let count = counted k (now (a .numbers)) (now (a .starts)) h (a .s) b (r .result) (n .result) (r .ensures) (n .ensures) in
+          let inside : l .k < (subnetAt k (a .s)) .transitions = omega (arith, count, c .before .before .before .before .before .before .before .before .before .before .before .before .before .before .loop-test .taken) in
+          let first = first-is k (now (a .numbers)) (now (a .starts)) h (a .s) b (f .result) (f .ensures) in
+          let own = lists k (now (a .numbers)) (now (a .starts)) h (a .s) b (l .k) (f .result) inside first in
+          let i = turn k x (now (a .row)) cl (isMarked (now (a .marks))) true in
+          let so = l .inv .3 k x cl h b e in
+          let was = set-next (firstTransition k (a .s)) (GoodRest i) (l .k) (f .result) (now (a .rest)) (l .rest) (w .result) first (w .ensures) (so .1) in
+          let part = part-moved k (now (a .numbers)) (now (a .starts)) h (a .s) b x (l .k) (f .result) inside first (now (a .rest)) (now (a .row)) (now (a .degrees)) (now (a .marks)) cl e (w .result) (u .result) (g .result) (d .result) was (u .ensures) (g .ensures) (d .ensures .1 k (a .s) h own) in
+          let after = after-moved k (now (a .numbers)) (now (a .starts)) h (a .s) b x (l .k) (f .result) inside first (now (a .rest)) (now (a .row)) (now (a .degrees)) (now (a .marks)) cl e (w .result) (u .result) (g .result) (d .result) was (u .ensures) (g .ensures) (d .ensures .1 k (a .s) h own) in (
+            moving-more moving (a .s) i (l .k) (f .result) (d .result) (now (a .markings)) (l .markings) _ first part (so .0) (v .ensures .1 k (a .s) h own),
+            set-more (firstTransition k (a .s)) (GoodRest i) (l .k) (f .result) (g .result - d .result) (now (a .rest)) (l .rest) (m .last .0) (l .inv .1) first
+                (below-few k (now (a .numbers)) (now (a .starts)) h (a .s) b (l .k) inside) after (m .ensures) (so .1),
+          ),
+    )
+
+same-length-3 : tie.Need-same-length-3 Inv-loop μ-loop
+same-length-3 c = c .before .loop .inv .0
+
+same-length-4 : tie.Need-same-length-4 Inv-loop μ-loop
+same-length-4 c = c .before .loop .inv .1
 
 returns-3 : tie.Need-returns-3 Inv-loop μ-loop
-returns-3 c = λ k cl h n b m.
-    let count = counted k (now ((c .before .before .before .before .before .before .before .before .before .before .before .before .args) .numbers)) (now ((c .before .before .before .before .before .before .before .before .before .before .before .before .args) .starts)) h ((c .before .before .before .before .before .before .before .before .before .before .before .before .args) .s) b ((c .before .before .before .before .subnet-row) .result) ((c .before .before .before .transition-count) .result) ((c .before .before .before .before .subnet-row) .ensures) ((c .before .before .before .transition-count) .ensures) in
-    let all : (c .before .loop) .k ≡ (subnetAt k ((c .before .before .before .before .before .before .before .before .before .before .before .before .args) .s)) .transitions = omega (arith, count, (c .loop-test) .left, (c .before .loop) .inv .2) in
-    let long = unmapped _ ((c .before .before .before .before .before .before .before .before .before .before .before .before .args) .state .slots) 255 ((c .before .before .before .before .before .before .before .before .before .before .before .before .good) .1 .1 .1 .0 .1 .1 .1 .0 .1 .0 .1) in
-    let so = (c .before .loop) .inv .5 k cl h n b in
-    shifted-all k (now ((c .before .before .before .before .before .before .before .before .before .before .before .before .args) .numbers)) (now ((c .before .before .before .before .before .before .before .before .before .before .before .before .args) .starts)) h ((c .before .before .before .before .before .before .before .before .before .before .before .before .args) .s) b ((c .before .before .before .before .before .before .before .before .before .before .before .before .args) .state) n (now ((c .before .before .before .before .before .before .before .before .before .before .before .before .args) .row)) cl (isMarked (now ((c .before .before .before .before .before .before .before .before .before .before .before .before .args) .marks))) ((c .before .before .before .before .before .before .before .before .before .before .before .before .args) .clear) (not-false ((c .before .before .before .before .before .before .before .before .before .before .before .before .args) .clear) ((c .before .before .before .before .before .before .before .if1) .left)) ((c .before .loop) .k) _ all (so .0) (so .1) ((c .before .loop) .inv .1 ∙ sym long) ((c .before .loop) .inv .3) ((c .before .loop) .inv .4)
+returns-3 c =
+    let a = c .before .before .before .before .before .before .before .before .before .before .before .before .before .args in
+    let l = c .before .loop in (
+      l .inv .0,
+      (
+        l .inv .1,
+        λ k x cl h b f.
+            let count = counted k (now (a .numbers)) (now (a .starts)) h (a .s) b (c .before .before .before .before .subnet-row .result) (c .before .before .before .transition-count .result) (c .before .before .before .before .subnet-row .ensures) (c .before .before .before .transition-count .ensures) in
+            let all : l .k ≡ (subnetAt k (a .s)) .transitions = omega (arith, count, c .loop-test .left, l .inv .2) in
+            let so = l .inv .3 k x cl h b f in
+            shifted-all k (now (a .numbers)) (now (a .starts)) h (a .s) b x (now (a .row)) cl (isMarked (now (a .marks))) (a .clear) (not-false (a .clear) (c .before .before .before .before .before .if1 .left)) (l .k) (now (a .markings)) (l .markings) (now (a .rest)) (l .rest) all (so .0) (so .1) (l .inv .1),
+      ),
+    )
 
 pub visit-move-spec : {M : Type 1} → statement M
 visit-move-spec =
@@ -162,25 +180,21 @@ visit-move-spec =
     cast-t
     cast-t-2
     add-t
+    same-length
+    same-length-2
     returns-2
-    mul-slot
-    element-copy-out-slot
     number-at-requires
-    started-requires
-    cast-transition-row
-    transition-row-requires
-    signal-requires
-    cast-g
-    slice-aggregate-number-at
     number-at-requires-2
-    number-at-requires-3
+    started-requires
+    cast-stride
     stride-requires
-    slice-aggregate-move-transition
+    cast-move-transition
     move-transition-requires
-    advanced-requires
-    mul-t25
-    element-set-from-next
+    sub-mark
+    mark-requires
     add-k
     loop-less
     loop-again
+    same-length-3
+    same-length-4
     returns-3)
