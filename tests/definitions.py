@@ -19,7 +19,7 @@ import cards
 import net
 
 SIZES = {"most_subnets": 3, "most_rows": 3, "most_signals": 3}
-LAYERS = ("card", "hierarchy", "runners")
+LAYERS = ("card", "hierarchy", "runners", "programs")
 # What `rt check` leaves of them: layers that have not changed since are not proved again.
 PROVED = ("log", "rlib", "stamp")
 
@@ -185,10 +185,10 @@ def sample(rng, make, wanted):
 
 def unfolded():
     """The definitions that the starred theorem computes with: its `use` lines and its `unfolding` lines."""
-    text = (root / "crates/runners/proofs/Starred.antt").read_text()
+    text = (root / "crates/programs/proofs/Starred.antt").read_text()
     uses = re.findall(r"^use .*$", text, re.M)
     lines = re.search(r"^unfolding (.*?)\nstarred =", text, re.M | re.S).group(1)
-    return "\n".join(uses).replace("Rattle.runners.specs.", "Rattle.runners.specs."), lines
+    return "\n".join(uses).replace("Rattle.programs.specs.", "Rattle.programs.specs."), lines
 
 
 def theorems(statements):
@@ -202,7 +202,7 @@ use Rattle.hierarchy.specs.Numbers as checks
 use Rattle.hierarchy.specs.Judgement.{answer, judgeTables}
 use Rattle.hierarchy.specs.Output.{write}
 use Rattle.runners.specs.Numbers as replies
-use Rattle.runners.specs.Programs.{flattenProgram}
+use Rattle.programs.specs.Programs.{flattenProgram}
 use Rattle.runners.specs.Calls.{slot, consistent, valid, eachOnce, flatCall, subnetCall}
 use Rattle.runners.specs.declared.Transfer.the-variants.{Idle, Carrying}""", uses]
     text = "\n".join(dict.fromkeys("\n".join(parts).split("\n"))) + "\n"
@@ -227,7 +227,7 @@ def main():
             if (root / "target" / part).is_dir():
                 shutil.copytree(root / "target" / part, copy / "target" / part)
         with open(copy / "crates.txt", "a") as listing:
-            listing.write("computed: card hierarchy runners\n")
+            listing.write("computed: card hierarchy runners programs\n")
         for part in ("src", "specs", "proofs"):
             (copy / "crates/computed" / part).mkdir(parents=True)
         (copy / "crates/computed/src/lib.rt").write_text("pub enum Computed {\n    Case,\n}\n")

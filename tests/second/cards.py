@@ -149,6 +149,33 @@ def full_card(*subnets):
     return tables(63, *rows)
 
 
+
+def busy_card(*subnets):
+    """An accepted card of subnets (parent, type, places), on which many transfers are under way at any time.
+
+    It has as many transitions as places, in pairs that undo each other: one draws from a place of capacity 1
+    of its own, the other fills it, and each moves one token where the other moves it back.
+    """
+    def singles(owner):
+        return (subnets[owner][2] + 1) // 2
+
+    def transition(number, turn):
+        owners = [number] + [child for child, row in enumerate(subnets) if child and row[0] == number]
+        ends = [(direction, owner, local) for owner in owners for local in range(singles(owner), subnets[owner][2])
+                for direction in (DRAW, FILL)]
+        pair, back = divmod(turn, 2)
+        from_here = 7 * pair % len(ends)
+        chosen = (ends[from_here:] + ends[:from_here])[:30]
+        return (5 * turn % 63, [(abs(direction - back), owner, local, 1) for direction, owner, local in chosen]
+                + [(back, number, pair, 1)])
+
+    rows = []
+    for number, (parent, type_, count) in enumerate(subnets):
+        kind = IN_OUT if number else NORMAL
+        places = [(kind, 1, 1) if local < singles(number) else (kind, MOST, 128) for local in range(count)]
+        rows.append((parent, type_, places, [transition(number, turn) for turn in range(count)]))
+    return tables(63, *rows)
+
 def torn(rng, data):
     """Bytes with a bit turned, cut short, or with a further byte."""
     kind = rng.randrange(3)

@@ -4,10 +4,10 @@
 use hierarchy::Answer;
 use libc::STDIN_FILENO;
 use libc::STDOUT_FILENO;
-use runners::agree::agree;
+use programs::agree::agree;
+use programs::line::Line;
+use programs::line::card_line;
 use runners::fresh::fresh;
-use runners::line::Line;
-use runners::line::card_line;
 
 fn read_card(card: &mut [u8]) -> usize {
     let fd = os::open_read(b"net.card");

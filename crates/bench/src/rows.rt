@@ -2,9 +2,9 @@
 use card::tables::signals;
 use hierarchy::Answer;
 use hierarchy::check::load;
+use programs::feed::flat_net;
 use runners::Sizes;
 use runners::State;
-use runners::feed::flat_net;
 use runners::flat::flat_places;
 use runners::flat::narrow;
 use runners::fresh::fresh;

@@ -2,15 +2,15 @@
 use crate::lines::put_line;
 use crate::numbers::next_number;
 use hierarchy::Answer;
+use programs::feed::FlatNet;
+use programs::feed::file_row;
+use programs::feed::flat_net;
+use programs::file::row_bytes;
+use programs::line::card_line;
+use programs::line::reply_line;
 use runners::Sizes;
 use runners::State;
-use runners::feed::FlatNet;
-use runners::feed::file_row;
-use runners::feed::flat_net;
-use runners::file::row_bytes;
 use runners::fresh::fresh;
-use runners::line::card_line;
-use runners::line::reply_line;
 ghost use Prim.Native.Nat.{_<_, _≤_};
 ghost use lib.ListN.{length};
 

@@ -1,9 +1,9 @@
 // The lines of an answer: the reply's, that of a refused call's state, and that of the degrees.
 use libc::STDOUT_FILENO;
+use programs::line::Line;
+use programs::line::reply_line;
 use runners::Reply;
 use runners::State;
-use runners::line::Line;
-use runners::line::reply_line;
 use runners::row::RowAnswer;
 
 fn put_bytes(bytes: &[u8], n: usize) {

@@ -6,9 +6,9 @@ mod rows;
 use crate::rows::put_line;
 use crate::rows::put_rows_of;
 use hierarchy::Answer;
-use runners::feed::flat_net;
+use programs::feed::flat_net;
+use programs::line::card_line;
 use runners::fresh::fresh;
-use runners::line::card_line;
 
 fn read_card(card: &mut [u8]) -> usize {
     let fd = os::open_read(b"net.card");

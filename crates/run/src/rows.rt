@@ -2,13 +2,13 @@
 // stays open.
 use libc::STDIN_FILENO;
 use libc::STDOUT_FILENO;
+use programs::feed::FlatNet;
+use programs::feed::file_row;
+use programs::file::row_bytes;
+use programs::line::Line;
+use programs::line::reply_line;
 use runners::Sizes;
 use runners::State;
-use runners::feed::FlatNet;
-use runners::feed::file_row;
-use runners::file::row_bytes;
-use runners::line::Line;
-use runners::line::reply_line;
 ghost use mathlib.Core.Path.{_≡_};
 ghost use Prim.Native.Nat.{_<_, _≤_};
 ghost use lib.ListN.{length};

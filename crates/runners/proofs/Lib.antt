@@ -19,8 +19,3 @@ pub mod FewLaws
 pub mod TestLaws
 pub mod StepRow
 pub mod CallLaws
-pub mod LineLaws
-pub mod FileLaws
-pub mod FeedLaws
-pub mod AgreeLaws
-pub mod Starred

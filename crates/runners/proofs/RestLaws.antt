@@ -42,4 +42,3 @@ module _ (c : Card) (m : Meets c) (l : Lent) (h : Counts c l) (rest : List ℕ) 
           ranged = λ t o. ranged t (owned-below c m s t b o);
           degrees = λ g d. sym (getD-take (l .signals) (l .degrees) g 0 (omega (arith, h .signals)));
         }
-

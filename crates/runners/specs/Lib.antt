@@ -10,10 +10,3 @@ pub mod Traces
 pub mod Visits
 pub mod Boards
 pub mod Answers
-pub mod Feeds
-pub mod Text
-pub mod Programs
-pub mod Lines
-pub mod Files
-pub mod Agreeing
-pub mod Cases

@@ -1,16 +1,11 @@
 // Layer 3: flattening, the step and the two runners. specs/ says what they do and what the two programs write.
 
-pub mod agree;
 mod claims;
-pub mod feed;
-pub mod file;
 pub mod flat;
 pub mod fresh;
-pub mod line;
 mod order;
 mod rounds;
 pub mod row;
-pub mod same;
 mod tests;
 mod transfers;
 mod verdict;

@@ -148,14 +148,7 @@ fn all_covered(numbers: &[u16], starts: &[u32], rows: &[u16], subnets: u16, stat
     let rest = rests(state);
     let mut owed = [0; 255];
     let mut due = [0; 255];
-    post_all(
-        numbers,
-        starts,
-        &order[..n],
-        &rest,
-        &mut owed,
-        &mut due,
-    );
+    post_all(numbers, starts, &order[..n], &rest, &mut owed, &mut due);
     let markings = state.markings;
     let none = [0; 255];
     let places = state.places as u16;

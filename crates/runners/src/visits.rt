@@ -145,14 +145,7 @@ fn started(rest: u16, part: u16) -> u16
 }
 
 // How far transition t, of which so much remains, moves: the smaller of its signal's rise and what remains.
-fn stride(
-    numbers: &[u16],
-    starts: &[u32],
-    t: u32,
-    rest: u16,
-    degrees: &[u16],
-    row: &[u16],
-) -> u16
+fn stride(numbers: &[u16], starts: &[u32], t: u32, rest: u16, degrees: &[u16], row: &[u16]) -> u16
     ensures { λ r. ⌜ (r ≤ rest) × ((c : Card) (i : ℕ) → InTables c (now (numbers .entry)) (now (starts .entry)) → Lists c i t → r ≡ min (entry (now (row .entry)) ((transitionAt c t) .signal) - entry (now (degrees .entry)) ((transitionAt c t) .signal)) rest) ⌝ }
 {
     if rest == 0 {

@@ -9,8 +9,8 @@ use Rattle.row_cases.proofs.files.put_rows.Lts as lts
 use Rattle.row_cases.proofs.files.end_of.Reads as end-of-reads
 use Rattle.row_cases.proofs.lines.put_line.Reads as put-line-reads
 use Rattle.row_cases.proofs.numbers.next_number.Reads as next-number-reads
-use Rattle.runners.proofs.feed.file_row.Reads as file-row-reads
-use Rattle.runners.proofs.line.reply_line.Reads as reply-line-reads
+use Rattle.programs.proofs.feed.file_row.Reads as file-row-reads
+use Rattle.programs.proofs.line.reply_line.Reads as reply-line-reads
 
 abbrev Inv-loop : tie.InvT-loop
 Inv-loop numbers starts rows sizes bytes size state₀ n₀ at₀ state n at = at ≤ length bytes

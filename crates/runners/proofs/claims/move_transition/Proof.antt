@@ -10,7 +10,7 @@ use Rattle.runners.proofs.claims.move_transition.Statement.{statement}
 use Rattle.runners.proofs.claims.move_transition.Tie as tie
 
 returns : tie.Need-returns
-returns c =     let a = c .before .before .before .before .args in
+returns c = let a = c .before .before .before .before .args in
     (refl, λ k i h b. moved-idle (a .part) (incidence (flatten k) draws (a .t)) (incidence (flatten k) fills (a .t)) (now (a .markings)) (c .if1 .taken))
 
 transition-row-requires : tie.Need-transition-row-requires
@@ -23,7 +23,7 @@ same-length : tie.Need-same-length
 same-length c = search needs
 
 returns-2 : tie.Need-returns-2
-returns-2 c =     let a = c .before .before .before .before .before .before .before .before .before .args in
+returns-2 c = let a = c .before .before .before .before .before .before .before .before .before .args in
     let r = c .before .before .before .before .transition-row in
     let p = c .before .before .move-arcs in
     (p .ensures .0, λ k i h b. p .ensures .1 k i (a .t) h (begins k (now (a .numbers)) (now (a .starts)) h i (a .t) (r .result) b (r .ensures)))

@@ -10,7 +10,7 @@ use Rattle.runners.proofs.claims.post_transition.Statement.{statement}
 use Rattle.runners.proofs.claims.post_transition.Tie as tie
 
 returns : tie.Need-returns
-returns c =     let a = c .before .before .before .before .before .args in
+returns c = let a = c .before .before .before .before .before .args in
     (refl, (refl, (λ k i h b. grown-idle (a .part) (incidence (flatten k) draws (a .t)) (now (a .owed)) (c .if1 .taken), λ k i h b. grown-idle (a .part) (incidence (flatten k) fills (a .t)) (now (a .due)) (c .if1 .taken))))
 
 transition-row-requires : tie.Need-transition-row-requires
@@ -26,7 +26,7 @@ same-length-2 : tie.Need-same-length-2
 same-length-2 c = search needs
 
 returns-2 : tie.Need-returns-2
-returns-2 c =     let a = c .before .before .before .before .before .before .before .before .before .before .before .before .before .args in
+returns-2 c = let a = c .before .before .before .before .before .before .before .before .before .before .before .before .before .args in
     let r = c .before .before .before .before .before .before .before .transition-row in
     let p = c .before .before .before .before .post-arcs in (
       p .ensures .0,

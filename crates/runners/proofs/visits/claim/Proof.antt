@@ -33,7 +33,7 @@ number-at-requires : tie.Need-number-at-requires
 number-at-requires c κs = search needs
 
 returns-2 : tie.Need-returns-2
-returns-2 c =     let a = c .before .before .before .before .before .before .before .before .before .before .before .args in
+returns-2 c = let a = c .before .before .before .before .before .before .before .before .before .before .before .args in
     let r = c .before .before .before .transition-row in
     λ k i h b. claims-not (a .rest) _ _ (sym (degree-of k (now (a .numbers)) (now (a .starts)) h i (a .t) (r .result) b (r .ensures) (now (a .row)) (c .before .before .signal .result) (c .before .number-at .result) (c .before .before .signal .ensures) (c .before .number-at .ensures)) ∙ c .if2 .taken)
 
@@ -41,14 +41,14 @@ all-allow-requires : tie.Need-all-allow-requires
 all-allow-requires c κs = search needs
 
 returns-3 : tie.Need-returns-3
-returns-3 c =     let a = c .before .before .before .before .before .before .before .before .before .before .before .before .before .args in
+returns-3 c = let a = c .before .before .before .before .before .before .before .before .before .before .before .before .before .args in
     let r = c .before .before .before .before .before .transition-row in
     λ k i h b.
     let d = degree-of k (now (a .numbers)) (now (a .starts)) h i (a .t) (r .result) b (r .ensures) (now (a .row)) (c .before .before .before .before .signal .result) (c .before .before .before .number-at .result) (c .before .before .before .before .signal .ensures) (c .before .before .before .number-at .ensures) in
     claims-all (a .rest) _ _ (c .before .before .before .before .before .before .if1 .left) (λ z. c .before .before .if2 .left (d ∙ z)) (sym (c .before .all-allow .ensures k i (a .t) h (begins k (now (a .numbers)) (now (a .starts)) h i (a .t) (r .result) b (r .ensures))) ∙ c .if3 .taken)
 
 returns-4 : tie.Need-returns-4
-returns-4 c =     let a = c .before .before .before .before .before .before .before .before .before .before .before .before .before .args in
+returns-4 c = let a = c .before .before .before .before .before .before .before .before .before .before .before .before .before .args in
     let r = c .before .before .before .before .before .transition-row in
     λ k i h b.
     let d = degree-of k (now (a .numbers)) (now (a .starts)) h i (a .t) (r .result) b (r .ensures) (now (a .row)) (c .before .before .before .before .signal .result) (c .before .before .before .number-at .result) (c .before .before .before .before .signal .ensures) (c .before .before .before .number-at .ensures) in

@@ -25,7 +25,7 @@ number-at-requires-2 : tie.Need-number-at-requires-2
 number-at-requires-2 c κs = search needs
 
 returns-2 : tie.Need-returns-2
-returns-2 c =     let a = c .before .before .before .before .before .before .before .before .before .before .args in
+returns-2 c = let a = c .before .before .before .before .before .before .before .before .before .before .args in
     let r = c .before .before .before .before .transition-row in
     (omega arith, λ k i h b. let q = rise-of k (now (a .numbers)) (now (a .starts)) h i (a .t) (r .result) b (r .ensures) (now (a .row)) (now (a .degrees)) (c .before .before .before .signal .result) (c .before .number-at2 .result) (c .before .before .number-at .result) (c .before .before .before .signal .ensures) (c .before .number-at2 .ensures) (c .before .before .number-at .ensures) in omega (arith, q, c .if2 .taken))
 
@@ -36,12 +36,12 @@ sub-result : tie.Need-sub-result
 sub-result c = search needs
 
 returns-3 : tie.Need-returns-3
-returns-3 c =     let a = c .before .before .before .before .before .before .before .before .before .before .before .args in
+returns-3 c = let a = c .before .before .before .before .before .before .before .before .before .before .before .args in
     let r = c .before .before .before .before .before .transition-row in
     (omega (arith, c .if3 .taken), λ k i h b. let q = rise-of k (now (a .numbers)) (now (a .starts)) h i (a .t) (r .result) b (r .ensures) (now (a .row)) (now (a .degrees)) (c .before .before .before .before .signal .result) (c .before .before .number-at2 .result) (c .before .before .before .number-at .result) (c .before .before .before .before .signal .ensures) (c .before .before .number-at2 .ensures) (c .before .before .before .number-at .ensures) in omega (arith, q, c .if3 .taken))
 
 returns-4 : tie.Need-returns-4
-returns-4 c =     let a = c .before .before .before .before .before .before .before .before .before .before .before .args in
+returns-4 c = let a = c .before .before .before .before .before .before .before .before .before .before .before .args in
     let r = c .before .before .before .before .before .transition-row in
     (omega arith, λ k i h b. let q = rise-of k (now (a .numbers)) (now (a .starts)) h i (a .t) (r .result) b (r .ensures) (now (a .row)) (now (a .degrees)) (c .before .before .before .before .signal .result) (c .before .before .number-at2 .result) (c .before .before .before .number-at .result) (c .before .before .before .before .signal .ensures) (c .before .before .number-at2 .ensures) (c .before .before .before .number-at .ensures) in omega (arith, q, c .if3 .left))
 

@@ -1,0 +1,5 @@
+pub mod LineLaws
+pub mod FileLaws
+pub mod FeedLaws
+pub mod AgreeLaws
+pub mod Starred

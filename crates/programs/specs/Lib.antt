@@ -1,0 +1,7 @@
+pub mod Feeds
+pub mod Text
+pub mod Programs
+pub mod Lines
+pub mod Files
+pub mod Agreeing
+pub mod Cases

@@ -1,0 +1,54 @@
+-- A line as it is put together in a lent buffer, word after word, and the line that the code hands out.
+use Prim.Native.Nat.{ℕ, _+_, _-_, _≤_}
+use mathlib.Core.Path.{_≡_}
+use mathlib.Core.Bool.{cond}
+use mathlib.Core.List.{List, [], _∷_, _++_}
+use lib.ListN.{length, set, replicate}
+use lib.Dec.{ltb}
+use Rattle.runners.specs.Numbers.{progress}
+use Rattle.programs.specs.Text.{ascii}
+use Rattle.programs.specs.Programs.{orElse}
+use Rattle.runners.specs.declared.Transfer.{Transfer}
+use Rattle.programs.specs.declared.line.Line.{Line}
+
+-- a buffer, and where its next byte goes
+pub record Cursor : Type 0 where
+  pub buffer : List ℕ
+  pub at : ℕ
+
+-- a byte is put in its place, and nothing past the end
+abbrev pub putByte : Cursor → ℕ → Cursor
+putByte c b = cond (ltb (c .at) (length (c .buffer))) (record { buffer = set (c .buffer) (c .at) b; at = c .at + 1 }) c
+
+-- bytes one after another
+unfoldable pub putAll : Cursor → List ℕ → Cursor
+putAll c [] = c
+putAll c (b ∷ bytes) = putAll (putByte c b) bytes
+
+-- what a function that puts bytes leaves
+pub record Puts (before : List ℕ) (at : ℕ) (bytes after : List ℕ) (end : ℕ) : Type 0 where
+  pub is : record { buffer = after; at = end } ≡ putAll (record { buffer = before; at = at }) bytes
+
+-- words with a space before each
+unfoldable pub spaced : List (List ℕ) → List ℕ
+spaced [] = []
+spaced (w ∷ ws) = 32 ∷ w ++ spaced ws
+
+-- words with a space between two
+abbrev pub joined : List (List ℕ) → List ℕ
+joined [] = []
+joined (w ∷ ws) = w ++ spaced ws
+
+-- the progress of a transfer as a word
+abbrev pub transferWord : Transfer → List ℕ
+transferWord x = orElse (ascii "-") (progress x)
+
+-- The longest line: a row number of 20 digits, 255 markings of 10 digits, 255 progresses of 5, a space before each, ok, bar and newline.
+abbrev pub longest : ℕ
+longest = 4361
+
+-- the bytes of the text, with zeros behind them
+pub record IsLine (text : List ℕ) (l : Line) : Type 0 where
+  pub fits : length text ≤ longest
+  pub bytes : l .bytes ≡ text ++ replicate (longest - length text) 0
+  pub length : l .length ≡ length text

@@ -1,0 +1,70 @@
+// A row of a file: 10 bits a degree, zeros to the byte.
+use card::fields::field_at;
+ghost use mathlib.Core.Path.{_≡_};
+ghost use Prim.Native.Nat.{_-_, _*_, _≤_, _<_};
+ghost use mathlib.Core.List.{_++_};
+ghost use mathlib.Core.Option.{none};
+ghost use lib.ListN.{replicate};
+ghost use Rattle.card.specs.Finite.{table};
+ghost use Rattle.card.specs.Bits.{bytesFor};
+ghost use Rattle.card.specs.Fields.{fieldAt};
+ghost use Rattle.card.specs.Card.{Card};
+ghost use Rattle.runners.specs.Rows.{rowOf};
+ghost use Rattle.programs.specs.Files.{fileRow};
+
+// A row, where the bytes hold one: its degrees, and zeros behind them.
+pub struct FileRow {
+    pub whole: bool,
+    pub degrees: [u16; 63],
+}
+
+// How many bytes a row has. Two wrong counts that this rules out: one that cuts the last byte off, and one that takes 16 bits a degree.
+pub fn row_bytes(signals: u16) -> usize
+    ensures { λ r. ⌜ r ≡ bytesFor (10 * signals) ⌝ }
+{
+    (10 * signals as usize + 7) / 8
+}
+
+fn no_row() -> FileRow
+    ensures { λ r. ⌜ r ≡ fileRow none ⌝ }
+{
+    FileRow {
+        whole: false,
+        degrees: [0; 63],
+    }
+}
+
+fn degrees_of(bytes: &[u8], signals: u16) -> [u16; 63]
+    requires { ⌜ signals ≤ 63 ⌝ }
+    ensures { λ r. ⌜ r ≡ table 0 signals (λ g. fieldAt (now (bytes .entry)) (10 * g) 10) ++ replicate (63 - signals) 0 ⌝ }
+{
+    let mut degrees = [0; 63];
+    let mut g = 0;
+    while g < signals {
+        degrees[g as usize] = field_at(bytes, 10 * g as usize, 10);
+        g += 1;
+    }
+    degrees
+}
+
+// The row that bytes hold; no card has more than 63 signals. Two wrong readers that this rules out: one that lets a fill bit be 1, and one
+// that takes missing bytes for zeros.
+pub fn row_of(bytes: &[u8], signals: u16) -> FileRow
+    ensures { λ r. ⌜ ((f : Card) → f .signals ≡ signals → signals ≤ 63 → r ≡ fileRow (rowOf f (now (bytes .entry)))) × (63 < signals → r ≡ fileRow none) ⌝ }
+{
+    if 63 < signals {
+        return no_row();
+    }
+    let n = row_bytes(signals);
+    if bytes.len() != n {
+        return no_row();
+    }
+    let width = 10 * signals as usize;
+    if field_at(bytes, width, 8 * n - width) != 0 {
+        return no_row();
+    }
+    FileRow {
+        whole: true,
+        degrees: degrees_of(bytes, signals),
+    }
+}

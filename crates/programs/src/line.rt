@@ -1,0 +1,191 @@
+// The line of a reply, and that of a refused card, put together in a buffer.
+use hierarchy::CardFault;
+use hierarchy::fault_number;
+use runners::Refusal;
+use runners::Reply;
+use runners::State;
+use runners::Transfer;
+ghost use Prim.Native.Nat.{_+_, _≤_};
+ghost use mathlib.Core.List.{[], _∷_, map};
+ghost use mathlib.Core.Option.{none, some};
+ghost use Rattle.hierarchy.specs.Numbers.{number};
+ghost use Rattle.runners.specs.Numbers.{refusal, rowOutcome};
+ghost use Rattle.runners.specs.State.{NetState};
+ghost use Rattle.runners.specs.Calls.{view};
+ghost use Rattle.programs.specs.Text.{digit, decimal, line};
+ghost use Rattle.programs.specs.Programs.{replyWords, stateWords, refusalWords, cardLine};
+ghost use Rattle.programs.specs.Lines.{Puts, IsLine, spaced, joined, transferWord};
+
+// A line's bytes, newline and all, and zeros behind them.
+pub struct Line {
+    pub bytes: [u8; 4361],
+    pub length: usize,
+}
+
+// Puts a byte, and tells where the next one goes; at the buffer's end it puts nothing.
+fn put_byte(out: &mut [u8], at: usize, b: u8) -> usize
+    ensures { λ r. ⌜ Puts (now (out .entry)) at (b ∷ []) (now (out .exit)) r ⌝ }
+{
+    if at < out.len() {
+        out[at] = b;
+        return at + 1;
+    }
+    at
+}
+
+fn put_digit(out: &mut [u8], at: usize, d: u64) -> usize
+    ensures { λ r. ⌜ (d ≤ 9 → Puts (now (out .entry)) at (digit d ∷ []) (now (out .exit)) r) ⌝ }
+{
+    if d < 10 {
+        return put_byte(out, at, b'0' + d as u8);
+    }
+    at
+}
+
+fn put_decimal(out: &mut [u8], at: usize, n: u64) -> usize
+    ensures { λ r. ⌜ Puts (now (out .entry)) at (decimal n) (now (out .exit)) r ⌝ }
+{
+    if n < 10 {
+        return put_digit(out, at, n);
+    }
+    let next = put_decimal(out, at, n / 10);
+    put_digit(out, next, n % 10)
+}
+
+fn put_two(out: &mut [u8], at: usize, a: u8, b: u8) -> usize
+    ensures { λ r. ⌜ Puts (now (out .entry)) at (a ∷ b ∷ []) (now (out .exit)) r ⌝ }
+{
+    let next = put_byte(out, at, a);
+    put_byte(out, next, b)
+}
+
+// A space and a number.
+fn put_number(out: &mut [u8], at: usize, n: u64) -> usize
+    ensures { λ r. ⌜ Puts (now (out .entry)) at (32 ∷ decimal n) (now (out .exit)) r ⌝ }
+{
+    let next = put_byte(out, at, b' ');
+    put_decimal(out, next, n)
+}
+
+// A space and a marking, which has at most 10 digits.
+fn put_marking(out: &mut [u8], at: usize, m: u32) -> usize
+    ensures { λ r. ⌜ Puts (now (out .entry)) at (32 ∷ decimal m) (now (out .exit)) r × (r ≤ at + 11) ⌝ }
+{
+    put_number(out, at, m as u64)
+}
+
+// A space and a progress, which has at most 5 digits; an idle transition has a minus.
+fn put_transfer(out: &mut [u8], at: usize, x: Transfer) -> usize
+    ensures { λ r. ⌜ Puts (now (out .entry)) at (32 ∷ transferWord x) (now (out .exit)) r × (r ≤ at + 6) ⌝ }
+{
+    match x {
+        Transfer::Idle => put_two(out, at, b' ', b'-'),
+        Transfer::Carrying(c) => put_number(out, at, c as u64),
+    }
+}
+
+fn put_markings(out: &mut [u8], at: usize, state: State) -> usize
+    ensures { λ r. ⌜ Puts (now (out .entry)) at (spaced (map decimal (view state .markings))) (now (out .exit)) r × (r ≤ at + 2805) ⌝ }
+{
+    let count = state.places;
+    let mut next = at;
+    let mut i = 0;
+    while i < 255 {
+        if count <= i {
+            return next;
+        }
+        next = put_marking(out, next, state.markings[i]);
+        i += 1;
+    }
+    next
+}
+
+fn put_transfers(out: &mut [u8], at: usize, state: State) -> usize
+    ensures { λ r. ⌜ Puts (now (out .entry)) at (spaced (map transferWord (view state .transfers))) (now (out .exit)) r × (r ≤ at + 1530) ⌝ }
+{
+    let count = state.transitions;
+    let mut next = at;
+    let mut i = 0;
+    while i < 255 {
+        if count <= i {
+            return next;
+        }
+        let s = state.slots[i];
+        let x = s.transfer;
+        next = put_transfer(out, next, x);
+        i += 1;
+    }
+    next
+}
+
+// The words of a state: ok, its markings, a bar and its transfers.
+fn put_state(out: &mut [u8], at: usize, state: State) -> usize
+    ensures { λ r. ⌜ Puts (now (out .entry)) at (joined (stateWords (view state))) (now (out .exit)) r × (r ≤ at + 4339) ⌝ }
+{
+    let a = put_two(out, at, b'o', b'k');
+    let b = put_markings(out, a, state);
+    let c = put_two(out, b, b' ', b'|');
+    put_transfers(out, c, state)
+}
+
+// The words of a refusal that has no value, and of one that has.
+fn put_refusal(out: &mut [u8], at: usize, n: u64) -> usize
+    ensures { λ r. ⌜ Puts (now (out .entry)) at (joined (refusalWords n none)) (now (out .exit)) r × (r ≤ at + 23) ⌝ }
+{
+    let next = put_two(out, at, b'n', b'o');
+    put_number(out, next, n)
+}
+
+fn put_refusal_at(out: &mut [u8], at: usize, n: u64, value: u64) -> usize
+    ensures { λ r. ⌜ Puts (now (out .entry)) at (joined (refusalWords n (some value))) (now (out .exit)) r × (r ≤ at + 44) ⌝ }
+{
+    let next = put_refusal(out, at, n);
+    put_number(out, next, value)
+}
+
+// The words of a refusal of a call, by the paper's numbers.
+fn put_why(out: &mut [u8], at: usize, why: Refusal) -> usize
+    ensures { λ r. ⌜ ((s : NetState) → Puts (now (out .entry)) at (joined (replyWords (refusal why) s)) (now (out .exit)) r) × (r ≤ at + 44) ⌝ }
+{
+    match why {
+        Refusal::BadCard(f, bit) => put_refusal_at(out, at, fault_number(f), bit as u64),
+        Refusal::BadState => put_refusal(out, at, 25),
+        Refusal::BadOrder => put_refusal(out, at, 23),
+        Refusal::BadRow => put_refusal(out, at, 20),
+        Refusal::BadDegree(g) => put_refusal_at(out, at, 21, g as u64),
+        Refusal::Conflict(p) => put_refusal_at(out, at, 22, p as u64),
+    }
+}
+
+fn put_reply(out: &mut [u8], at: usize, reply: Reply, state: State) -> usize
+    ensures { λ r. ⌜ Puts (now (out .entry)) at (joined (replyWords (rowOutcome reply) (view state))) (now (out .exit)) r × (r ≤ at + 4339) ⌝ }
+{
+    match reply {
+        Reply::Ok => put_state(out, at, state),
+        Reply::No(why) => put_why(out, at, why),
+    }
+}
+
+// The line of row n. Two wrong ones that this rules out: one that prints fixed markings, and one that prints an idle transition as a
+// progress of 0.
+pub fn reply_line(n: u64, reply: Reply, state: State) -> Line
+    ensures { λ r. ⌜ IsLine (line (decimal n ∷ replyWords (rowOutcome reply) (view state))) r ⌝ }
+{
+    let mut bytes = [0; 4361];
+    let a = put_decimal(&mut bytes, 0, n);
+    let b = put_byte(&mut bytes, a, b' ');
+    let c = put_reply(&mut bytes, b, reply, state);
+    let length = put_byte(&mut bytes, c, b'\n');
+    Line { bytes, length }
+}
+
+// The one line of a refused card. Two wrong ones that this rules out: one that leaves the bit out, and one that prints the number of the
+// format's faults for those of the hierarchy.
+pub fn card_line(fault: CardFault, bit: usize) -> Line
+    ensures { λ r. ⌜ IsLine (cardLine (number fault) bit) r ⌝ }
+{
+    let mut bytes = [0; 4361];
+    let a = put_refusal_at(&mut bytes, 0, fault_number(fault), bit as u64);
+    let length = put_byte(&mut bytes, a, b'\n');
+    Line { bytes, length }
+}
