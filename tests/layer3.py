@@ -60,22 +60,15 @@ class Lent:
         return line(number, "ok", *state.markings, "|", *progress) + line(number, "ok", *state.degrees, "|")
 
 
-class Cases:
-    """Cases with one card, and the lines that the program must print."""
+class Answers:
+    """The answers to row calls with one card. The state of a refused one is not looked at."""
 
     def __init__(self, data):
         self.data = data
-        self.sent = [led(CARD, data)]
-        self.number = 1
         self.flat = net.load_flat(data)
         self.refused = isinstance(self.flat, net.Refusal)
-        if self.refused:
-            self.lent = [Lent(net.State((), (), ())) for _ in range(2)]
-            self.lines = [net.refused_card_line(self.flat)]
-        else:
+        if not self.refused:
             self.parts = net.load_subnets(data)
-            self.lent = [Lent(net.fresh(self.flat)), Lent(net.join_state(net.fresh_subnets(self.parts)))]
-            self.lines = [self.lent[0].lines(0)]
 
     def sized(self, state):
         """Whether a state has the card's counts."""
@@ -99,6 +92,21 @@ class Cases:
             return ("refused", 25), state
         reply, after = net.subnet_row_step(self.parts, own, order, row)
         return reply, net.join_state(after)
+
+
+class Cases(Answers):
+    """Cases with one card, and the lines that the program must print."""
+
+    def __init__(self, data):
+        super().__init__(data)
+        self.sent = [led(CARD, data)]
+        self.number = 1
+        if self.refused:
+            self.lent = [Lent(net.State((), (), ())) for _ in range(2)]
+            self.lines = [net.refused_card_line(self.flat)]
+        else:
+            self.lent = [Lent(net.fresh(self.flat)), Lent(net.join_state(net.fresh_subnets(self.parts)))]
+            self.lines = [self.lent[0].lines(0)]
 
     def call(self, order, row):
         """A row call of both runners; their replies."""

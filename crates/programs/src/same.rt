@@ -56,7 +56,7 @@ fn refusal_code(why: Refusal) -> Code
     }
 }
 
-fn reply_code(reply: Reply) -> Code
+pub fn reply_code(reply: Reply) -> Code
     ensures { λ r. ⌜ r ≡ codeOf (rowOutcome reply) ⌝ }
 {
     match reply {

@@ -1,0 +1,63 @@
+/* The bench net runner as a library: check a card, flatten it, write one from tables, and run it row by row, on the flat net or subnet by
+ * subnet, on one state that the caller keeps.
+ *
+ * Every function takes any numbers. It answers 0 where it did what was asked, and otherwise the number of the refusal (docs/REFUSALS.md);
+ * then every buffer that was lent is as it was. *value is always written: a refusal's bit, signal, place or length, 0 where it has none, and
+ * after net_flatten and net_write the number of bytes written.
+ *
+ * A buffer is a pointer and how many entries it has; the pointer is never NULL, also where there are none. Buffers that a function writes
+ * overlap no other argument of the same call. Nothing is kept between calls.
+ */
+#ifndef NET_RUNNER_H
+#define NET_RUNNER_H
+
+#include <stddef.h>
+#include <stdint.h>
+
+#ifdef __cplusplus
+extern "C" {
+#endif
+
+/* The most that a card has, for buffers of fixed size. */
+#define NET_PLACES 255
+#define NET_TRANSITIONS 255
+#define NET_SIGNALS 63
+#define NET_SUBNETS 32
+#define NET_CARD_BYTES 22770
+
+/* An idle transition, among transfers; a carrying one is its progress, 0 to 999. */
+#define NET_IDLE 65535
+
+/* 1 to 16. An accepted card's numbers of subnets, places, transitions and signals are in counts; *value is 0. */
+uint64_t net_check(const uint8_t *card, size_t card_bytes, size_t counts[4], size_t *value);
+
+/* 1 to 16, 24. The flat card is in out, and what stood behind its length still stands there. */
+uint64_t net_flatten(const uint8_t *card, size_t card_bytes, uint8_t *out, size_t out_bytes, size_t *value);
+
+/* 17, 2 to 16, 24. Tables row after row: subnets (parent, type, places, transitions), places (kind, capacity, first tokens), transitions
+ * (signal, number of arcs), arcs (direction, subnet, place, weight); a table's size is the number of its entries, not of its rows. */
+uint64_t net_write(uint16_t version, uint16_t signals, const uint16_t *subnets, size_t subnets_size, const uint16_t *places,
+                   size_t places_size, const uint16_t *transitions, size_t transitions_size, const uint16_t *arcs, size_t arcs_size,
+                   uint8_t *out, size_t out_bytes, size_t *value);
+
+/* A state is three buffers: markings in thousandths of a token by flat place, transfers by flat transition (NET_IDLE or a progress), and the
+ * last degree of each signal. A buffer of another size than the card's number of places, transitions or signals is 25. */
+
+/* 1 to 16, 25. */
+uint64_t net_fresh(const uint8_t *card, size_t card_bytes, uint32_t *markings, size_t places, uint16_t *transfers, size_t transitions,
+                   uint16_t *degrees, size_t signals, size_t *value);
+
+/* 1 to 16, 25, 20, 21, 22: a row of degrees on the flat net. */
+uint64_t net_flat_row(const uint8_t *card, size_t card_bytes, uint32_t *markings, size_t places, uint16_t *transfers, size_t transitions,
+                      uint16_t *degrees, size_t signals, const uint16_t *row, size_t row_size, size_t *value);
+
+/* 1 to 16, 25, 23, 20, 21, 22: the same subnet by subnet, in a visiting order that names each subnet once. */
+uint64_t net_subnet_row(const uint8_t *card, size_t card_bytes, uint32_t *markings, size_t places, uint16_t *transfers,
+                        size_t transitions, uint16_t *degrees, size_t signals, const uint16_t *order, size_t order_size,
+                        const uint16_t *row, size_t row_size, size_t *value);
+
+#ifdef __cplusplus
+}
+#endif
+
+#endif

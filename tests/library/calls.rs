@@ -1,0 +1,336 @@
+//! The library called from Rust: its functions declared, wrapped into safe ones on slices, and tried on bench card A.
+
+mod extern_c {
+    extern "C" {
+        pub fn net_check(card: *const u8, card_bytes: usize, counts: *mut usize, value: *mut usize) -> u64;
+        pub fn net_flatten(card: *const u8, card_bytes: usize, out: *mut u8, out_bytes: usize, value: *mut usize) -> u64;
+        pub fn net_write(
+            version: u16,
+            signals: u16,
+            subnets: *const u16,
+            subnets_size: usize,
+            places: *const u16,
+            places_size: usize,
+            transitions: *const u16,
+            transitions_size: usize,
+            arcs: *const u16,
+            arcs_size: usize,
+            out: *mut u8,
+            out_bytes: usize,
+            value: *mut usize,
+        ) -> u64;
+        pub fn net_fresh(
+            card: *const u8,
+            card_bytes: usize,
+            markings: *mut u32,
+            places: usize,
+            transfers: *mut u16,
+            transitions: usize,
+            degrees: *mut u16,
+            signals: usize,
+            value: *mut usize,
+        ) -> u64;
+        pub fn net_flat_row(
+            card: *const u8,
+            card_bytes: usize,
+            markings: *mut u32,
+            places: usize,
+            transfers: *mut u16,
+            transitions: usize,
+            degrees: *mut u16,
+            signals: usize,
+            row: *const u16,
+            row_size: usize,
+            value: *mut usize,
+        ) -> u64;
+        pub fn net_subnet_row(
+            card: *const u8,
+            card_bytes: usize,
+            markings: *mut u32,
+            places: usize,
+            transfers: *mut u16,
+            transitions: usize,
+            degrees: *mut u16,
+            signals: usize,
+            order: *const u16,
+            order_size: usize,
+            row: *const u16,
+            row_size: usize,
+            value: *mut usize,
+        ) -> u64;
+    }
+}
+
+const IDLE: u16 = 65535;
+
+/// A refusal's number, and its bit, signal, place or length; 0 where it has none.
+#[derive(Debug, PartialEq)]
+struct Refusal(u64, usize);
+
+#[derive(Clone, Debug, PartialEq)]
+struct State {
+    markings: Vec<u32>,
+    transfers: Vec<u16>,
+    degrees: Vec<u16>,
+}
+
+struct Tables {
+    version: u16,
+    signals: u16,
+    subnets: Vec<[u16; 4]>,
+    places: Vec<[u16; 3]>,
+    transitions: Vec<[u16; 2]>,
+    arcs: Vec<[u16; 4]>,
+}
+
+/// The value that a call wrote, or its refusal.
+fn answer(number: u64, value: usize) -> Result<usize, Refusal> {
+    if number == 0 {
+        Ok(value)
+    } else {
+        Err(Refusal(number, value))
+    }
+}
+
+// A slice is lent as its pointer and length, a mutable one borrows no other argument, and an empty one has a pointer too: all that the header
+// asks for. So the wrappers are safe for every argument.
+
+fn check(card: &[u8], counts: &mut [usize; 4]) -> Result<usize, Refusal> {
+    let mut value = usize::MAX;
+    let number = unsafe { extern_c::net_check(card.as_ptr(), card.len(), counts.as_mut_ptr(), &mut value) };
+    answer(number, value)
+}
+
+fn flatten(card: &[u8], out: &mut [u8]) -> Result<usize, Refusal> {
+    let mut value = usize::MAX;
+    let number = unsafe { extern_c::net_flatten(card.as_ptr(), card.len(), out.as_mut_ptr(), out.len(), &mut value) };
+    answer(number, value)
+}
+
+fn write(tables: &Tables, out: &mut [u8]) -> Result<usize, Refusal> {
+    let (subnets, places) = (tables.subnets.concat(), tables.places.concat());
+    let (transitions, arcs) = (tables.transitions.concat(), tables.arcs.concat());
+    let mut value = usize::MAX;
+    let number = unsafe {
+        extern_c::net_write(
+            tables.version,
+            tables.signals,
+            subnets.as_ptr(),
+            subnets.len(),
+            places.as_ptr(),
+            places.len(),
+            transitions.as_ptr(),
+            transitions.len(),
+            arcs.as_ptr(),
+            arcs.len(),
+            out.as_mut_ptr(),
+            out.len(),
+            &mut value,
+        )
+    };
+    answer(number, value)
+}
+
+fn fresh(card: &[u8], state: &mut State) -> Result<usize, Refusal> {
+    let mut value = usize::MAX;
+    let number = unsafe {
+        extern_c::net_fresh(
+            card.as_ptr(),
+            card.len(),
+            state.markings.as_mut_ptr(),
+            state.markings.len(),
+            state.transfers.as_mut_ptr(),
+            state.transfers.len(),
+            state.degrees.as_mut_ptr(),
+            state.degrees.len(),
+            &mut value,
+        )
+    };
+    answer(number, value)
+}
+
+fn flat_row(card: &[u8], state: &mut State, row: &[u16]) -> Result<usize, Refusal> {
+    let mut value = usize::MAX;
+    let number = unsafe {
+        extern_c::net_flat_row(
+            card.as_ptr(),
+            card.len(),
+            state.markings.as_mut_ptr(),
+            state.markings.len(),
+            state.transfers.as_mut_ptr(),
+            state.transfers.len(),
+            state.degrees.as_mut_ptr(),
+            state.degrees.len(),
+            row.as_ptr(),
+            row.len(),
+            &mut value,
+        )
+    };
+    answer(number, value)
+}
+
+fn subnet_row(card: &[u8], state: &mut State, order: &[u16], row: &[u16]) -> Result<usize, Refusal> {
+    let mut value = usize::MAX;
+    let number = unsafe {
+        extern_c::net_subnet_row(
+            card.as_ptr(),
+            card.len(),
+            state.markings.as_mut_ptr(),
+            state.markings.len(),
+            state.transfers.as_mut_ptr(),
+            state.transfers.len(),
+            state.degrees.as_mut_ptr(),
+            state.degrees.len(),
+            order.as_ptr(),
+            order.len(),
+            row.as_ptr(),
+            row.len(),
+            &mut value,
+        )
+    };
+    answer(number, value)
+}
+
+/// Bench card A of the paper.
+const BENCH: [u8; 29] = [
+    0x10, 0x82, 0x00, 0x00, 0x40, 0x40, 0x10, 0x10, 0x04, 0x00, 0x00, 0x0c, 0x20, 0x00, 0x20, 0x00, 0x10, 0x0a, 0x02, 0x00, 0x01, 0x00,
+    0x02, 0x20, 0x40, 0x00, 0x61, 0x01, 0x01,
+];
+
+fn bench_tables() -> Tables {
+    Tables {
+        version: 1,
+        signals: 2,
+        subnets: vec![[0, 0, 1, 1], [0, 0, 2, 1]],
+        places: vec![[0, 1, 1], [1, 1, 0], [0, 2, 0]],
+        transitions: vec![[0, 2], [1, 2]],
+        arcs: vec![[0, 0, 0, 1], [1, 1, 0, 1], [0, 1, 0, 1], [1, 1, 1, 1]],
+    }
+}
+
+/// The paper's six rows, and what each gives: markings and transfers, or a refusal.
+const ROWS: [([u16; 2], Result<([u32; 3], [u16; 2]), Refusal>); 6] = [
+    ([400, 0], Ok(([600, 400, 0], [400, IDLE]))),
+    ([300, 500], Ok(([600, 400, 0], [400, IDLE]))),
+    ([1000, 500], Ok(([0, 1000, 0], [IDLE, IDLE]))),
+    ([1000, 500], Ok(([0, 1000, 0], [IDLE, 0]))),
+    ([1000, 900], Ok(([0, 600, 400], [IDLE, 400]))),
+    ([0, 1001], Err(Refusal(21, 1))),
+];
+
+/// Numbers that no call writes, to see which ones it did.
+fn blank_state(places: usize, transitions: usize, signals: usize) -> State {
+    State {
+        markings: vec![77_777; places],
+        transfers: vec![7_777; transitions],
+        degrees: vec![7_007; signals],
+    }
+}
+
+fn fresh_bench() -> State {
+    let mut state = blank_state(3, 2, 2);
+    fresh(&BENCH, &mut state).expect("bench card A");
+    state
+}
+
+struct Tests {
+    passed: usize,
+    failed: usize,
+}
+
+impl Tests {
+    fn same<T: std::fmt::Debug + PartialEq>(&mut self, what: &str, got: T, expected: T) {
+        if got == expected {
+            self.passed += 1;
+        } else {
+            self.failed += 1;
+            println!("{what}: {got:?} is not {expected:?}");
+        }
+    }
+
+    /// The six rows by a runner.
+    fn rows(&mut self, runner: &str, call: impl Fn(&mut State, &[u16]) -> Result<usize, Refusal>) {
+        let mut state = fresh_bench();
+        for (number, (row, expected)) in ROWS.iter().enumerate() {
+            let before = state.clone();
+            let reply = call(&mut state, row);
+            let (reply_due, state_due) = match expected {
+                Ok((markings, transfers)) => (
+                    Ok(0),
+                    State {
+                        markings: markings.to_vec(),
+                        transfers: transfers.to_vec(),
+                        degrees: row.to_vec(),
+                    },
+                ),
+                Err(Refusal(refusal, value)) => (Err(Refusal(*refusal, *value)), before),
+            };
+            self.same(&format!("{runner}, row {}", number + 1), (reply, &state), (reply_due, &state_due));
+        }
+    }
+
+    /// A call that is refused and leaves what it was lent.
+    fn refused<L: Clone + std::fmt::Debug + PartialEq>(
+        &mut self,
+        what: &str,
+        mut lent: L,
+        call: impl FnOnce(&mut L) -> Result<usize, Refusal>,
+        number: u64,
+        value: usize,
+    ) {
+        let before = lent.clone();
+        let reply = call(&mut lent);
+        self.same(what, (reply, lent), (Err(Refusal(number, value)), before));
+    }
+
+    fn refusals(&mut self) {
+        let cut = &BENCH[..28];
+        self.refused("check, no bytes", [7; 4], |counts| check(&[], counts), 1, 0);
+        self.refused("check, 28 bytes", [7; 4], |counts| check(cut, counts), 1, 224);
+        self.refused("flatten, 28 bytes", [7; 64], |out| flatten(cut, out), 1, 224);
+        self.refused("flatten, a short buffer", [7; 25], |out| flatten(&BENCH, out), 24, 26);
+        let wide = Tables { version: 16, ..bench_tables() };
+        self.refused("write, a number that does not fit", [7; 64], |out| write(&wide, out), 17, 0);
+        let next = Tables { version: 2, ..bench_tables() };
+        self.refused("write, another version", [7; 64], |out| write(&next, out), 2, 0);
+        self.refused("write, a short buffer", [7; 28], |out| write(&bench_tables(), out), 24, 29);
+        self.refused("fresh, 28 bytes", blank_state(3, 2, 2), |state| fresh(cut, state), 1, 224);
+        self.refused("fresh, a place too many", blank_state(4, 2, 2), |state| fresh(&BENCH, state), 25, 0);
+        let full = State { markings: vec![1000, 0, 2001], ..fresh_bench() };
+        self.refused("flat row, 28 bytes", fresh_bench(), |state| flat_row(cut, state, &[0, 0]), 1, 224);
+        self.refused("flat row, a marking", full.clone(), |state| flat_row(&BENCH, state, &[0, 0]), 25, 0);
+        self.refused("flat row, no degrees", fresh_bench(), |state| flat_row(&BENCH, state, &[]), 20, 0);
+        self.refused("subnet row, 28 bytes", fresh_bench(), |state| subnet_row(cut, state, &[0, 1], &[0, 0]), 1, 224);
+        self.refused("subnet row, a marking", full, |state| subnet_row(&BENCH, state, &[0, 1], &[0, 0]), 25, 0);
+        self.refused("subnet row, an order", fresh_bench(), |state| subnet_row(&BENCH, state, &[1, 1], &[0, 0]), 23, 0);
+        self.refused("subnet row, no degrees", fresh_bench(), |state| subnet_row(&BENCH, state, &[1, 0], &[]), 20, 0);
+    }
+
+    /// Tables to a card, to its counts, to the flat card, and that one again.
+    fn round_trip(&mut self) {
+        let mut card = [0xa5; 64];
+        let length = write(&bench_tables(), &mut card);
+        self.same("write", (length, &card[..29], &card[29..]), (Ok(29), &BENCH[..], &[0xa5; 35][..]));
+        let mut counts = [0; 4];
+        self.same("check", (check(&card[..29], &mut counts), counts), (Ok(0), [2, 3, 2, 2]));
+        let (mut flat, mut again) = ([0xa5; 64], [0x5a; 64]);
+        self.same("flatten", flatten(&card[..29], &mut flat), Ok(26));
+        self.same("check, the flat card", (check(&flat[..26], &mut counts), counts), (Ok(0), [1, 3, 2, 2]));
+        self.same("flatten, again", flatten(&flat[..26], &mut again), Ok(26));
+        self.same("the flat cards", &flat[..26], &again[..26]);
+        self.same("behind the flat cards", (&flat[26..], &again[26..]), (&[0xa5; 38][..], &[0x5a; 38][..]));
+    }
+}
+
+fn main() {
+    let mut tests = Tests { passed: 0, failed: 0 };
+    let new = State { markings: vec![1000, 0, 0], transfers: vec![IDLE; 2], degrees: vec![0; 2] };
+    tests.same("fresh", fresh_bench(), new);
+    tests.rows("flat rows", |state, row| flat_row(&BENCH, state, row));
+    tests.rows("subnet rows, 0 1", |state, row| subnet_row(&BENCH, state, &[0, 1], row));
+    tests.rows("subnet rows, 1 0", |state, row| subnet_row(&BENCH, state, &[1, 0], row));
+    tests.refusals();
+    tests.round_trip();
+    println!("{} passed, {} failed", tests.passed, tests.failed);
+    std::process::exit(if tests.failed > 0 { 1 } else { 0 });
+}
