@@ -21,7 +21,7 @@ def declared(name, place):
         return (path / f"{name}.edit").is_file()
     if not path.is_file():
         return False
-    marks = r"(?:unfoldable |abbrev |pub |record |data |fn |struct |enum )*"
+    marks = r"(?:unfoldable |abbrev |pub |extern \"C\" |record |data |fn |struct |enum )*"
     return re.search(rf"^\s*{marks}{re.escape(name)}(?=[ :({{]|$)", path.read_text(), re.M) is not None
 
 

@@ -18,7 +18,7 @@
 extern "C" {
 #endif
 
-/* The most that a card has, for buffers of fixed size. */
+/* The most that a card has, for buffers of fixed size; a call is lent as many entries of them as its own card has. */
 #define NET_PLACES 255
 #define NET_TRANSITIONS 255
 #define NET_SIGNALS 63

@@ -3,10 +3,11 @@ use crate::Counts;
 use crate::FormatFault;
 ghost use mathlib.Core.Path.{_≡_};
 ghost use mathlib.Core.Bool.{true};
-ghost use Prim.Native.Nat.{_+_, _<_, _≤_};
+ghost use Prim.Native.Nat.{ℕ, _+_, _<_, _≤_};
 ghost use Rattle.card.specs.Format.{count, size};
 ghost use Rattle.card.specs.Grammar.{header, subnet, place, transition, arc};
 ghost use Rattle.card.specs.Layout.{startOf, widthAt, widthOf, to, stepAt, stepOf, Sane};
+ghost use Rattle.card.specs.declared.layout.Move.the-variants.{More};
 ghost use Rattle.card.specs.declared.layout.Phase.the-variants.{Version, SubnetCount, SignalCount, Parent, SubnetType, PlaceCount, TransitionCount, Kind, Capacity, Tokens, Signal, ArcCount, Direction, ArcSubnet, ArcPlace, Weight};
 
 pub enum Phase {
@@ -125,6 +126,37 @@ pub fn arc_next(l: Layout) -> bool
         Phase::Direction => true,
         _ => false,
     }
+}
+
+// Whether an arc's weight comes next.
+fn weight_next(l: Layout) -> bool
+    ensures { λ r. ⌜ (r ≡ true → l .phase ≡ Weight) ⌝ }
+{
+    let p = l.phase;
+    match p {
+        Phase::Weight => true,
+        _ => false,
+    }
+}
+
+// Whether an arc's weight comes next and another arc of its transition behind it.
+pub fn arc_behind(l: Layout) -> bool
+    ensures { λ r. ⌜ (r ≡ true → (l .phase ≡ Weight) × (0 < l .«arc_rows»)) ⌝ }
+{
+    if 0 < l.arc_rows {
+        return weight_next(l);
+    }
+    false
+}
+
+// Then that arc comes next, whatever the weight. The reader's loop takes it so, since most fields are arcs'.
+pub fn arc_again(l: Layout) -> Layout
+    requires { ⌜ 0 < l .«arc_rows» ⌝ }
+    ensures { λ r. ⌜ ((v : ℕ) → l .phase ≡ Weight → More r ≡ stepOf l v) ⌝ }
+{
+    let mut m = l;
+    m.arc_rows = l.arc_rows - 1;
+    moved(m, Phase::Direction)
 }
 
 // How wide an arc's fields before the weight are. Nothing tests them, so that they may be read at once.

@@ -7,6 +7,8 @@ use crate::index::index;
 use crate::layout::Layout;
 use crate::layout::Move;
 use crate::layout::Phase;
+use crate::layout::arc_again;
+use crate::layout::arc_behind;
 use crate::layout::arc_head_width;
 use crate::layout::arc_next;
 use crate::layout::moved;
@@ -141,18 +143,25 @@ pub fn read(card: &[u8]) -> CardRead
                 return refused(FormatFault::Truncated, at);
             }
             let v = bit_field(card, at, w);
-            match step(l, v) {
-                Move::More(m) => {
-                    numbers[n] = v;
-                    l = m;
-                    at += w;
-                    n += 1;
+            if arc_behind(l) {
+                numbers[n] = v;
+                l = arc_again(l);
+                at += w;
+                n += 1;
+            } else {
+                match step(l, v) {
+                    Move::More(m) => {
+                        numbers[n] = v;
+                        l = m;
+                        at += w;
+                        n += 1;
+                    }
+                    Move::Done(k) => {
+                        numbers[n] = v;
+                        return ended(card, at + w, k, numbers);
+                    }
+                    Move::Bad(f) => return refused(f, at),
                 }
-                Move::Done(k) => {
-                    numbers[n] = v;
-                    return ended(card, at + w, k, numbers);
-                }
-                Move::Bad(f) => return refused(f, at),
             }
         }
     }

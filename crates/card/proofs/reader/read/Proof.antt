@@ -1,4 +1,4 @@
--- The loop goes through the card's fields as the grammar has them; see proofs/Turn.antt for a turn of it.
+-- `card::reader::read` meets its contract. Assumes nothing.
 use Prim.Native.Nat.{_+_, _-_}
 use native.Mathlib.Omega.{arith}
 use denote.Ref.{now}
@@ -7,6 +7,8 @@ use Rattle.card.specs.Grammar.{arc}
 use Rattle.card.specs.declared.FormatFault.the-variants.{Truncated}
 use Rattle.card.proofs.Turn.{field-byte, Left, left-start, left-room, left-ends, left-bad, left-more, left-done, arc-room, left-arc}
 use Rattle.card.proofs.ReadLaws.{refused-is, ended-is}
+use Rattle.card.specs.declared.layout.Move.the-variants.{More}
+use mathlib.Core.Path.{refl}
 use Rattle.card.proofs.reader.read.Statement.{statement}
 use Rattle.card.proofs.reader.read.Tie as tie
 
@@ -138,78 +140,120 @@ returns c =
 bit-field-requires : tie.Need-bit-field-requires Inv-loop μ-loop
 bit-field-requires c κs = (omega arith, omega arith)
 
-step-requires : tie.Need-step-requires Inv-loop μ-loop
-step-requires c κs =
-    let a = (c .before .before .before .before .before .before .before .before .args) in
-    let x = (c .before .before .before .before .before .loop) in
-    let y = (c .before .before .width) in
-    let z = (c .bit-field) in
-    (x .inv .sane, field-byte (y .result) (z .result) (omega arith) (z .ensures .1))
-
-enum-known-m : tie.Need-enum-known-m Inv-loop μ-loop
-enum-known-m c = (c .match) .keys1
+arc-behind-requires : tie.Need-arc-behind-requires Inv-loop μ-loop
+arc-behind-requires c κs = search needs
 
 mul-numbers-4 : tie.Need-mul-numbers-4 Inv-loop μ-loop
 mul-numbers-4 c = search needs
 
 array-write-numbers-4 : tie.Need-array-write-numbers-4 Inv-loop μ-loop
 array-write-numbers-4 c =
-    let a = (c .before .before .before .before .before .before .before .before .before .before .before .before .args) in
-    let x = (c .before .before .before .before .before .before .before .before .before .loop) in
-    let y = (c .before .before .before .before .before .before .width) in
+    let a = (c .before .before .before .before .before .before .before .before .before .before .args) in
+    let x = (c .before .before .before .before .before .before .before .loop) in
+    let y = (c .before .before .before .before .width) in
     omega (arith, left-room (now (a .card)) (x .l) (x .at) (x .n) (x .numbers) (y .result) (x .inv) (y .ensures .0), x .inv .long)
 
+arc-again-requires : tie.Need-arc-again-requires Inv-loop μ-loop
+arc-again-requires c κs = c .before .arc-behind .ensures (c .if3 .taken) .1
+
 add-at-2 : tie.Need-add-at-2 Inv-loop μ-loop
-add-at-2 c = omega (arith, (c .before .before .before .before .before .before .before .before .before .loop) .inv .low, (c .before .before .before .before .before .before .before .before .before .loop) .inv .few)
+add-at-2 c = omega (arith, (c .before .before .before .before .before .before .before .before .loop) .inv .low, (c .before .before .before .before .before .before .before .before .loop) .inv .few)
 
 add-n-2 : tie.Need-add-n-2 Inv-loop μ-loop
 add-n-2 c =
-    let a = (c .before .before .before .before .before .before .before .before .before .before .before .before .args) in
-    let x = (c .before .before .before .before .before .before .before .before .before .loop) in
-    let y = (c .before .before .before .before .before .before .width) in
+    let a = (c .before .before .before .before .before .before .before .before .before .before .before .args) in
+    let x = (c .before .before .before .before .before .before .before .before .loop) in
+    let y = (c .before .before .before .before .before .width) in
     omega (arith, left-room (now (a .card)) (x .l) (x .at) (x .n) (x .numbers) (y .result) (x .inv) (y .ensures .0), x .inv .long)
 
 loop-less-2 : tie.Need-loop-less-2 Inv-loop μ-loop
 loop-less-2 c =
-    let a = (c .before .before .before .before .before .before .before .before .before .before .before .before .args) in
-    let x = (c .before .before .before .before .before .before .before .before .before .loop) in
-    let y = (c .before .before .before .before .before .before .width) in
+    let a = (c .before .before .before .before .before .before .before .before .before .before .before .args) in
+    let x = (c .before .before .before .before .before .before .before .before .loop) in
+    let y = (c .before .before .before .before .before .width) in
     omega (arith, left-room (now (a .card)) (x .l) (x .at) (x .n) (x .numbers) (y .result) (x .inv) (y .ensures .0), x .inv .long)
 
 loop-again-2 : tie.Need-loop-again-2 Inv-loop μ-loop
 loop-again-2 c =
-    let a = (c .before .before .before .before .before .before .before .before .before .before .before .before .args) in
-    let x = (c .before .before .before .before .before .before .before .before .before .loop) in
-    let y = (c .before .before .before .before .before .before .width) in
-    let z = (c .before .before .before .before .bit-field) in
-    let q = (c .before .before .before .step) in
-    left-more (now (a .card)) (x .l) (x .at) (x .n) (x .numbers) (y .result) (x .inv) (y .ensures .0) (z .result) (q .result) (omega arith) (z .ensures .0) (q .ensures) _ ((c .before .m) .given .1) (omega arith)
+    let a = c .before .before .before .before .before .before .before .before .before .before .before .args in
+    let x = c .before .before .before .before .before .before .before .before .loop in
+    let y = c .before .before .before .before .before .width in
+    let z = c .before .before .before .bit-field in
+    let q = c .arc-again in
+    left-more (now (a .card)) (x .l) (x .at) (x .n) (x .numbers) (y .result) (x .inv) (y .ensures .0) (z .result) (More (q .result)) (omega arith) (z .ensures .0) (q .ensures (z .result) (c .before .before .arc-behind .ensures (c .before .if3 .taken) .0)) (q .result) refl (omega arith)
 
-enum-known-k : tie.Need-enum-known-k Inv-loop μ-loop
-enum-known-k c = (c .match) .keys2
+step-requires : tie.Need-step-requires Inv-loop μ-loop
+step-requires c κs =
+    let a = (c .before .before .before .before .before .before .before .before .before .before .args) in
+    let x = (c .before .before .before .before .before .before .before .loop) in
+    let y = (c .before .before .before .before .width) in
+    let z = (c .before .before .bit-field) in
+    (x .inv .sane, field-byte (y .result) (z .result) (omega arith) (z .ensures .1))
+
+enum-known-m : tie.Need-enum-known-m Inv-loop μ-loop
+enum-known-m c = (c .match) .keys1
 
 mul-numbers-5 : tie.Need-mul-numbers-5 Inv-loop μ-loop
 mul-numbers-5 c = search needs
 
 array-write-numbers-5 : tie.Need-array-write-numbers-5 Inv-loop μ-loop
 array-write-numbers-5 c =
-    let a = (c .before .before .before .before .before .before .before .before .before .before .before .before .args) in
-    let x = (c .before .before .before .before .before .before .before .before .before .loop) in
-    let y = (c .before .before .before .before .before .before .width) in
+    let a = (c .before .before .before .before .before .before .before .before .before .before .before .before .before .before .args) in
+    let x = (c .before .before .before .before .before .before .before .before .before .before .before .loop) in
+    let y = (c .before .before .before .before .before .before .before .before .width) in
+    omega (arith, left-room (now (a .card)) (x .l) (x .at) (x .n) (x .numbers) (y .result) (x .inv) (y .ensures .0), x .inv .long)
+
+add-at-3 : tie.Need-add-at-3 Inv-loop μ-loop
+add-at-3 c = omega (arith, (c .before .before .before .before .before .before .before .before .before .before .before .loop) .inv .low, (c .before .before .before .before .before .before .before .before .before .before .before .loop) .inv .few)
+
+add-n-3 : tie.Need-add-n-3 Inv-loop μ-loop
+add-n-3 c =
+    let a = (c .before .before .before .before .before .before .before .before .before .before .before .before .before .before .args) in
+    let x = (c .before .before .before .before .before .before .before .before .before .before .before .loop) in
+    let y = (c .before .before .before .before .before .before .before .before .width) in
+    omega (arith, left-room (now (a .card)) (x .l) (x .at) (x .n) (x .numbers) (y .result) (x .inv) (y .ensures .0), x .inv .long)
+
+loop-less-3 : tie.Need-loop-less-3 Inv-loop μ-loop
+loop-less-3 c =
+    let a = (c .before .before .before .before .before .before .before .before .before .before .before .before .before .before .args) in
+    let x = (c .before .before .before .before .before .before .before .before .before .before .before .loop) in
+    let y = (c .before .before .before .before .before .before .before .before .width) in
+    omega (arith, left-room (now (a .card)) (x .l) (x .at) (x .n) (x .numbers) (y .result) (x .inv) (y .ensures .0), x .inv .long)
+
+loop-again-3 : tie.Need-loop-again-3 Inv-loop μ-loop
+loop-again-3 c =
+    let a = (c .before .before .before .before .before .before .before .before .before .before .before .before .before .before .args) in
+    let x = (c .before .before .before .before .before .before .before .before .before .before .before .loop) in
+    let y = (c .before .before .before .before .before .before .before .before .width) in
+    let z = (c .before .before .before .before .before .before .bit-field) in
+    let q = (c .before .before .before .step) in
+    left-more (now (a .card)) (x .l) (x .at) (x .n) (x .numbers) (y .result) (x .inv) (y .ensures .0) (z .result) (q .result) (omega arith) (z .ensures .0) (q .ensures) _ ((c .before .m) .given .1) (omega arith)
+
+enum-known-k : tie.Need-enum-known-k Inv-loop μ-loop
+enum-known-k c = (c .match) .keys2
+
+mul-numbers-6 : tie.Need-mul-numbers-6 Inv-loop μ-loop
+mul-numbers-6 c = search needs
+
+array-write-numbers-6 : tie.Need-array-write-numbers-6 Inv-loop μ-loop
+array-write-numbers-6 c =
+    let a = (c .before .before .before .before .before .before .before .before .before .before .before .before .before .before .args) in
+    let x = (c .before .before .before .before .before .before .before .before .before .before .before .loop) in
+    let y = (c .before .before .before .before .before .before .before .before .width) in
     omega (arith, left-room (now (a .card)) (x .l) (x .at) (x .n) (x .numbers) (y .result) (x .inv) (y .ensures .0), x .inv .long)
 
 add-ended : tie.Need-add-ended Inv-loop μ-loop
-add-ended c = omega (arith, (c .before .before .before .before .before .before .before .before .before .loop) .inv .low, (c .before .before .before .before .before .before .before .before .before .loop) .inv .few)
+add-ended c = omega (arith, (c .before .before .before .before .before .before .before .before .before .before .before .loop) .inv .low, (c .before .before .before .before .before .before .before .before .before .before .before .loop) .inv .few)
 
 ended-requires : tie.Need-ended-requires Inv-loop μ-loop
-ended-requires c κs = (omega arith, omega (arith, (c .before .before .before .before .before .before .before .before .before .loop) .inv .low, (c .before .before .before .before .before .before .before .before .before .loop) .inv .few))
+ended-requires c κs = (omega arith, omega (arith, (c .before .before .before .before .before .before .before .before .before .before .before .loop) .inv .low, (c .before .before .before .before .before .before .before .before .before .before .before .loop) .inv .few))
 
 returns-2 : tie.Need-returns-2 Inv-loop μ-loop
 returns-2 c =
-    let a = (c .before .before .before .before .before .before .before .before .before .before .before .before .before .args) in
-    let x = (c .before .before .before .before .before .before .before .before .before .before .loop) in
-    let y = (c .before .before .before .before .before .before .before .width) in
-    let z = (c .before .before .before .before .before .bit-field) in
+    let a = (c .before .before .before .before .before .before .before .before .before .before .before .before .before .before .before .args) in
+    let x = (c .before .before .before .before .before .before .before .before .before .before .before .before .loop) in
+    let y = (c .before .before .before .before .before .before .before .before .before .width) in
+    let z = (c .before .before .before .before .before .before .before .bit-field) in
     let q = (c .before .before .before .before .step) in
     let d = left-done (now (a .card)) (x .l) (x .at) (x .n) (x .numbers) (y .result) (x .inv) (y .ensures .0) (z .result) (q .result) (omega arith) (z .ensures .0) (q .ensures) _ ((c .before .before .k) .given .1) in
     ended-is (now (a .card)) _ (x .at + y .result) (x .n + 1) _ ((c .ended) .result) (d .0) (d .2) (d .3) (d .1) ((c .ended) .ensures)
@@ -222,10 +266,10 @@ refused-requires-2 c κs = search needs
 
 returns-3 : tie.Need-returns-3 Inv-loop μ-loop
 returns-3 c =
-    let a = (c .before .before .before .before .before .before .before .before .before .before .before .before .before .args) in
-    let x = (c .before .before .before .before .before .before .before .before .before .before .loop) in
-    let y = (c .before .before .before .before .before .before .before .width) in
-    let z = (c .before .before .before .before .before .bit-field) in
+    let a = (c .before .before .before .before .before .before .before .before .before .before .before .before .before .before .before .args) in
+    let x = (c .before .before .before .before .before .before .before .before .before .before .before .before .loop) in
+    let y = (c .before .before .before .before .before .before .before .before .before .width) in
+    let z = (c .before .before .before .before .before .before .before .bit-field) in
     let q = (c .before .before .before .before .step) in
     refused-is (now (a .card)) _ (x .at) ((c .refused2) .result) (left-bad (now (a .card)) (x .l) (x .at) (x .n) (x .numbers) (y .result) (x .inv) (y .ensures .0) (z .result) (q .result) (omega arith) (z .ensures .0) (q .ensures) _ ((c .before .before .f) .given .1)) ((c .refused2) .ensures)
 
@@ -259,17 +303,25 @@ read-spec =
     refused-requires
     returns
     bit-field-requires
-    step-requires
-    enum-known-m
+    arc-behind-requires
     mul-numbers-4
     array-write-numbers-4
+    arc-again-requires
     add-at-2
     add-n-2
     loop-less-2
     loop-again-2
-    enum-known-k
+    step-requires
+    enum-known-m
     mul-numbers-5
     array-write-numbers-5
+    add-at-3
+    add-n-3
+    loop-less-3
+    loop-again-3
+    enum-known-k
+    mul-numbers-6
+    array-write-numbers-6
     add-ended
     ended-requires
     returns-2
