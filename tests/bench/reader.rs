@@ -12,17 +12,20 @@ pub struct Subnet {
     pub transitions: u8,
 }
 
+#[derive(Clone, Copy)]
 pub struct Place {
     pub kind: u8,
     pub capacity: u8,
     pub tokens: u8,
 }
 
+#[derive(Clone, Copy)]
 pub struct Transition {
     pub signal: u8,
     pub arcs: u8,
 }
 
+#[derive(Clone, Copy)]
 pub struct Arc {
     pub direction: u8,
     pub subnet: u8,
@@ -37,6 +40,24 @@ pub struct Card {
     pub places: Vec<Place>,
     pub transitions: Vec<Transition>,
     pub arcs: Vec<Arc>,
+}
+
+impl Card {
+    /// How many subnets, places and transitions there are.
+    pub fn counts(&self) -> [usize; 3] {
+        [self.subnets.len(), self.places.len(), self.transitions.len()]
+    }
+
+    /// The flat number of each subnet's first place.
+    pub fn first_places(&self) -> Vec<usize> {
+        let mut places = 0;
+        let mut first = Vec::with_capacity(self.subnets.len());
+        for subnet in &self.subnets {
+            first.push(places);
+            places += usize::from(subnet.places);
+        }
+        first
+    }
 }
 
 struct Bits<'a> {

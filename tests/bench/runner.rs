@@ -1,6 +1,7 @@
 //! A flat runner as one would write it in Rust: transitions with their arcs, a state in vectors.
 
-use crate::reader;
+use crate::check::accept;
+use crate::reader::Card;
 
 struct Arc {
     fills: bool,
@@ -14,7 +15,7 @@ struct Transition {
 }
 
 pub struct Net {
-    signals: usize,
+    pub signals: usize,
     limits: Vec<u32>,
     tokens: Vec<u32>,
     transitions: Vec<Transition>,
@@ -22,17 +23,29 @@ pub struct Net {
 
 pub struct State {
     pub markings: Vec<u32>,
-    carried: Vec<Option<u32>>,
-    degrees: Vec<u16>,
+    pub carried: Vec<Option<u32>>,
+    pub degrees: Vec<u16>,
+}
+
+/// What each place owes, and what is due to it.
+#[derive(Clone)]
+struct Claims {
+    owed: Vec<u32>,
+    due: Vec<u32>,
+}
+
+/// Posts a part of what a transition moves. The columns are slices, so that they stay where they are from arc to arc.
+fn post(transition: &Transition, part: u32, owed: &mut [u32], due: &mut [u32]) {
+    for a in &transition.arcs {
+        let column = if a.fills { &mut *due } else { &mut *owed };
+        column[a.place] += part * a.weight;
+    }
 }
 
 impl Net {
     /// The flat net of an accepted card.
-    pub fn load(card: &reader::Card) -> Net {
-        let mut first = vec![0];
-        for s in &card.subnets {
-            first.push(first[first.len() - 1] + usize::from(s.places));
-        }
+    pub fn load(card: &Card) -> Net {
+        let first = card.first_places();
         let mut arcs = card.arcs.iter();
         let transitions = card.transitions.iter().map(|t| Transition {
             signal: t.signal.into(),
@@ -62,48 +75,74 @@ impl Net {
         }
     }
 
-    fn is_candidate(&self, t: &Transition, state: &State, owed: &[u32], due: &[u32]) -> bool {
-        t.arcs.iter().all(|a| {
-            let m = state.markings[a.place];
-            if a.fills {
-                m + due[a.place] + 1000 * a.weight <= self.limits[a.place]
-            } else {
-                owed[a.place] + 1000 * a.weight <= m
-            }
-        })
-    }
-
-    /// A row; false where it is refused.
+    /// A row from a valid state; false where it is refused.
     pub fn row(&self, state: &mut State, row: &[u16]) -> bool {
         if row.len() != self.signals || row.iter().any(|&d| d > 1000) {
             return false;
         }
-        let (mut owed, mut due) = (vec![0; self.limits.len()], vec![0; self.limits.len()]);
-        let post = |t: &Transition, part: u32, owed: &mut [u32], due: &mut [u32]| {
-            for a in &t.arcs {
-                let column = if a.fills { &mut *due } else { &mut *owed };
-                column[a.place] += part * a.weight;
+        let standing = self.standing(state);
+        let Claims { mut owed, mut due } = standing.clone();
+        let mut carried = state.carried.clone();
+        for (t, carried) in self.transitions.iter().zip(&mut carried) {
+            if carried.is_none() && row[t.signal] > 0 && self.is_candidate(t, state, &standing) {
+                post(t, 1000, &mut owed, &mut due);
+                *carried = Some(0);
             }
-        };
+        }
+        if !self.covers(state, &Claims { owed, due }) {
+            return false;
+        }
+        state.carried = carried;
+        self.carry(state, row);
+        state.degrees.copy_from_slice(row);
+        true
+    }
+
+    /// Whether a state is one of this net.
+    fn is_valid(&self, state: &State) -> bool {
+        state.markings.len() == self.limits.len()
+            && state.carried.len() == self.transitions.len()
+            && state.degrees.len() == self.signals
+            && state.carried.iter().flatten().all(|&c| c < 1000)
+            && state.degrees.iter().all(|&d| d <= 1000)
+            && self.covers(state, &self.standing(state))
+    }
+
+    /// The claims of the transfers that are under way. Compiled into the row, which is a tenth faster for it.
+    #[inline(always)]
+    fn standing(&self, state: &State) -> Claims {
+        let (mut owed, mut due) = (vec![0; self.limits.len()], vec![0; self.limits.len()]);
         for (t, carried) in self.transitions.iter().zip(&state.carried) {
             if let Some(c) = carried {
                 post(t, 1000 - c, &mut owed, &mut due);
             }
         }
-        let (mut all_owed, mut all_due) = (owed.clone(), due.clone());
-        let mut carried = state.carried.clone();
-        for (t, carried) in self.transitions.iter().zip(&mut carried) {
-            if carried.is_none() && row[t.signal] > 0 && self.is_candidate(t, state, &owed, &due) {
-                post(t, 1000, &mut all_owed, &mut all_due);
-                *carried = Some(0);
+        Claims { owed, due }
+    }
+
+    fn is_candidate(&self, t: &Transition, state: &State, standing: &Claims) -> bool {
+        t.arcs.iter().all(|a| {
+            let m = state.markings[a.place];
+            if a.fills {
+                m + standing.due[a.place] + 1000 * a.weight <= self.limits[a.place]
+            } else {
+                standing.owed[a.place] + 1000 * a.weight <= m
             }
-        }
-        for p in 0..self.limits.len() {
-            if all_owed[p] > state.markings[p] || state.markings[p] + all_due[p] > self.limits[p] {
-                return false;
-            }
-        }
-        for (t, carried) in self.transitions.iter().zip(&mut carried) {
+        })
+    }
+
+    /// Whether each place has what it owes, and room for what is due to it.
+    #[inline(always)]
+    fn covers(&self, state: &State, claims: &Claims) -> bool {
+        (0..self.limits.len()).all(|p| {
+            let m = state.markings[p];
+            claims.owed[p] <= m && m + claims.due[p] <= self.limits[p]
+        })
+    }
+
+    /// Moves every transfer on as far as its signal rose.
+    fn carry(&self, state: &mut State, row: &[u16]) {
+        for (t, carried) in self.transitions.iter().zip(&mut state.carried) {
             if let Some(c) = *carried {
                 let rise = row[t.signal].saturating_sub(state.degrees[t.signal]);
                 let d = u32::from(rise).min(1000 - c);
@@ -119,8 +158,14 @@ impl Net {
                 *carried = if c + d == 1000 { None } else { Some(c + d) };
             }
         }
-        state.carried = carried;
-        state.degrees.copy_from_slice(row);
-        true
     }
+}
+
+/// A row on the net of a card's bytes; false where card, state or row is refused.
+pub fn row_call(data: &[u8], state: &mut State, row: &[u16]) -> bool {
+    let Ok(card) = accept(data) else {
+        return false;
+    };
+    let net = Net::load(&card);
+    net.is_valid(state) && net.row(state, row)
 }
