@@ -48,7 +48,7 @@ pub fn compare_checks(data: &[u8]) {
         (Ok(length), Ok(flat)) => assert!(out[..length] == flat, "flat card of {data:?}"),
         (proved, plain) => {
             let plain = plain.map(|flat| flat.len());
-            let refused = plain.map_err(|refusal| (refusal.number.into(), refusal.bit));
+            let refused = plain.map_err(|refusal| proved::Refusal(refusal.number.into(), refusal.bit));
             assert_eq!(proved, refused, "flattening {data:?}");
         }
     }

@@ -1,10 +1,12 @@
 //! The proved functions of the two libraries, as functions on slices.
 
 use crate::runner;
+pub use net_runner::{flat_row, flatten, subnet_row, Refusal, State, CARD_BYTES};
+use net_runner::IDLE;
 
-/// The most bytes that a card has.
-pub const CARD_BYTES: usize = 22770;
-const IDLE: u16 = 65535;
+#[allow(dead_code)]
+#[path = "../../crates/net_runner/net_runner.rs"]
+mod net_runner;
 
 #[link(name = "bench", kind = "static")]
 extern "C" {
@@ -19,47 +21,6 @@ extern "C" {
         rows: *const u16,
         degrees: usize,
     ) -> u64;
-}
-
-#[link(name = "net_runner", kind = "static")]
-extern "C" {
-    fn net_flatten(card: *const u8, card_bytes: usize, out: *mut u8, out_bytes: usize, value: *mut usize) -> u64;
-    fn net_flat_row(
-        card: *const u8,
-        card_bytes: usize,
-        markings: *mut u32,
-        places: usize,
-        transfers: *mut u16,
-        transitions: usize,
-        degrees: *mut u16,
-        signals: usize,
-        row: *const u16,
-        row_size: usize,
-        value: *mut usize,
-    ) -> u64;
-    fn net_subnet_row(
-        card: *const u8,
-        card_bytes: usize,
-        markings: *mut u32,
-        places: usize,
-        transfers: *mut u16,
-        transitions: usize,
-        degrees: *mut u16,
-        signals: usize,
-        order: *const u16,
-        order_size: usize,
-        row: *const u16,
-        row_size: usize,
-        value: *mut usize,
-    ) -> u64;
-}
-
-/// A state as the library is lent it.
-#[derive(Clone, Debug, PartialEq)]
-pub struct State {
-    markings: Vec<u32>,
-    transfers: Vec<u16>,
-    degrees: Vec<u16>,
 }
 
 impl From<&runner::State> for State {
@@ -98,57 +59,4 @@ pub fn loaded_subnets(data: &[u8], order: &[u16], rows: &[u16]) -> u64 {
             rows.len(),
         )
     }
-}
-
-/// The length of the flat card in out; or a refusal's number, and its bit or length.
-pub fn flatten(data: &[u8], out: &mut [u8]) -> Result<usize, (u64, usize)> {
-    let mut value = 0;
-    match unsafe { net_flatten(data.as_ptr(), data.len(), out.as_mut_ptr(), out.len(), &mut value) } {
-        0 => Ok(value),
-        number => Err((number, value)),
-    }
-}
-
-/// A row call on the flat net; false where it is refused.
-pub fn flat_row(data: &[u8], state: &mut State, row: &[u16]) -> bool {
-    let mut value = 0;
-    let number = unsafe {
-        net_flat_row(
-            data.as_ptr(),
-            data.len(),
-            state.markings.as_mut_ptr(),
-            state.markings.len(),
-            state.transfers.as_mut_ptr(),
-            state.transfers.len(),
-            state.degrees.as_mut_ptr(),
-            state.degrees.len(),
-            row.as_ptr(),
-            row.len(),
-            &mut value,
-        )
-    };
-    number == 0
-}
-
-/// A row call subnet by subnet; false where it is refused.
-pub fn subnet_row(data: &[u8], state: &mut State, order: &[u16], row: &[u16]) -> bool {
-    let mut value = 0;
-    let number = unsafe {
-        net_subnet_row(
-            data.as_ptr(),
-            data.len(),
-            state.markings.as_mut_ptr(),
-            state.markings.len(),
-            state.transfers.as_mut_ptr(),
-            state.transfers.len(),
-            state.degrees.as_mut_ptr(),
-            state.degrees.len(),
-            order.as_ptr(),
-            order.len(),
-            row.as_ptr(),
-            row.len(),
-            &mut value,
-        )
-    };
-    number == 0
 }

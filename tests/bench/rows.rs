@@ -37,8 +37,8 @@ impl Run<'_> {
         for row in self.rows.chunks(self.net.signals) {
             let is_taken = self.net.row(&mut loaded, row);
             assert_eq!(row_call(self.data, &mut plain, row), is_taken, "plain call");
-            assert_eq!(proved::flat_row(self.data, &mut flat, row), is_taken, "flat call");
-            assert_eq!(proved::subnet_row(self.data, &mut subnets, &self.order, row), is_taken, "subnet call");
+            assert_eq!(proved::flat_row(self.data, &mut flat, row).is_ok(), is_taken, "flat call");
+            assert_eq!(proved::subnet_row(self.data, &mut subnets, &self.order, row).is_ok(), is_taken, "subnet call");
             assert_eq!(flat, proved::State::from(&loaded), "flat state");
             assert_eq!(subnets, flat, "subnet state");
             assert_eq!(plain.markings, loaded.markings, "plain state");
@@ -82,12 +82,12 @@ impl Run<'_> {
 
     /// Whole proved calls on the flat net.
     pub fn flat_calls(&self) -> proved::State {
-        self.each_row(CALLED, self.lent(), |state, row| proved::flat_row(self.data, state, row))
+        self.each_row(CALLED, self.lent(), |state, row| proved::flat_row(self.data, state, row).is_ok())
     }
 
     /// The same subnet by subnet.
     pub fn subnet_calls(&self) -> proved::State {
-        self.each_row(CALLED, self.lent(), |state, row| proved::subnet_row(self.data, state, &self.order, row))
+        self.each_row(CALLED, self.lent(), |state, row| proved::subnet_row(self.data, state, &self.order, row).is_ok())
     }
 
     /// The fresh state, as it is lent to a proved call.

@@ -1,195 +1,10 @@
-//! The library called from Rust: its functions declared, wrapped into safe ones on slices, and tried on bench card A.
+//! The library called from Rust, through its safe functions on slices: bench card A, refusals of each function, and the round trip.
 
-mod extern_c {
-    extern "C" {
-        pub fn net_check(card: *const u8, card_bytes: usize, counts: *mut usize, value: *mut usize) -> u64;
-        pub fn net_flatten(card: *const u8, card_bytes: usize, out: *mut u8, out_bytes: usize, value: *mut usize) -> u64;
-        pub fn net_write(
-            version: u16,
-            signals: u16,
-            subnets: *const u16,
-            subnets_size: usize,
-            places: *const u16,
-            places_size: usize,
-            transitions: *const u16,
-            transitions_size: usize,
-            arcs: *const u16,
-            arcs_size: usize,
-            out: *mut u8,
-            out_bytes: usize,
-            value: *mut usize,
-        ) -> u64;
-        pub fn net_fresh(
-            card: *const u8,
-            card_bytes: usize,
-            markings: *mut u32,
-            places: usize,
-            transfers: *mut u16,
-            transitions: usize,
-            degrees: *mut u16,
-            signals: usize,
-            value: *mut usize,
-        ) -> u64;
-        pub fn net_flat_row(
-            card: *const u8,
-            card_bytes: usize,
-            markings: *mut u32,
-            places: usize,
-            transfers: *mut u16,
-            transitions: usize,
-            degrees: *mut u16,
-            signals: usize,
-            row: *const u16,
-            row_size: usize,
-            value: *mut usize,
-        ) -> u64;
-        pub fn net_subnet_row(
-            card: *const u8,
-            card_bytes: usize,
-            markings: *mut u32,
-            places: usize,
-            transfers: *mut u16,
-            transitions: usize,
-            degrees: *mut u16,
-            signals: usize,
-            order: *const u16,
-            order_size: usize,
-            row: *const u16,
-            row_size: usize,
-            value: *mut usize,
-        ) -> u64;
-    }
-}
+#[allow(dead_code)]
+#[path = "../../crates/net_runner/net_runner.rs"]
+mod net_runner;
 
-const IDLE: u16 = 65535;
-
-/// A refusal's number, and its bit, signal, place or length; 0 where it has none.
-#[derive(Debug, PartialEq)]
-struct Refusal(u64, usize);
-
-#[derive(Clone, Debug, PartialEq)]
-struct State {
-    markings: Vec<u32>,
-    transfers: Vec<u16>,
-    degrees: Vec<u16>,
-}
-
-struct Tables {
-    version: u16,
-    signals: u16,
-    subnets: Vec<[u16; 4]>,
-    places: Vec<[u16; 3]>,
-    transitions: Vec<[u16; 2]>,
-    arcs: Vec<[u16; 4]>,
-}
-
-/// The value that a call wrote, or its refusal.
-fn answer(number: u64, value: usize) -> Result<usize, Refusal> {
-    if number == 0 {
-        Ok(value)
-    } else {
-        Err(Refusal(number, value))
-    }
-}
-
-// A slice is lent as its pointer and length, a mutable one borrows no other argument, and an empty one has a pointer too: all that the header
-// asks for. So the wrappers are safe for every argument.
-
-fn check(card: &[u8], counts: &mut [usize; 4]) -> Result<usize, Refusal> {
-    let mut value = usize::MAX;
-    let number = unsafe { extern_c::net_check(card.as_ptr(), card.len(), counts.as_mut_ptr(), &mut value) };
-    answer(number, value)
-}
-
-fn flatten(card: &[u8], out: &mut [u8]) -> Result<usize, Refusal> {
-    let mut value = usize::MAX;
-    let number = unsafe { extern_c::net_flatten(card.as_ptr(), card.len(), out.as_mut_ptr(), out.len(), &mut value) };
-    answer(number, value)
-}
-
-fn write(tables: &Tables, out: &mut [u8]) -> Result<usize, Refusal> {
-    let (subnets, places) = (tables.subnets.concat(), tables.places.concat());
-    let (transitions, arcs) = (tables.transitions.concat(), tables.arcs.concat());
-    let mut value = usize::MAX;
-    let number = unsafe {
-        extern_c::net_write(
-            tables.version,
-            tables.signals,
-            subnets.as_ptr(),
-            subnets.len(),
-            places.as_ptr(),
-            places.len(),
-            transitions.as_ptr(),
-            transitions.len(),
-            arcs.as_ptr(),
-            arcs.len(),
-            out.as_mut_ptr(),
-            out.len(),
-            &mut value,
-        )
-    };
-    answer(number, value)
-}
-
-fn fresh(card: &[u8], state: &mut State) -> Result<usize, Refusal> {
-    let mut value = usize::MAX;
-    let number = unsafe {
-        extern_c::net_fresh(
-            card.as_ptr(),
-            card.len(),
-            state.markings.as_mut_ptr(),
-            state.markings.len(),
-            state.transfers.as_mut_ptr(),
-            state.transfers.len(),
-            state.degrees.as_mut_ptr(),
-            state.degrees.len(),
-            &mut value,
-        )
-    };
-    answer(number, value)
-}
-
-fn flat_row(card: &[u8], state: &mut State, row: &[u16]) -> Result<usize, Refusal> {
-    let mut value = usize::MAX;
-    let number = unsafe {
-        extern_c::net_flat_row(
-            card.as_ptr(),
-            card.len(),
-            state.markings.as_mut_ptr(),
-            state.markings.len(),
-            state.transfers.as_mut_ptr(),
-            state.transfers.len(),
-            state.degrees.as_mut_ptr(),
-            state.degrees.len(),
-            row.as_ptr(),
-            row.len(),
-            &mut value,
-        )
-    };
-    answer(number, value)
-}
-
-fn subnet_row(card: &[u8], state: &mut State, order: &[u16], row: &[u16]) -> Result<usize, Refusal> {
-    let mut value = usize::MAX;
-    let number = unsafe {
-        extern_c::net_subnet_row(
-            card.as_ptr(),
-            card.len(),
-            state.markings.as_mut_ptr(),
-            state.markings.len(),
-            state.transfers.as_mut_ptr(),
-            state.transfers.len(),
-            state.degrees.as_mut_ptr(),
-            state.degrees.len(),
-            order.as_ptr(),
-            order.len(),
-            row.as_ptr(),
-            row.len(),
-            &mut value,
-        )
-    };
-    answer(number, value)
-}
+use net_runner::{check, flat_row, flatten, fresh, subnet_row, write, Refusal, State, Tables, IDLE};
 
 /// Bench card A of the paper.
 const BENCH: [u8; 29] = [
@@ -201,10 +16,10 @@ fn bench_tables() -> Tables {
     Tables {
         version: 1,
         signals: 2,
-        subnets: vec![[0, 0, 1, 1], [0, 0, 2, 1]],
-        places: vec![[0, 1, 1], [1, 1, 0], [0, 2, 0]],
-        transitions: vec![[0, 2], [1, 2]],
-        arcs: vec![[0, 0, 0, 1], [1, 1, 0, 1], [0, 1, 0, 1], [1, 1, 1, 1]],
+        subnets: vec![0, 0, 1, 1, 0, 0, 2, 1],
+        places: vec![0, 1, 1, 1, 1, 0, 0, 2, 0],
+        transitions: vec![0, 2, 1, 2],
+        arcs: vec![0, 0, 0, 1, 1, 1, 0, 1, 0, 1, 0, 1, 1, 1, 1, 1],
     }
 }
 
