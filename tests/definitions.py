@@ -19,7 +19,6 @@ import cards
 import net
 
 SIZES = {"most_subnets": 3, "most_rows": 3, "most_signals": 3}
-LAYERS = ("card", "hierarchy", "runners", "programs")
 # What `rt check` leaves of them: layers that have not changed since are not proved again.
 PROVED = ("log", "rlib", "stamp")
 
@@ -28,6 +27,12 @@ CARDS = {"accepted": 12, **{number: 2 for number in range(1, 17)}}
 CALLS = {"ok": 12, 20: 3, 21: 3, 22: 6, 23: 3, 25: 8}
 TABLES = {"wrote": 3, 17: 6, 24: 3, **{number: 1 for number in (2, 3, 4, 5, 7, 8, 10, 12, 14)}}
 TRIES = 100000
+
+
+def layers():
+    """The crates that the definitions stand in: `programs` and those that crates.txt puts below it."""
+    below = re.search(r"^programs: (.*)$", (root / "crates.txt").read_text(), re.M).group(1)
+    return [*below.split(), "programs"]
 
 
 def listed(items):
@@ -220,14 +225,14 @@ def main():
                   for s in sample(rng, make, wanted)]
     with tempfile.TemporaryDirectory() as folder:
         copy = pathlib.Path(folder)
-        for layer in LAYERS:
+        for layer in layers():
             shutil.copytree(root / "crates" / layer, copy / "crates" / layer)
         shutil.copy(root / "crates.txt", copy)
         for part in PROVED:
             if (root / "target" / part).is_dir():
                 shutil.copytree(root / "target" / part, copy / "target" / part)
         with open(copy / "crates.txt", "a") as listing:
-            listing.write("computed: card hierarchy runners programs\n")
+            listing.write(f"computed: {' '.join(layers())}\n")
         for part in ("src", "specs", "proofs"):
             (copy / "crates/computed" / part).mkdir(parents=True)
         (copy / "crates/computed/src/lib.rt").write_text("pub enum Computed {\n    Case,\n}\n")

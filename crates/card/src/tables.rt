@@ -7,7 +7,7 @@ use crate::layout::subnet_fields;
 use crate::layout::transition_fields;
 use crate::layout::transition_width;
 ghost use mathlib.Core.Path.{_≡_};
-ghost use Prim.Native.Nat.{_+_, _*_, _≤_};
+ghost use Prim.Native.Nat.{_+_, _*_, _≤_, _<_};
 ghost use lib.ListN.{getD};
 ghost use Rattle.card.specs.Index.{placeField, arcField, subnetBitStart, firstPlaceStart, firstTransitionStart, transitionRowStart, transitionBitStart};
 ghost use Rattle.card.specs.Format.{size};
@@ -47,6 +47,16 @@ fn arc_number(numbers: &[u16], row: u32, j: u16, k: u16) -> u16
     ensures { λ r. ⌜ r ≡ getD (now (numbers .entry)) (arcField row j k) 0 ⌝ }
 {
     number_at(numbers, arc_start(row, j) + k as usize)
+}
+
+// A number as one of 16 bits: 0 for a larger one, which no count and no number of a row is.
+pub fn narrow(n: usize) -> u16
+    ensures { λ r. ⌜ (n < 65536 → r ≡ n) × (65536 ≤ n → r ≡ 0) ⌝ }
+{
+    if n < 65536 {
+        return n as u16;
+    }
+    0
 }
 
 // The card's version, and how many signals there are.

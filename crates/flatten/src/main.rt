@@ -1,10 +1,10 @@
 // Reads a card from standard input and writes the flat card's bytes; of a refused card, one line: no, number, position. Of a longer input
 // the first 33,027 bytes decide (long-input in card/proofs/LongInput.antt), so no more are read.
+use flattening::flatten;
 use hierarchy::Written;
 use hierarchy::fault_number;
 use libc::STDIN_FILENO;
 use libc::STDOUT_FILENO;
-use runners::flat::flatten;
 
 fn put_refusal(number: u64, value: usize) {
     io::write_all(STDOUT_FILENO, b"no ");

@@ -19,13 +19,14 @@ use Rattle.card.proofs.Sums.{map-length}
 use Rattle.hierarchy.specs.Conditions.{Meets}
 use Rattle.hierarchy.specs.Judgement.{Judgement, accepted, refused, judge}
 use Rattle.hierarchy.proofs.Accepted.{accepted-meets}
+use Rattle.flattening.specs.Flattening.{flatten, flatPlaceRow}
 use Rattle.runners.specs.Numbers.{RowOutcome, rowOutcome, refusal}
-use Rattle.runners.specs.Flattening.{flatten, flatPlaceRow}
 use Rattle.runners.specs.State.{NetState, entry, fresh}
 use Rattle.runners.specs.Step.{next}
 use Rattle.runners.specs.Rows.{settle, rowRefusal}
 use Rattle.runners.specs.Calls.{view, slot, store, blank, freshLent, consistent, valid, eachOnce, called, flatCall, subnetCall}
-use Rattle.runners.specs.Boards.{Counts, slotAt}
+use Rattle.runners.specs.Columns.{codeOf, transferOf}
+use Rattle.runners.specs.inner.Storing.{Counts, slotAt}
 use Rattle.runners.specs.declared.Transfer.{Transfer}
 use Rattle.runners.specs.declared.Transfer.the-variants.{Idle, Carrying}
 use Rattle.runners.specs.declared.Slot.{Slot}
@@ -33,13 +34,13 @@ use Rattle.runners.specs.declared.State.{State as Lent}
 use Rattle.runners.specs.declared.Refusal.{Refusal}
 use Rattle.runners.specs.declared.Refusal.the-variants.{BadCard, BadState, BadOrder, BadRow, BadDegree, Conflict}
 use Rattle.runners.specs.Answers.{IsRow}
-use Rattle.runners.specs.declared.row.RowAnswer.{RowAnswer}
+use Rattle.runners.specs.declared.RowAnswer.{RowAnswer}
 use Rattle.runners.specs.declared.Reply.the-variants.{Ok, No}
 use Rattle.runners.proofs.StateLaws.{Sized, fits-is, next-sized, fresh-sized}
 use Rattle.runners.proofs.TraceLaws.{view-store}
 use Rattle.runners.proofs.TransferLaws.{slot-at}
 use Rattle.net_runner.specs.Told.{rowTold, IsTold}
-use Rattle.net_runner.specs.Slices.{IsCalled, Slices, slices, transferFrom, numberFor, stateOf, slicesOf, sized, validOn, freshIn, freshOn, calledIn, flatOn, subnetOn}
+use Rattle.net_runner.specs.Slices.{IsCalled, Slices, slices, stateOf, slicesOf, sized, validOn, freshIn, freshOn, calledIn, flatOn, subnetOn}
 use Rattle.net_runner.specs.Copies.{Fits, Lends, takenBack, handedBack, tooLong}
 
 -- numbers copied to the front of an array
@@ -51,22 +52,16 @@ pub front : (xs ys m : List ℕ) → length xs ≤ length ys → m ≡ putInto x
 front xs ys m l e = ap (take (length xs)) (e ∙ put-is xs ys l) ∙ take-at xs (drop (length xs) ys) (length xs) refl
 
 -- transfers of an array
-pub from-idle : (n : ℕ) → n ≡ 65535 → Idle ≡ transferFrom n
-from-idle n e = rw (eq-eqb n 65535 e)
-
-pub from-carrying : (n : ℕ) → (n ≡ 65535 → ⊥) → Carrying n ≡ transferFrom n
-from-carrying n d = rw (ne-eqb n 65535 d)
-
 abbrev pub SlotsTo : (ts : List ℕ) → (k : ℕ) → List Slot → Type 0
-SlotsTo ts k slots = (t : ℕ) → t < k → slotAt slots t ≡ transferFrom (entry ts t)
+SlotsTo ts k slots = (t : ℕ) → t < k → slotAt slots t ≡ transferOf (entry ts t)
 
 pub slots-start : (ts : List ℕ) (slots : List Slot) → SlotsTo ts 0 slots
 slots-start ts slots t b = absurd (omega arith)
 
-pub slots-more : (ts : List ℕ) (k : ℕ) (y : Transfer) (a : List Slot) → k < length a → y ≡ transferFrom (entry ts k) → SlotsTo ts k a → SlotsTo ts (k + 1) (set a k (slot y))
+pub slots-more : (ts : List ℕ) (k : ℕ) (y : Transfer) (a : List Slot) → k < length a → y ≡ transferOf (entry ts k) → SlotsTo ts k a → SlotsTo ts (k + 1) (set a k (slot y))
 slots-more ts k y a b e h t d = go (lt-or-ge t k)
   where
-    go : (t < k) ⊎ (k ≤ t) → slotAt (set a k (slot y)) t ≡ transferFrom (entry ts t)
+    go : (t < k) ⊎ (k ≤ t) → slotAt (set a k (slot y)) t ≡ transferOf (entry ts t)
     go (inl q) =
         slot-at (set a k (slot y)) t ∙ ap (λ (x : Slot). x .transfer) (getD-set-other a k t (slot y) (slot Idle) (λ z. omega arith)) ∙ sym (slot-at a t) ∙ h t q
     go (inr q) =
@@ -78,16 +73,16 @@ zero-or [] i b = absurd (omega arith)
 zero-or (x ∷ xs) zero b = refl
 zero-or (x ∷ xs) (suc i) b = zero-or xs i (omega arith)
 
-pub slots-all : (ts : List ℕ) (k : ℕ) (slots : List Slot) → length ts ≤ k → length slots ≡ 255 → length ts ≤ 255 → SlotsTo ts k slots → take (length ts) (map (λ x. x .transfer) slots) ≡ map transferFrom ts
+pub slots-all : (ts : List ℕ) (k : ℕ) (slots : List Slot) → length ts ≤ k → length slots ≡ 255 → length ts ≤ 255 → SlotsTo ts k slots → take (length ts) (map (λ x. x .transfer) slots) ≡ map transferOf ts
 slots-all ts k slots l long few h =
-    ext-getD Idle (take (length ts) (map (λ (x : Slot). x .transfer) slots)) (map transferFrom ts) (size ∙ sym (map-length transferFrom ts))
+    ext-getD Idle (take (length ts) (map (λ (x : Slot). x .transfer) slots)) (map transferOf ts) (size ∙ sym (map-length transferOf ts))
     (λ i b. getD-take (length ts) (map (λ (x : Slot). x .transfer) slots) i Idle (omega (arith, size)) ∙ h i (omega (arith, size)) ∙ sym (at i (omega (arith, size))))
   where
     size : length (take (length ts) (map (λ (x : Slot). x .transfer) slots)) ≡ length ts
     size = length-take-le (length ts) (map (λ (x : Slot). x .transfer) slots) (omega (arith, map-length (λ (x : Slot). x .transfer) slots))
 
-    at : (i : ℕ) → i < length ts → getD (map transferFrom ts) i Idle ≡ transferFrom (entry ts i)
-    at i b = List·getD-map transferFrom ts i 65535 ∙ ap transferFrom (sym (zero-or ts i b))
+    at : (i : ℕ) → i < length ts → getD (map transferOf ts) i Idle ≡ transferOf (entry ts i)
+    at i b = List·getD-map transferOf ts i 65535 ∙ ap transferOf (sym (zero-or ts i b))
 
 -- numbers put into a slice of their length
 module _ (want out : List ℕ) (e : length want ≡ length out) where
@@ -105,7 +100,7 @@ module _ (want out : List ℕ) (e : length want ≡ length out) where
       ∙ front want out (putInto want out) (omega arith) refl
 
 -- the lent state that slices make
-pub lends : (ms ts ds m d : List ℕ) (s : List Slot) → Fits (slices ms ts ds) → m ≡ putInto ms (replicate 255 0) → take (length ts) (map (λ x. x .transfer) s) ≡ map transferFrom ts → d ≡ putInto ds (replicate 63 0)
+pub lends : (ms ts ds m d : List ℕ) (s : List Slot) → Fits (slices ms ts ds) → m ≡ putInto ms (replicate 255 0) → take (length ts) (map (λ x. x .transfer) s) ≡ map transferOf ts → d ≡ putInto ds (replicate 63 0)
     → Lends (slices ms ts ds) (record { markings = m; slots = s; degrees = d; places = length ms; transitions = length ts; signals = length ds })
 lends ms ts ds m d s f em es ed =
     record {
@@ -116,7 +111,7 @@ lends ms ts ds m d s f em es ed =
       signals = refl;
     }
   where
-    same : (a : List ℕ) (b : List Transfer) (c : List ℕ) → a ≡ ms → b ≡ map transferFrom ts → c ≡ ds → _≡_ {A = NetState} (record { markings = a; transfers = b; degrees = c }) (stateOf (slices ms ts ds))
+    same : (a : List ℕ) (b : List Transfer) (c : List ℕ) → a ≡ ms → b ≡ map transferOf ts → c ≡ ds → _≡_ {A = NetState} (record { markings = a; transfers = b; degrees = c }) (stateOf (slices ms ts ds))
     same a b c ea eb ec = rw (ea, eb, ec)
 
 -- what is handed back
@@ -297,16 +292,16 @@ unfolding subnetOn
 subnet-long card order x row n = called-long (λ c. eachOnce (length (c .subnets)) order) card x row n
 
 -- the numbers of transfers
-pub numbers-long : (slots : List Slot) (n : ℕ) → n ≤ length slots → length (map numberFor (take n (map (λ x. x .transfer) slots))) ≡ n
+pub numbers-long : (slots : List Slot) (n : ℕ) → n ≤ length slots → length (map codeOf (take n (map (λ x. x .transfer) slots))) ≡ n
 numbers-long slots n l =
-    map-length numberFor (take n (map (λ (x : Slot). x .transfer) slots))
+    map-length codeOf (take n (map (λ (x : Slot). x .transfer) slots))
     ∙ length-take-le n (map (λ (x : Slot). x .transfer) slots) (omega (arith, map-length (λ (x : Slot). x .transfer) slots))
 
-pub numbers-at : (slots : List Slot) (n i : ℕ) → i < n → n ≤ length slots → getD (map numberFor (take n (map (λ x. x .transfer) slots))) i 0 ≡ numberFor ((getD slots i (slot Idle)) .transfer)
+pub numbers-at : (slots : List Slot) (n i : ℕ) → i < n → n ≤ length slots → getD (map codeOf (take n (map (λ x. x .transfer) slots))) i 0 ≡ codeOf ((getD slots i (slot Idle)) .transfer)
 numbers-at slots n i b l =
-    zero-or (map numberFor (take n (map (λ (x : Slot). x .transfer) slots))) i (omega (arith, numbers-long slots n l))
-    ∙ List·getD-map numberFor (take n (map (λ (x : Slot). x .transfer) slots)) i Idle
-    ∙ ap numberFor (getD-take n (map (λ (x : Slot). x .transfer) slots) i Idle b ∙ slot-at slots i)
+    zero-or (map codeOf (take n (map (λ (x : Slot). x .transfer) slots))) i (omega (arith, numbers-long slots n l))
+    ∙ List·getD-map codeOf (take n (map (λ (x : Slot). x .transfer) slots)) i Idle
+    ∙ ap codeOf (getD-take n (map (λ (x : Slot). x .transfer) slots) i Idle b ∙ slot-at slots i)
 
 -- the answer of a row call
 pub called-ok : (a : RowAnswer) (x : RowOutcome × Lent) → IsRow x a → a .reply ≡ Ok → (y : Slices) (r v : ℕ) (ms ts ds : List ℕ) → IsCalled (handedBack (RowOutcome.ok, a .state) y) r v ms ts ds → IsCalled (handedBack x y) r v ms ts ds

@@ -15,10 +15,10 @@ use Rattle.hierarchy.specs.declared.Answer.{Answer}
 use Rattle.hierarchy.specs.declared.Answer.the-variants.{Accepted, Refused}
 use Rattle.hierarchy.specs.declared.check.CheckedCard.{CheckedCard}
 use Rattle.hierarchy.proofs.Accepted.{accepted-meets}
+use Rattle.flattening.specs.Flattening.{flatten, flatPlaceRow}
 use Rattle.runners.specs.Numbers.{RowOutcome, refusal}
-use Rattle.runners.specs.Flattening.{flatten, flatPlaceRow}
 use Rattle.runners.specs.Calls.{freshLent, freshOf, freshCall}
-use Rattle.runners.specs.Freshness.{IsFresh}
+use Rattle.runners.specs.Answers.{IsFresh}
 use Rattle.runners.specs.declared.Refusal.the-variants.{BadCard, BadState}
 use Rattle.runners.specs.declared.State.{State as Lent}
 use Rattle.runners.specs.declared.fresh.FreshState.{FreshState}

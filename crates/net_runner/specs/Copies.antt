@@ -10,7 +10,8 @@ use Rattle.runners.specs.Calls.{view}
 use Rattle.runners.specs.declared.State.{State as Lent}
 use Rattle.runners.specs.declared.Refusal.the-variants.{BadState}
 use Rattle.runners.specs.declared.Reply.the-variants.{No}
-use Rattle.net_runner.specs.Slices.{Slices, numberFor, stateOf}
+use Rattle.runners.specs.Columns.{codeOf}
+use Rattle.net_runner.specs.Slices.{Slices, stateOf}
 
 -- no more entries than a lent state has
 pub record Fits (x : Slices) : Type 0 where
@@ -30,7 +31,7 @@ abbrev pub takenBack : Lent → Slices → Slices
 takenBack l x =
     record {
       markings = take (length (x .markings)) (l .markings);
-      transfers = map numberFor (take (length (x .transfers)) (map (λ y. y .transfer) (l .slots)));
+      transfers = map codeOf (take (length (x .transfers)) (map (λ y. y .transfer) (l .slots)));
       degrees = take (length (x .degrees)) (l .degrees);
     }
 

@@ -1,7 +1,7 @@
 -- A state that is lent as three slices of numbers, and the calls on it: those of the runners, with the same tests in the same order.
 use Prim.Native.Nat.{ℕ}
 use mathlib.Core.Path.{_≡_}
-use mathlib.Core.Bool.{Bool, true, _&&_, cond}
+use mathlib.Core.Bool.{Bool, true, _&&_}
 use mathlib.Core.List.{List, map}
 use mathlib.Core.Option.{some}
 use lib.ListN.{length}
@@ -9,14 +9,13 @@ use lib.Dec.{eqb}
 use Rattle.card.specs.Finite.{someUnless, _otherwise_}
 use Rattle.card.specs.Card.{Card}
 use Rattle.hierarchy.specs.Judgement.{Judgement, accepted, refused, judge}
+use Rattle.flattening.specs.Flattening.{flatten}
 use Rattle.runners.specs.Numbers.{RowOutcome}
-use Rattle.runners.specs.Flattening.{flatten}
 use Rattle.runners.specs.State.{NetState, fresh}
 use Rattle.runners.specs.Step.{next}
 use Rattle.runners.specs.Rows.{settle, rowRefusal}
 use Rattle.runners.specs.Calls.{consistent, eachOnce}
-use Rattle.runners.specs.declared.Transfer.{Transfer}
-use Rattle.runners.specs.declared.Transfer.the-variants.{Idle, Carrying}
+use Rattle.runners.specs.Columns.{codeOf, transferOf}
 use Rattle.runners.specs.declared.Refusal.the-variants.{BadState, BadOrder}
 use Rattle.net_runner.specs.Told.{rowTold, IsTold}
 
@@ -29,19 +28,12 @@ pub record Slices : Type 0 where
 abbrev pub slices : (markings transfers degrees : List ℕ) → Slices
 slices ms ts ds = record { markings = ms; transfers = ts; degrees = ds }
 
--- An idle transition is 65535, and a carrying one its progress, so that a progress of 0 is not idle.
-abbrev pub transferFrom : ℕ → Transfer
-transferFrom n = cond (eqb n 65535) Idle (Carrying n)
-
-abbrev pub numberFor : Transfer → ℕ
-numberFor Idle = 65535
-numberFor (Carrying c) = c
-
+-- an idle transition is 65535, and a carrying one its progress, so that a progress of 0 is not idle
 abbrev pub stateOf : Slices → NetState
-stateOf x = record { markings = x .markings; transfers = map transferFrom (x .transfers); degrees = x .degrees }
+stateOf x = record { markings = x .markings; transfers = map transferOf (x .transfers); degrees = x .degrees }
 
 abbrev pub slicesOf : NetState → Slices
-slicesOf s = record { markings = s .markings; transfers = map numberFor (s .transfers); degrees = s .degrees }
+slicesOf s = record { markings = s .markings; transfers = map codeOf (s .transfers); degrees = s .degrees }
 
 -- 25 a lent state that breaks a range or length, or has owed > m or m + due > 1000 × K somewhere
 unfoldable pub sized : Card → Slices → Bool

@@ -4,10 +4,12 @@ use hierarchy::Answer;
 use hierarchy::check::check;
 use runners::Refusal;
 use runners::Reply;
+use runners::RowAnswer;
 use runners::Slot;
 use runners::State;
 use runners::Transfer;
-use runners::row::RowAnswer;
+use runners::codes::code_of;
+use runners::codes::transfer_of;
 ghost use mathlib.Core.Path.{_≡_};
 ghost use mathlib.Core.List.{map};
 ghost use mathlib.Core.Logic.{_↔_};
@@ -17,10 +19,11 @@ ghost use lib.ListN.{length, take, replicate};
 ghost use Rattle.card.specs.Spelling.{putInto};
 ghost use Rattle.hierarchy.specs.Judgement.{judge};
 ghost use Rattle.runners.specs.Numbers.{RowOutcome};
+ghost use Rattle.runners.specs.Columns.{codeOf, transferOf};
 ghost use Rattle.runners.specs.Answers.{IsRow};
 ghost use Rattle.runners.specs.declared.State.{State as Lent};
 ghost use Rattle.net_runner.specs.Told.{rowTold, IsTold};
-ghost use Rattle.net_runner.specs.Slices.{slices, transferFrom, numberFor, IsCalled};
+ghost use Rattle.net_runner.specs.Slices.{slices, IsCalled};
 ghost use Rattle.net_runner.specs.Copies.{Fits, Lends, handedBack, tooLong};
 
 fn load_markings(markings: &[u32]) -> [u32; 255]
@@ -53,17 +56,8 @@ fn load_degrees(degrees: &[u16]) -> [u16; 63]
     all
 }
 
-fn transfer_from(n: u16) -> Transfer
-    ensures { λ r. ⌜ r ≡ transferFrom n ⌝ }
-{
-    if n == 65535 {
-        return Transfer::Idle;
-    }
-    Transfer::Carrying(n)
-}
-
 fn load_slots(transfers: &[u16]) -> [Slot; 255]
-    ensures { λ r. ⌜ (length (now (transfers .entry)) ≤ 255 → take (length (now (transfers .entry))) (map (λ x. x .transfer) r) ≡ map transferFrom (now (transfers .entry))) ⌝ }
+    ensures { λ r. ⌜ (length (now (transfers .entry)) ≤ 255 → take (length (now (transfers .entry))) (map (λ x. x .transfer) r) ≡ map transferOf (now (transfers .entry))) ⌝ }
 {
     let mut all = [Slot {
         transfer: Transfer::Idle,
@@ -73,7 +67,7 @@ fn load_slots(transfers: &[u16]) -> [Slot; 255]
         if 255 <= i {
             return all;
         }
-        let transfer = transfer_from(transfers[i]);
+        let transfer = transfer_of(transfers[i]);
         all[i] = Slot { transfer };
         i += 1;
     }
@@ -136,17 +130,8 @@ fn put_degrees(state: State, out: &mut [u16])
     }
 }
 
-fn number_for(transfer: Transfer) -> u16
-    ensures { λ r. ⌜ r ≡ numberFor transfer ⌝ }
-{
-    match transfer {
-        Transfer::Idle => 65535,
-        Transfer::Carrying(c) => c,
-    }
-}
-
 fn put_transfers(state: State, out: &mut [u16])
-    ensures { λ r. ⌜ (length (now (out .entry)) ≤ 255 → now (out .exit) ≡ map numberFor (take (length (now (out .entry))) (map (λ x. x .transfer) (state .slots)))) ⌝ }
+    ensures { λ r. ⌜ (length (now (out .entry)) ≤ 255 → now (out .exit) ≡ map codeOf (take (length (now (out .entry))) (map (λ x. x .transfer) (state .slots)))) ⌝ }
 {
     let mut i: usize = 0;
     while i < out.len() {
@@ -155,7 +140,7 @@ fn put_transfers(state: State, out: &mut [u16])
         }
         let slot = state.slots[i];
         let transfer = slot.transfer;
-        out[i] = number_for(transfer);
+        out[i] = code_of(transfer);
         i += 1;
     }
 }

@@ -4,6 +4,7 @@ mod lending;
 mod told;
 
 use card::tables::signals;
+use flattening::flatten;
 use hierarchy::Answer;
 use hierarchy::check::load;
 use hierarchy::write::write;
@@ -13,17 +14,16 @@ use lending::hand_back;
 use lending::lent;
 use lending::too_long;
 use runners::Refusal;
-use runners::flat::flatten;
+use runners::flat_runner::flat_row;
 use runners::fresh::fresh;
-use runners::row::flat_row;
-use runners::row::subnet_row;
+use runners::subnet_runner::subnet_row;
 use told::answer_told;
 use told::refuse;
 use told::written_told;
 ghost use mathlib.Core.Path.{_≡_};
 ghost use Rattle.hierarchy.specs.Judgement.{judge, answer};
 ghost use Rattle.hierarchy.specs.Output.{writeRows};
-ghost use Rattle.runners.specs.Calls.{flattenCall};
+ghost use Rattle.flattening.specs.Flattening.{flattenCall};
 ghost use Rattle.net_runner.specs.Told.{checkTold, countsTold, IsTold, IsPut};
 ghost use Rattle.net_runner.specs.Slices.{slices, freshOn, flatOn, subnetOn, IsCalled};
 

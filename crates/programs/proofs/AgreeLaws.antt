@@ -23,17 +23,16 @@ use Rattle.hierarchy.specs.Numbers.{checkOutcome}
 use Rattle.hierarchy.specs.declared.CardFault.{CardFault}
 use Rattle.hierarchy.specs.declared.Answer.the-variants.{Accepted, Refused}
 use Rattle.hierarchy.proofs.Accepted.{accepted-meets}
-use Rattle.runners.proofs.Agreement.{agreement}
+use Rattle.flattening.specs.Flattening.{flatten}
+use Rattle.runners.proofs.Agreement.{demand-3}
 use Rattle.runners.specs.Numbers.{RowOutcome, ok, refused}
 use Rattle.runners.specs.State.{NetState, entry}
 use Rattle.runners.specs.Rows.{rowOf}
 use Rattle.runners.specs.Calls.{view, freshLent, freshCall, flatCall, subnetCall}
 use Rattle.runners.specs.Traces.{Call, trace, observed}
-use Rattle.runners.specs.Answers.{IsRow}
+use Rattle.runners.specs.Answers.{IsRow, IsFresh}
 use Rattle.programs.specs.Files.{fileRow}
-use Rattle.runners.specs.Freshness.{IsFresh}
-use Rattle.runners.specs.Flattening.{flatten}
-use Rattle.runners.specs.Boards.{slotAt}
+use Rattle.runners.specs.inner.Storing.{slotAt}
 use Rattle.programs.specs.Agreeing.{codeOf, progressCode, degreeCount, degreesOr, rowSize, callSize, callOf, callAt, callsOf, Agrees, IsBoth, IsAgreed}
 use Rattle.runners.specs.declared.Transfer.{Transfer}
 use Rattle.runners.specs.declared.Transfer.the-variants.{Idle, Carrying}
@@ -41,7 +40,7 @@ use Rattle.runners.specs.declared.State.{State as Lent}
 use Rattle.programs.specs.declared.same.Code.{Code}
 use Rattle.programs.specs.declared.agree.Both.{Both}
 use Rattle.programs.specs.declared.file.FileRow.{FileRow}
-use Rattle.runners.specs.declared.row.RowAnswer.{RowAnswer}
+use Rattle.runners.specs.declared.RowAnswer.{RowAnswer}
 use Rattle.runners.specs.declared.fresh.FreshState.{FreshState}
 use Rattle.runners.specs.Numbers.{rowOutcome}
 
@@ -360,16 +359,16 @@ module _ (card file : List ℕ) (f : FreshState) (h : IsFresh (freshCall card) f
         let z : checkOutcome (Accepted s p t) ≡ outcomeOf (accepted c) = sym (ap checkOutcome e) ∙ rw q at (h .answer) in
         cc
 
-    state-is : (c : Card) → judge card ≡ accepted c → f .state ≡ freshLent (flatten c)
-    unfolding freshCall
-    state-is c q = rw q at (h .state)
-
     accepted-here : (n at : ℕ) → judge card ≡ Judgement.refused n at → ⊥
     unfolding freshCall
     accepted-here n at q =
         let z : checkOutcome (Accepted s p t) ≡ outcomeOf (Judgement.refused n at) = sym (ap checkOutcome e) ∙ rw q at (h .answer) in
         let y : _≡_ {A = ℕ} 0 1 = cc in
         omega arith
+
+    state-is : (c : Card) → judge card ≡ accepted c → f .state ≡ freshLent (flatten c)
+    unfolding freshCall
+    state-is c q = rw q at (h .state)
 
     signals-are : (c : Card) → judge card ≡ accepted c → f .state .signals ≡ c .signals
     unfolding flatten
@@ -385,7 +384,7 @@ module _ (card file : List ℕ) (f : FreshState) (h : IsFresh (freshCall card) f
             n (omega (arith, counts c q, w .someSubnets)) (omega (arith, counts c q, w .fewSubnets)) (omega (arith, signals-are c q, w .fewSignals))
 
     pub agreed-is : (r : Bool) → ((c : Card) → c .signals ≡ f .state .signals → length (c .subnets) ≡ s → (r ≡ true) ↔ Agrees card (f .state) (f .state) (callsOf c file)) → IsAgreed card file r
-    agreed-is r d = record { turnedBack = λ m i q. absurd (accepted-here m i q); exact = exact; always = λ c q o. exact c q .1 (ap (λ xs. map observed xs) (agreement card c (callsOf c file) q o .runners)) }
+    agreed-is r d = record { turnedBack = λ m i q. absurd (accepted-here m i q); exact = exact; always = λ c q o. exact c q .1 (ap (λ xs. map observed xs) (demand-3 .agree card c (callsOf c file) q o .runners)) }
       where
-        exact : (c : Card) → judge card ≡ accepted c → (r ≡ true) ↔ Agrees card (freshLent (flatten c)) (freshLent (flatten c)) (callsOf c file)
-        exact c q = subst (λ (l : Lent). (r ≡ true) ↔ Agrees card l l (callsOf c file)) (state-is c q) (d c (sym (signals-are c q)) (sym (counts c q)))
+        exact : (c : Card) → judge card ≡ accepted c → (r ≡ true) ↔ Agrees card ((freshCall card) .1) ((freshCall card) .1) (callsOf c file)
+        exact c q = subst (λ (l : Lent). (r ≡ true) ↔ Agrees card l l (callsOf c file)) (h .state) (d c (sym (signals-are c q)) (sym (counts c q)))

@@ -12,16 +12,16 @@ use Rattle.card.specs.Writing.{fields, encode, subnetBit, transitionBit, arcBit
 use Rattle.hierarchy.specs.Conditions.{children}
 use Rattle.hierarchy.specs.Check.{seen, directed, weighted, single, hasUnit, hasInterface, alike, likeLower, arcFault, transitionFault, subnetFault, check}
 use Rattle.hierarchy.specs.Judgement.{judge}
-use Rattle.runners.specs.Flattening.{flatten}
+use Rattle.flattening.specs.Flattening.{flatten}
 use Rattle.runners.specs.State.{scale, fresh, incidence, flow, owed, due, covered}
 use Rattle.runners.specs.Step.{allows, candidateOn, candidate, started, conflict, moves, next}
-use Rattle.runners.specs.Rows.{rowRefusal, step, rowOf, pieces}
+use Rattle.runners.specs.Rows.{rowFault, rowRefusal, step, rowOf, pieces}
 use Rattle.programs.specs.Text.{ascii, digits, line}
 use Rattle.programs.specs.Programs.{rowLines, runProgram}
 use Rattle.programs.specs.Cases.{cases, result}
 
 pub starred : map (λ k. result (k .given)) cases ≡ map (λ k. k .expected) cases
-unfolding ascii digits line rowOf pieces rowLines runProgram rowRefusal step allows candidateOn candidate started conflict moves next scale fresh incidence flow owed due covered flatten
+unfolding ascii digits line rowOf pieces rowLines runProgram rowFault rowRefusal step allows candidateOn candidate started conflict moves next scale fresh incidence flow owed due covered flatten
     judge check seen directed weighted single hasUnit hasInterface alike likeLower arcFault transitionFault subnetFault children
     read excess readCard fields encode subnetBit transitionBit arcBit header subnet place transition arc wholeTransition wholeSubnet card each grow size
     firstPlace firstTransition firstArc bit bitField pack sumTo every any firstOf table keep flatMap List.flatten

@@ -11,10 +11,10 @@ use Rattle.card.specs.Bits.{bytesFor}
 use Rattle.card.specs.Card.{Card}
 use Rattle.hierarchy.specs.Judgement.{accepted, judge}
 use Rattle.hierarchy.specs.Judgement
+use Rattle.flattening.specs.Flattening.{flatten}
 use Rattle.runners.specs.Numbers.{RowOutcome, ok, refused}
-use Rattle.runners.specs.Flattening.{flatten}
 use Rattle.runners.specs.Rows.{rowWidth, rowOf}
-use Rattle.runners.specs.Calls.{freshLent, eachOnce, flatCall, subnetCall}
+use Rattle.runners.specs.Calls.{freshCall, eachOnce, flatCall, subnetCall}
 use Rattle.runners.specs.Traces.{Call, flatTrace, subnetTrace, observed}
 use Rattle.runners.specs.declared.Transfer.{Transfer}
 use Rattle.runners.specs.declared.Transfer.the-variants.{Idle, Carrying}
@@ -52,7 +52,7 @@ Agrees card flat subnet calls = map observed (subnetTrace card subnet calls) ≡
 -- orders are valid.
 pub record IsAgreed (card file : List ℕ) (r : Bool) : Type 0 where
   pub turnedBack : (n at : ℕ) → judge card ≡ Judgement.refused n at → r ≡ false
-  pub exact : (c : Card) → judge card ≡ accepted c → (r ≡ true) ↔ Agrees card (freshLent (flatten c)) (freshLent (flatten c)) (callsOf c file)
+  pub exact : (c : Card) → judge card ≡ accepted c → (r ≡ true) ↔ Agrees card ((freshCall card) .1) ((freshCall card) .1) (callsOf c file)
   pub always : (c : Card) → judge card ≡ accepted c → All (λ k. eachOnce (length (c .subnets)) (k .order) ≡ true) (callsOf c file) → r ≡ true
 
 -- a call of both runners, as the code hands it out

@@ -7,17 +7,16 @@ use crate::numbers::number_at;
 use crate::numbers::numbers_in;
 use crate::numbers::wide;
 use crate::states::with_entry;
+use flattening::flatten;
 use hierarchy::Answer;
 use hierarchy::Written;
 use hierarchy::fault_number;
 use libc::STDOUT_FILENO;
 use programs::line::card_line;
 use runners::State;
-use runners::flat::flatten;
+use runners::flat_runner::flat_row;
 use runners::fresh::fresh;
-use runners::row::RowAnswer;
-use runners::row::flat_row;
-use runners::row::subnet_row;
+use runners::subnet_runner::subnet_row;
 
 // The states of the two runners, and the number of the next call.
 pub struct Held {

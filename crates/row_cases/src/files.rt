@@ -2,15 +2,15 @@
 use crate::lines::put_line;
 use crate::numbers::next_number;
 use hierarchy::Answer;
-use programs::feed::FlatNet;
 use programs::feed::file_row;
-use programs::feed::flat_net;
 use programs::file::row_bytes;
 use programs::line::card_line;
 use programs::line::reply_line;
-use runners::Sizes;
+use runners::Net;
 use runners::State;
+use runners::flat_runner::flat_net;
 use runners::fresh::fresh;
+use runners::nets::net_signals;
 ghost use Prim.Native.Nat.{_<_, _≤_};
 ghost use lib.ListN.{length};
 
@@ -25,15 +25,7 @@ fn end_of(bytes: &[u8], at: usize, size: usize) -> usize
     at + size
 }
 
-fn put_rows(
-    numbers: &[u16],
-    starts: &[u32],
-    rows: &[u16],
-    sizes: Sizes,
-    first: State,
-    bytes: &[u8],
-    size: usize,
-)
+fn put_rows(net: Net, first: State, bytes: &[u8], size: usize)
     requires { ⌜ 0 < size ⌝ }
 {
     let mut state = first;
@@ -41,7 +33,7 @@ fn put_rows(
     let mut at: usize = 0;
     while at < bytes.len() {
         let end = end_of(bytes, at, size);
-        let a = file_row(numbers, starts, rows, sizes, state, &bytes[at..end]);
+        let a = file_row(net, state, &bytes[at..end]);
         let reply = a.reply;
         let next = a.state;
         state = next;
@@ -51,14 +43,10 @@ fn put_rows(
     }
 }
 
-fn put_net(net: FlatNet, state: State, bytes: &[u8]) {
-    let numbers = net.numbers;
-    let starts = net.starts;
-    let rows = net.rows;
-    let sizes = net.sizes;
-    let size = row_bytes(sizes.signals);
+fn put_net(net: Net, state: State, bytes: &[u8]) {
+    let size = row_bytes(net_signals(net));
     if 0 < size {
-        put_rows(&numbers, &starts, &rows, sizes, state, bytes, size);
+        put_rows(net, state, bytes, size);
     }
 }
 

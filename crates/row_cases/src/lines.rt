@@ -3,8 +3,8 @@ use libc::STDOUT_FILENO;
 use programs::line::Line;
 use programs::line::reply_line;
 use runners::Reply;
+use runners::RowAnswer;
 use runners::State;
-use runners::row::RowAnswer;
 
 fn put_bytes(bytes: &[u8], n: usize) {
     if n <= bytes.len() {

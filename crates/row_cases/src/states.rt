@@ -1,7 +1,7 @@
 // States with one entry set.
 use runners::Slot;
 use runners::State;
-use runners::Transfer;
+use runners::codes::transfer_of;
 
 // The state, or as it was where the entry is not there. Fields 0 to 2 are the markings, the transfers and the degrees (65,535 is idle), 3 to 5
 // the counts.
@@ -31,21 +31,11 @@ fn with_marking(state: State, at: usize, value: u32) -> State {
     s
 }
 
-fn transfer_of(value: u16) -> Slot {
-    if value == 65535 {
-        return Slot {
-            transfer: Transfer::Idle,
-        };
-    }
-    Slot {
-        transfer: Transfer::Carrying(value),
-    }
-}
-
 fn with_transfer(state: State, at: usize, value: u16) -> State {
     let mut s = state;
     if at < 255 {
-        s.slots[at] = transfer_of(value);
+        let transfer = transfer_of(value);
+        s.slots[at] = Slot { transfer };
         return s;
     }
     s

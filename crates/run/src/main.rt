@@ -6,8 +6,8 @@ mod rows;
 use crate::rows::put_line;
 use crate::rows::put_rows_of;
 use hierarchy::Answer;
-use programs::feed::flat_net;
 use programs::line::card_line;
+use runners::flat_runner::flat_net;
 use runners::fresh::fresh;
 
 fn read_card(card: &mut [u8]) -> usize {

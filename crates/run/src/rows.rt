@@ -2,13 +2,13 @@
 // stays open.
 use libc::STDIN_FILENO;
 use libc::STDOUT_FILENO;
-use programs::feed::FlatNet;
 use programs::feed::file_row;
 use programs::file::row_bytes;
 use programs::line::Line;
 use programs::line::reply_line;
-use runners::Sizes;
+use runners::Net;
 use runners::State;
+use runners::nets::net_signals;
 ghost use mathlib.Core.Path.{_≡_};
 ghost use Prim.Native.Nat.{_<_, _≤_};
 ghost use lib.ListN.{length};
@@ -39,16 +39,9 @@ fn next_number(n: u64) -> u64 {
     n + 1
 }
 
-fn put_row(
-    numbers: &[u16],
-    starts: &[u32],
-    rows: &[u16],
-    sizes: Sizes,
-    p: Progress,
-    bytes: &[u8],
-) -> Progress {
+fn put_row(net: Net, p: Progress, bytes: &[u8]) -> Progress {
     let before = p.state;
-    let a = file_row(numbers, starts, rows, sizes, before, bytes);
+    let a = file_row(net, before, bytes);
     let reply = a.reply;
     let state = a.state;
     put_line(reply_line(p.number, reply, state));
@@ -60,22 +53,14 @@ fn put_row(
 }
 
 // Answers the whole rows, of size bytes each.
-fn put_rows(
-    numbers: &[u16],
-    starts: &[u32],
-    rows: &[u16],
-    sizes: Sizes,
-    p: Progress,
-    bytes: &[u8],
-    size: usize,
-) -> Progress
+fn put_rows(net: Net, p: Progress, bytes: &[u8], size: usize) -> Progress
     requires { ⌜ 0 < size ⌝ }
 {
     let mut q = p;
     let mut at: usize = 0;
     while size <= bytes.len() - at {
         let end = at + size;
-        q = put_row(numbers, starts, rows, sizes, q, &bytes[at..end]);
+        q = put_row(net, q, &bytes[at..end]);
         at = end;
     }
     q.at = at;
@@ -120,30 +105,15 @@ fn to_front(buffer: &mut [u8], from: usize, end: usize) -> usize
     n
 }
 
-fn put_short(
-    numbers: &[u16],
-    starts: &[u32],
-    rows: &[u16],
-    sizes: Sizes,
-    p: Progress,
-    bytes: &[u8],
-) {
+fn put_short(net: Net, p: Progress, bytes: &[u8]) {
     if 0 < bytes.len() {
-        let _end = put_row(numbers, starts, rows, sizes, p, bytes);
+        let _end = put_row(net, p, bytes);
     }
 }
 
 // Ends where the input does: a short row there has its line too. Nothing says that an input ends, so the turns are counted, from a number
 // that no run uses up.
-fn put_all(
-    numbers: &[u16],
-    starts: &[u32],
-    rows: &[u16],
-    sizes: Sizes,
-    state: State,
-    buffer: &mut [u8],
-    size: usize,
-)
+fn put_all(net: Net, state: State, buffer: &mut [u8], size: usize)
     requires { ⌜ 0 < size ⌝ }
 {
     let mut p = Progress {
@@ -156,23 +126,19 @@ fn put_all(
     while 0 < turns {
         let all = read_behind(buffer, have);
         if all == have {
-            put_short(numbers, starts, rows, sizes, p, &buffer[..all]);
+            put_short(net, p, &buffer[..all]);
             return;
         }
-        p = put_rows(numbers, starts, rows, sizes, p, &buffer[..all], size);
+        p = put_rows(net, p, &buffer[..all], size);
         have = to_front(buffer, p.at, all);
         turns -= 1;
     }
 }
 
-pub fn put_rows_of(net: FlatNet, state: State) {
-    let numbers = net.numbers;
-    let starts = net.starts;
-    let rows = net.rows;
-    let sizes = net.sizes;
-    let size = row_bytes(sizes.signals);
+pub fn put_rows_of(net: Net, state: State) {
+    let size = row_bytes(net_signals(net));
     if 0 < size {
         let mut buffer = [0; 65536];
-        put_all(&numbers, &starts, &rows, sizes, state, &mut buffer, size);
+        put_all(net, state, &mut buffer, size);
     }
 }

@@ -32,30 +32,24 @@ use Rattle.hierarchy.specs.declared.Written.{Written}
 use Rattle.hierarchy.specs.declared.Written.the-variants.{Wrote, Refused as NotWritten, Short}
 use Rattle.hierarchy.specs.declared.check.CheckedCard.{CheckedCard}
 use Rattle.hierarchy.proofs.Accepted.{accepted-meets}
+use Rattle.flattening.specs.Flattening.{flatten, flattenCall}
+use Rattle.flattening.proofs.FlatLaws.{flat-meets, flat-accepted, flatten-again}
 use Rattle.runners.specs.Numbers.{RowOutcome}
-use Rattle.runners.specs.Flattening.{flatten}
-use Rattle.runners.specs.State.{NetState, scale, entry}
+use Rattle.runners.specs.State.{scale, entry}
 use Rattle.runners.specs.Step.{conflict, next}
-use Rattle.runners.specs.Rows.{settle, rowRefusal}
-use Rattle.runners.specs.Calls.{view, store, valid, eachOnce, called, flatCall, subnetCall, flattenCall}
-use Rattle.runners.specs.Boards.{InTables, IsSized}
-use Rattle.runners.specs.Answers.{rowFault, replyOf, IsRow}
+use Rattle.runners.specs.Rows.{settle, rowFault, rowRefusal}
+use Rattle.runners.specs.Calls.{view, store, valid, eachOnce, called, flatCall, subnetCall}
+use Rattle.runners.specs.Answers.{IsRow}
+use Rattle.runners.specs.Visits.{InTables}
+use Rattle.runners.specs.inner.Markings.{Filled}
+use Rattle.runners.specs.inner.Steps.{replyOf, HoldsNet}
+use Rattle.runners.specs.declared.places.PlaceNumber.the-variants.{Capacity}
 use Rattle.runners.specs.declared.State.{State as Lent}
 use Rattle.runners.specs.declared.Refusal.{Refusal}
-use Rattle.runners.specs.declared.Refusal.the-variants.{BadCard, BadState, BadOrder, BadRow, BadDegree, Conflict}
+use Rattle.runners.specs.declared.Refusal.the-variants.{BadCard, BadState, BadOrder, Conflict}
 use Rattle.runners.specs.declared.Reply.{Reply}
 use Rattle.runners.specs.declared.Reply.the-variants.{Ok, No}
-use Rattle.runners.specs.declared.row.RowAnswer.{RowAnswer}
-use Rattle.runners.proofs.FlatLaws.{flat-meets, flat-accepted, flatten-again}
-
--- tests 20 and 21, then 22
-otherwise-again : {A : Type 0} (a b d : Option A) → (a otherwise b otherwise d) ≡ ((a otherwise b) otherwise d)
-otherwise-again none b d = refl
-otherwise-again (some x) b d = refl
-
-row-parts : (f : Card) (s : NetState) (row : List ℕ) → rowRefusal f s row ≡ (rowFault f row otherwise Option·map Conflict (conflict f s row))
-unfolding rowRefusal rowFault
-row-parts f s row = otherwise-again (someUnless (eqb (length row) (f .signals)) BadRow) (Option·map BadDegree (lowest 0 (f .signals) (λ g. ltb (scale f) (entry row g)))) (Option·map Conflict (conflict f s row))
+use Rattle.runners.specs.declared.RowAnswer.{RowAnswer}
 
 pub flat-signals : (c : Card) (n : ℕ) → n ≡ c .signals → n ≡ (flatten c) .signals
 unfolding flatten
@@ -77,11 +71,13 @@ module _ (c : Card) (l after : Lent) (row : List ℕ) (r : Reply) (e : r ≡ rep
   pub fault-none : r ≡ Ok → rowFault (flatten c) row ≡ none
   fault-none w = reply-is r (rowFault (flatten c) row) e ∙ ap fault w
 
-  pub row-refused : (why : Refusal) → r ≡ No why → IsRow (settle (rowRefusal (flatten c) (view l) row) l after) (record { reply = No why; state = l })
-  row-refused why w = rw (row-parts (flatten c) (view l) row, reply-is r (rowFault (flatten c) row) e ∙ ap fault w) (record { reply = refl; state = refl })
+  pub row-refused : (why : Refusal) (x : RowAnswer) → x ≡ record { reply = No why; state = l } → r ≡ No why → IsRow (settle (rowRefusal (flatten c) (view l) row) l after) x
+  unfolding rowRefusal
+  row-refused why x ex w = rw (ex, reply-is r (rowFault (flatten c) row) e ∙ ap fault w) (record { reply = refl; state = refl })
 
   pub row-stepped : (x : RowAnswer) → r ≡ Ok → IsRow (settle (Option·map Conflict (conflict (flatten c) (view l) row)) l after) x → IsRow (settle (rowRefusal (flatten c) (view l) row) l after) x
-  row-stepped x w h = rw (row-parts (flatten c) (view l) row, fault-none w) h
+  unfolding rowRefusal
+  row-stepped x w h = rw (fault-none w) h
 
 -- tests 25 and 23, then those of the row
 module _ (c : Card) (l : Lent) (order row : List ℕ) (x : RowAnswer) where
@@ -103,12 +99,13 @@ module _ (c : Card) (l : Lent) (order row : List ℕ) (x : RowAnswer) where
 pub once-of : (c : Card) (order : List ℕ) (s : ℕ) (b : Bool) → s ≡ length (c .subnets) → b ≡ eachOnce s order → b ≡ eachOnce (length (c .subnets)) order
 once-of c order s b e h = h ∙ ap (λ (n : ℕ). eachOnce n order) e
 
--- what holds of a card that was checked and accepted, from its tables and its counts
+-- what holds of a card that was checked and accepted, from its tables, its full markings and its counts
 pub checked-accepted : (bytes : List ℕ) (k : CheckedCard) → IsChecked (judge bytes) k → (P : Judgement → Type 0)
-    → (s p t s′ p′ t′ g : ℕ) → k .answer ≡ Accepted s p t → (s < 65536 → s′ ≡ s) → (p < 65536 → p′ ≡ p) → (t < 65536 → t′ ≡ t) → g ≡ getD (k .numbers) 2 0
-    → ((c : Card) → InTables c (k .numbers) (k .starts) → IsSized c (record { subnets = s′; places = p′; transitions = t′; signals = g }) → P (accepted c))
+    → (s p t s′ p′ t′ g : ℕ) (full : List ℕ) → k .answer ≡ Accepted s p t → (s < 65536 → s′ ≡ s) → (p < 65536 → p′ ≡ p) → (t < 65536 → t′ ≡ t) → g ≡ getD (k .numbers) 2 0
+    → ((c : Card) → InTables c (k .numbers) (k .starts) → s′ ≡ length (c .subnets) → Filled Capacity c full)
+    → ((c : Card) → HoldsNet c (k .numbers) (k .starts) full (record { subnets = s′; places = p′; transitions = t′; signals = g }) → P (accepted c))
     → P (judge bytes)
-checked-accepted bytes k h P s p t s′ p′ t′ g e es ep et eg f = go (judge bytes) refl (sym (ap checkOutcome e) ∙ h .answer) (h .tables)
+checked-accepted bytes k h P s p t s′ p′ t′ g full e es ep et eg fu f = go (judge bytes) refl (sym (ap checkOutcome e) ∙ h .answer) (h .tables)
   where
     go : (j : Judgement) → judge bytes ≡ j → checkOutcome (Accepted s p t) ≡ outcomeOf j → Tables j (k .numbers) (k .starts) → P j
     go (refused n i) d q m = absurd (let z : _≡_ {A = ℕ} 0 1 = cc in omega arith)
@@ -118,12 +115,17 @@ checked-accepted bytes k h P s p t s′ p′ t′ g e es ep et eg f = go (judge 
         let a : s ≡ length (c .subnets) = cc in
         let b : p ≡ length (c .places) = cc in
         let y : t ≡ length (c .transitions) = cc in
-        f c (record { meets = u; loaded = m })
+        let x : s′ ≡ length (c .subnets) = es (omega (arith, a, w .fewSubnets)) ∙ a in
+        f c
         (record {
-          subnets = es (omega (arith, a, w .fewSubnets)) ∙ a;
-          places = ep (omega (arith, b, w .rows .fewPlaces)) ∙ b;
-          transitions = et (omega (arith, y, w .rows .fewTransitions)) ∙ y;
-          signals = eg ∙ m .laid .signals;
+          tables = record { meets = u; loaded = m };
+          full = fu c (record { meets = u; loaded = m }) x;
+          sizes = record {
+            subnets = x;
+            places = ep (omega (arith, b, w .rows .fewPlaces)) ∙ b;
+            transitions = et (omega (arith, y, w .rows .fewTransitions)) ∙ y;
+            signals = eg ∙ m .laid .signals;
+          };
         })
 
 -- a call on a card that was checked
@@ -142,11 +144,12 @@ module _ (bytes order row : List ℕ) (l : Lent) (k : CheckedCard) (h : IsChecke
           rw (w, ← a, ← b) (record { reply = refl; state = refl })
       go (accepted d) q = absurd (let z : _≡_ {A = ℕ} 0 1 = cc in omega arith)
 
-  pub call-accepted : (s p t s′ p′ t′ g : ℕ) → k .answer ≡ Accepted s p t → (s < 65536 → s′ ≡ s) → (p < 65536 → p′ ≡ p) → (t < 65536 → t′ ≡ t) → g ≡ getD (k .numbers) 2 0
-      → ((c : Card) → InTables c (k .numbers) (k .starts) → IsSized c (record { subnets = s′; places = p′; transitions = t′; signals = g }) → Called (accepted c))
+  pub call-accepted : (s p t s′ p′ t′ g : ℕ) (full : List ℕ) → k .answer ≡ Accepted s p t → (s < 65536 → s′ ≡ s) → (p < 65536 → p′ ≡ p) → (t < 65536 → t′ ≡ t) → g ≡ getD (k .numbers) 2 0
+      → ((c : Card) → InTables c (k .numbers) (k .starts) → s′ ≡ length (c .subnets) → Filled Capacity c full)
+      → ((c : Card) → HoldsNet c (k .numbers) (k .starts) full (record { subnets = s′; places = p′; transitions = t′; signals = g }) → Called (accepted c))
       → IsRow (subnetCall bytes order l row) x
   unfolding subnetCall
-  call-accepted s p t s′ p′ t′ g e es ep et eg f = checked-accepted bytes k h Called s p t s′ p′ t′ g e es ep et eg f
+  call-accepted s p t s′ p′ t′ g full e es ep et eg fu f = checked-accepted bytes k h Called s p t s′ p′ t′ g full e es ep et eg fu f
 
 -- No card is refused with a number above 17; so 24 is the buffer's.
 format-low : (f : FormatFault) → formatNumber f ≤ 17
@@ -225,11 +228,11 @@ unfolding putInto
 front-put xs buffer l = rw (le-leb (length xs) (length buffer) l) (take-front xs (drop (length xs) buffer))
 
 -- the flat card has one subnet, and the order that names it
-one-visited : (c : Card) → eachOnce (length ((flatten c) .subnets)) (0 ∷ []) ≡ true
+pub one-visited : (c : Card) → eachOnce (length ((flatten c) .subnets)) (0 ∷ []) ≡ true
 unfolding flatten eachOnce every any
 one-visited c = refl
 
-flat-called : (c : Card) (l : Lent) (row : List ℕ) → called (λ d. eachOnce (length (d .subnets)) (0 ∷ [])) (accepted (flatten c)) l row ≡ called (λ d. true) (accepted c) l row
+pub flat-called : (c : Card) (l : Lent) (row : List ℕ) → called (λ d. eachOnce (length (d .subnets)) (0 ∷ [])) (accepted (flatten c)) l row ≡ called (λ d. true) (accepted c) l row
 flat-called c l row = rw (flatten-again c, one-visited c)
 
 -- the flat card of a card in a buffer of 33026 bytes, which holds it

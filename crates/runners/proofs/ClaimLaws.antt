@@ -16,11 +16,13 @@ use Rattle.hierarchy.specs.Arcs.{arcOf, Begins}
 use Rattle.hierarchy.specs.Conditions.{IsPlace}
 use Rattle.hierarchy.specs.declared.arcs.Arc as declared
 use Rattle.hierarchy.proofs.LoadedLaws.{arc-of, arcs-of, capacity-of}
-use Rattle.runners.specs.Flattening.{flatten}
-use Rattle.runners.specs.State.{scale, entry, weightAt, incidence, limit}
+use Rattle.flattening.specs.Flattening.{flatten}
+use Rattle.flattening.proofs.FlatLaws.{place-flat, arc-flat, there}
+use Rattle.runners.specs.State.{scale, entry, weightAt, incidence, fullMarking}
 use Rattle.runners.specs.Step.{allows}
-use Rattle.runners.specs.Boards.{InTables, Moved, Grown, nothing, share, posted}
-use Rattle.runners.proofs.FlatLaws.{place-flat, arc-flat, there}
+use Rattle.runners.specs.Columns.{Moved, Grown, nothing, posted}
+use Rattle.runners.specs.Visits.{InTables}
+use Rattle.runners.specs.inner.Transitions.{share}
 use Rattle.runners.proofs.MovedLaws.{moved-none, moved-then, moved-same}
 
 -- where a transition's row begins
@@ -170,5 +172,5 @@ module _ (c : Card) (numbers starts : List ℕ) (h : InTables c numbers starts) 
           capacity-of c numbers starts (h .loaded) ((arcAt c t j) .subnet) row ((arcAt c t j) .place) k (x .0) (x .1) (er ∙ ap (λ (z : Arc). getD starts (z .subnet) 0) e)
           (ek ∙ ap (λ (z : Arc). getD numbers (placeField row (z .place) 1) 0) e)
 
-      room : 1000 * k ≡ limit (flatten c) (g .place)
+      room : 1000 * k ≡ fullMarking (flatten c) (g .place)
       room = scaled k ∙ rw (place-flat c (g .place), arc-flat c t j, cap)

@@ -12,11 +12,11 @@ use Rattle.card.specs.Card.{Arc, Card, transitionAt, arcAt}
 use Rattle.card.specs.Wellformed.{TransitionRow, ArcRow}
 use Rattle.card.proofs.Sums.{all-at}
 use Rattle.hierarchy.specs.Conditions.{Meets}
-use Rattle.runners.specs.Flattening.{flatten}
+use Rattle.flattening.specs.Flattening.{flatten}
+use Rattle.flattening.proofs.FlatLaws.{flat-meets}
 use Rattle.runners.specs.State.{scale, remaining, weightAt, incidence, flow}
 use Rattle.runners.specs.declared.Transfer.{Transfer}
 use Rattle.runners.specs.declared.Transfer.the-variants.{Idle, Carrying}
-use Rattle.runners.proofs.FlatLaws.{flat-meets}
 
 pub sum-few : (n : ℕ) (a : ℕ → ℕ) (b : ℕ) → ((i : ℕ) → i < n → a i ≤ b) → sumTo n a ≤ n * b
 unfolding sumTo

@@ -4,14 +4,13 @@ use mathlib.Core.Path.{_≡_, refl, sym, ap, ap₂, _∙_}
 use mathlib.Core.Logic.{_⊎_, inl, inr}
 use mathlib.Core.List.{List, _∷_, _++_, map}
 use native.Mathlib.Omega.{arith}
-use lib.ListN.{length, getD, set, drop, replicate, length-set, length-replicate, length-append, length-drop, List·getD-append}
-use lib.Seq.{ext-getD, getD-set-same, getD-set-other, getD-append-add, getD-drop}
+use lib.ListN.{length, getD, drop, replicate, length-replicate, length-append, length-drop, List·getD-append}
+use lib.Seq.{ext-getD, getD-append-add, getD-drop}
 use Rattle.card.specs.Card.{Card, placeAt}
 use Rattle.card.specs.Finite.{table}
 use Rattle.card.proofs.Sums.{table-length, table-at, map-length}
 use Rattle.card.proofs.BitLaws.{lt-or-ge}
 use Rattle.card.proofs.Turn.{zero-in}
-use Rattle.card.specs.Index.{Loaded}
 use Rattle.hierarchy.specs.Numbers.{checkOutcome}
 use Rattle.hierarchy.specs.Conditions.{Meets}
 use Rattle.hierarchy.specs.Judgement.{Judgement, accepted, refused, judge, outcomeOf, Tables, IsChecked}
@@ -19,35 +18,15 @@ use Rattle.hierarchy.specs.declared.Answer.the-variants.{Accepted, Refused}
 use Rattle.hierarchy.specs.declared.CardFault.{CardFault}
 use Rattle.hierarchy.specs.declared.check.CheckedCard.{CheckedCard}
 use Rattle.hierarchy.proofs.Accepted.{accepted-meets}
-use Rattle.runners.specs.Flattening.{flatPlaceRow, flatten}
+use Rattle.flattening.specs.Flattening.{flatPlaceRow, flatten}
 use Rattle.runners.specs.State.{scale, fresh}
 use Rattle.runners.specs.Calls.{slot, blank, freshLent, freshOf, freshCall}
 use Rattle.runners.specs.declared.State.{State as Lent}
 use Rattle.runners.specs.declared.Transfer.the-variants.{Idle}
-use Rattle.runners.specs.FlatRows.{PlacesTo}
-use Rattle.runners.specs.Freshness.{FirstMarkings, IsFresh}
-use Rattle.runners.proofs.FlatLaws.{place-flat}
-
-pub first-start : (c : Card) → FirstMarkings c (replicate 255 0) 0
-first-start c = record { long = length-replicate {A = ℕ} 255 0; first = λ p l. absurd (omega arith); zeros = λ p l. zero-in 255 p }
-
-pub first-more : (c : Card) (rows markings : List ℕ) (p v n : ℕ) → PlacesTo c rows n → p < n → p < 255 → v ≡ 1000 * getD rows (3 * p + 2) 0 → FirstMarkings c markings p → FirstMarkings c (set markings p v) (p + 1)
-unfolding scale
-first-more c rows markings p v n h l b e x =
-    record {
-      long = length-set markings p v ∙ x .long;
-      first = λ q g. at q g (lt-or-ge q p);
-      zeros = λ q g. getD-set-other markings p q v 0 (λ i. omega arith) ∙ x .zeros q (omega arith);
-    }
-  where
-    tokens : (placeAt (flatten c) p) .tokens ≡ getD rows (3 * p + 2) 0
-    tokens = ap (λ r. r .tokens) (place-flat c p) ∙ sym (h .held p l .tokens)
-
-    at : (q : ℕ) → q < p + 1 → (q < p) ⊎ (p ≤ q) → getD (set markings p v) q 0 ≡ 1000 * (placeAt (flatten c) q) .tokens
-    at q g (inl i) = getD-set-other markings p q v 0 (λ j. omega arith) ∙ (unfold scale in x .first q i)
-    at q g (inr i) =
-        let j : q ≡ p = omega arith in
-        rw j (getD-set-same markings p v 0 (omega (arith, x .long)) ∙ rw tokens e)
+use Rattle.runners.specs.Answers.{IsFresh}
+use Rattle.runners.specs.Visits.{InTables}
+use Rattle.runners.specs.inner.Markings.{Filled}
+use Rattle.runners.specs.declared.places.PlaceNumber.the-variants.{Tokens}
 
 -- the same entry again and again
 fill : {A : Type 0} (x : A) (from n m : ℕ) → n ≤ m → table from n (λ i. x) ++ drop n (replicate m x) ≡ replicate m x
@@ -61,7 +40,7 @@ unfolding table
 map-table f from zero g = refl
 map-table f from (suc n) g = ap (λ xs. f (g from) ∷ xs) (map-table f (suc from) n g)
 
-first-are : (c : Card) (markings : List ℕ) → FirstMarkings c markings (length (c .places)) → length (c .places) ≤ 255
+first-are : (c : Card) (markings : List ℕ) → Filled Tokens c markings → length (c .places) ≤ 255
     → markings ≡ table 0 (length (c .places)) (λ p. scale (flatten c) * (placeAt (flatten c) p) .tokens) ++ drop (length (c .places)) (replicate 255 0)
 first-are c markings h l =
     ext-getD 0 markings (xs ++ drop P (replicate 255 0)) long (λ i b. at i (omega (arith, b, h .long)) (lt-or-ge i P))
@@ -84,7 +63,7 @@ first-are c markings h l =
         h .zeros i g ∙ sym (ap (λ (j : ℕ). getD (xs ++ drop P (replicate 255 0)) j 0) (sym e) ∙ getD-append-add xs (drop P (replicate 255 0)) (i - P) 0 ∙ getD-drop P (replicate 255 0) (i - P) 0 ∙ zero-in 255 (P + (i - P)))
 
 -- the state that is made is the fresh one
-pub fresh-is : (c : Card) (markings : List ℕ) (g : ℕ) → Meets c → FirstMarkings c markings (length (c .places)) → g ≡ c .signals
+pub fresh-is : (c : Card) (markings : List ℕ) (g : ℕ) → Meets c → Filled Tokens c markings → g ≡ c .signals
     → record { markings = markings; slots = replicate 255 (slot Idle); degrees = replicate 63 0; places = length (c .places); transitions = length (c .transitions); signals = g } ≡ freshLent (flatten c)
 unfolding fresh flatten
 fresh-is c markings g m h eg =
@@ -105,12 +84,12 @@ module _ (bytes : List ℕ) (k : CheckedCard) (h : IsChecked (judge bytes) k) wh
       go (refused n i) q z = record { answer = q; state = b }
       go (accepted c) q z = absurd (let y : _≡_ {A = ℕ} 0 1 = cc in omega arith)
 
-  pub fresh-accepted : (s p t s′ p′ g : ℕ) (markings : List ℕ) → k .answer ≡ Accepted s p t → (s < 65536 → s′ ≡ s) → (p < 65536 → p′ ≡ p) → g ≡ getD (k .numbers) 2 0
-      → ((c : Card) → Meets c → Loaded c (k .numbers) (k .starts) → s′ ≡ length (c .subnets) → p′ ≡ length (c .places) → p′ ≤ 255 → FirstMarkings c markings (length (c .places)))
+  pub fresh-accepted : (s p t s′ g : ℕ) (markings : List ℕ) → k .answer ≡ Accepted s p t → (s < 65536 → s′ ≡ s) → g ≡ getD (k .numbers) 2 0
+      → ((c : Card) → InTables c (k .numbers) (k .starts) → s′ ≡ length (c .subnets) → Filled Tokens c markings)
       → (x : Lent) → x ≡ record { markings = markings; slots = replicate 255 (slot Idle); degrees = replicate 63 0; places = p; transitions = t; signals = g }
       → IsFresh (freshCall bytes) (record { answer = Accepted s p t; state = x })
   unfolding freshCall
-  fresh-accepted s p t s′ p′ g markings e es ep eg f x ex = go (judge bytes) refl (sym (ap checkOutcome e) ∙ h .answer) (h .tables)
+  fresh-accepted s p t s′ g markings e es eg f x ex = go (judge bytes) refl (sym (ap checkOutcome e) ∙ h .answer) (h .tables)
     where
       go : (j : Judgement) → judge bytes ≡ j → checkOutcome (Accepted s p t) ≡ outcomeOf j → Tables j (k .numbers) (k .starts)
           → IsFresh (freshOf j) (record { answer = Accepted s p t; state = x })
@@ -121,6 +100,5 @@ module _ (bytes : List ℕ) (k : CheckedCard) (h : IsChecked (judge bytes) k) wh
           let a : s ≡ length (c .subnets) = cc in
           let b : p ≡ length (c .places) = cc in
           let u : t ≡ length (c .transitions) = cc in
-          let y : p′ ≡ length (c .places) = ep (omega (arith, b, w .rows .fewPlaces)) ∙ b in
-          let n = f c m l (es (omega (arith, a, w .fewSubnets)) ∙ a) y (omega (arith, y, w .rows .fewPlaces)) in
+          let n = f c (record { meets = m; loaded = l }) (es (omega (arith, a, w .fewSubnets)) ∙ a) in
           record { answer = z; state = ex ∙ ap₂ (λ (i o : ℕ). record { markings = markings; slots = replicate 255 (slot Idle); degrees = replicate 63 0; places = i; transitions = o; signals = g }) b u ∙ fresh-is c markings g m n (eg ∙ l .laid .signals) }

@@ -16,13 +16,13 @@ use Rattle.card.specs.Card.{Card, draws, fills, placeAt}
 use Rattle.card.proofs.Sums.{sum-zero, table-at, table-length}
 use Rattle.card.proofs.Decides.{Decides, Clears, lt-is, le-is, eq-is, and-is, every-is, someUnless-is, otherwise-is, someIf-is, firstOf-is}
 use Rattle.runners.specs.State.{NetState, scale, entry, transfer, fresh, remaining, flow, owed, due}
-use Rattle.runners.specs.Step.{candidate, started, conflict, moves, advanced, next}
-use Rattle.runners.specs.Rows.{rowRefusal}
+use Rattle.runners.specs.Step.{candidate, startedOn, conflict, movesOn, advanced, arrivesOn, next}
+use Rattle.runners.specs.Rows.{rowFault, rowRefusal}
 use Rattle.runners.specs.Calls.{inRange, consistent}
 use Rattle.runners.specs.declared.Transfer.{Transfer}
 use Rattle.runners.specs.declared.Transfer.the-variants.{Idle, Carrying}
 use Rattle.runners.specs.declared.Refusal.the-variants.{BadDegree, Conflict}
-use Rattle.runners.proofs.StepLaws.{Covered, covered-is, moves-few, safe-step}
+use Rattle.runners.proofs.StepLaws.{Covered, covered-is, arrived-at, safe-step}
 
 pub scale-some : (f : Card) → 0 < scale f
 unfolding scale
@@ -111,11 +111,11 @@ low-degrees f row =
     (λ h g l. omega (arith, h g (omega arith) (omega arith)), λ h g a b. omega (arith, h g (omega arith)))
 
 pub fits-is : (f : Card) (s : NetState) (row : List ℕ) → Clears (rowRefusal f s row) (Fits f s row)
-unfolding rowRefusal
+unfolding rowRefusal rowFault
 fits-is f s row =
-    Iff·trans (otherwise-is _ _ _ _ (someUnless-is _ _ _ (eq-is (length row) (f .signals)))
-    (otherwise-is _ _ _ _ (Iff·trans (map-eq-none-iff BadDegree _) (low-degrees f row)) (map-eq-none-iff Conflict _)))
-    (λ h. record { long = h .0; degrees = h .1 .0; free = h .1 .1 }, λ h. (h .long, (h .degrees, h .free)))
+    Iff·trans (otherwise-is _ _ _ _ (otherwise-is _ _ _ _ (someUnless-is _ _ _ (eq-is (length row) (f .signals))) (Iff·trans (map-eq-none-iff BadDegree _) (low-degrees f row)))
+    (map-eq-none-iff Conflict _))
+    (λ h. record { long = h .0 .0; degrees = h .0 .1; free = h .1 }, λ h. ((h .long, h .degrees), h .free))
 
 -- an accepted row keeps the progress below 1000
 advanced-range : (f : Card) (x : Transfer) (d : ℕ) → InRange f x → d ≤ remaining f x → InRange f (advanced f x d)
@@ -127,21 +127,19 @@ advanced-range f (Carrying c) d h l = go (eqb (c + d) (scale f)) refl
     go false e = omega (arith, eqb-false (c + d) (scale f) e)
 
 module _ (f : Card) (s : NetState) (row : List ℕ) (h : Consistent f s) (k : Fits f s row) where
-  started-range : (t : ℕ) → t < length (f .transitions) → InRange f (transfer (started f s row) t)
-  unfolding started
-  started-range t l =
-      rw (table-at (length (f .transitions)) (λ u. cond (candidate f s row u) (Carrying 0) (transfer (s .transfers) u)) Idle t l)
-      (go (candidate f s row t))
+  started-range : (t : ℕ) → t < length (f .transitions) → InRange f (startedOn (candidate f s row) (s .transfers) t)
+  started-range t l = go (candidate f s row t)
     where
       go : (b : Bool) → InRange f (cond b (Carrying 0) (transfer (s .transfers) t))
       go true = scale-some f
       go false = h .transfers t l
 
+  pub arrived-range : (t : ℕ) → t < length (f .transitions) → InRange f (arrivesOn f (candidate f s row) s row t)
+  arrived-range t l =
+      advanced-range f (startedOn (candidate f s row) (s .transfers) t) (movesOn f (candidate f s row) s row t) (started-range t l) (omega arith)
+
   next-range : (t : ℕ) → t < length (f .transitions) → InRange f (transfer ((next f s row) .transfers) t)
-  unfolding next
-  next-range t l =
-      rw (table-at (length (f .transitions)) (λ u. advanced f (transfer (started f s row) u) (moves f s row u)) Idle t l)
-      (advanced-range f (transfer (started f s row) t) (moves f s row t) (started-range t l) (moves-few f s row t))
+  next-range t l = rw (arrived-at f s row t l) (arrived-range t l)
 
   -- AN ACCEPTED ROW KEEPS A CONSISTENT STATE CONSISTENT
   pub next-consistent : Consistent f (next f s row)

@@ -12,20 +12,20 @@ use borrow.Author.Tests.{eqb-true}
 use Rattle.card.proofs.Sums.{sum-same, sum-plus, table-at}
 use Rattle.card.proofs.Decides.{Decides, le-is, and-is, someIf-not-is, firstOf-is}
 use Rattle.card.specs.Card.{Card, draws, fills}
-use Rattle.runners.specs.State.{NetState, scale, entry, transfer, remaining, incidence, flow, owed, due, limit, covered}
-use Rattle.runners.specs.Step.{started, conflict, moves, advanced, next}
+use Rattle.runners.specs.State.{NetState, scale, entry, transfer, remaining, incidence, flow, owed, due, fullMarking, covered}
+use Rattle.runners.specs.Step.{startedOn, movesOn, arrivesOn, candidate, started, conflict, moves, advanced, next}
 use Rattle.runners.specs.declared.Transfer.{Transfer}
 use Rattle.runners.specs.declared.Transfer.the-variants.{Idle, Carrying}
 
 -- the place has all that is owed, and room for all that is due
 pub record Covered (f : Card) (ms : List ℕ) (xs : List Transfer) (p : ℕ) : Type 0 where
   pub has : owed f xs p ≤ entry ms p
-  pub space : entry ms p + due f xs p ≤ limit f p
+  pub space : entry ms p + due f xs p ≤ fullMarking f p
 
 pub covered-is : (f : Card) (ms : List ℕ) (xs : List Transfer) (p : ℕ) → Decides (covered f ms xs p) (Covered f ms xs p)
 unfolding covered
 covered-is f ms xs p =
-    Iff·trans (and-is _ _ _ _ (le-is (owed f xs p) (entry ms p)) (le-is (entry ms p + due f xs p) (limit f p)))
+    Iff·trans (and-is _ _ _ _ (le-is (owed f xs p) (entry ms p)) (le-is (entry ms p + due f xs p) (fullMarking f p)))
     (λ h. record { has = h .0; space = h .1 }, λ h. (h .has, h .space))
 
 -- there is no conflict just where every place is covered with the candidates' claims
@@ -44,7 +44,7 @@ flow-split f a b d way p h =
     ∙ sum-plus (length (f .transitions)) _ _
 
 -- what remains of a transfer falls by what it moves
-remaining-advanced : (f : Card) (x : Transfer) (d : ℕ) → d ≤ remaining f x → remaining f x ≡ remaining f (advanced f x d) + d
+pub remaining-advanced : (f : Card) (x : Transfer) (d : ℕ) → d ≤ remaining f x → remaining f x ≡ remaining f (advanced f x d) + d
 remaining-advanced f Idle d h = omega arith
 remaining-advanced f (Carrying c) d h = go (eqb (c + d) (scale f)) refl
   where
@@ -53,15 +53,24 @@ remaining-advanced f (Carrying c) d h = go (eqb (c + d) (scale f)) refl
     go false e = omega arith
 
 module _ (f : Card) (s : NetState) (row : List ℕ) where
-  pub moves-few : (t : ℕ) → moves f s row t ≤ remaining f (transfer (started f s row) t)
+  -- the transfers with the candidates among them
+  pub started-at : (t : ℕ) → t < length (f .transitions) → transfer (started f s row) t ≡ startedOn (candidate f s row) (s .transfers) t
+  unfolding started
+  started-at t l = table-at (length (f .transitions)) (startedOn (candidate f s row) (s .transfers)) Idle t l
+
+  pub arrived-at : (t : ℕ) → t < length (f .transitions) → transfer ((next f s row) .transfers) t ≡ arrivesOn f (candidate f s row) s row t
+  unfolding next
+  arrived-at t l = table-at (length (f .transitions)) (arrivesOn f (candidate f s row) s row) Idle t l
+
+  pub moves-few : (t : ℕ) → moves f s row t ≤ remaining f (startedOn (candidate f s row) (s .transfers) t)
   unfolding moves
   moves-few t = omega arith
 
   moves-remaining : (t : ℕ) → t < length (f .transitions) → remaining f (transfer (started f s row) t) ≡ remaining f (transfer ((next f s row) .transfers) t) + moves f s row t
-  unfolding next
+  unfolding moves
   moves-remaining t l =
-      rw (table-at (length (f .transitions)) (λ u. advanced f (transfer (started f s row) u) (moves f s row u)) Idle t l)
-      (remaining-advanced f (transfer (started f s row) t) (moves f s row t) (moves-few t))
+      rw (started-at t l, arrived-at t l)
+      (remaining-advanced f (startedOn (candidate f s row) (s .transfers) t) (movesOn f (candidate f s row) s row t) (omega arith))
 
   -- what was owed is what is still owed and what was lost, and what was due is what is still due and what was gained
   pub owed-split : (p : ℕ) → owed f (started f s row) p ≡ owed f ((next f s row) .transfers) p + flow f (moves f s row) draws p

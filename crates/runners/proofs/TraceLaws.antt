@@ -13,13 +13,13 @@ use Rattle.card.specs.Finite.{All, someUnless, lowest, _otherwise_}
 use Rattle.card.specs.Card.{Card}
 use Rattle.card.proofs.Decides.{Decides, eq-is, and-is}
 use Rattle.hierarchy.specs.Judgement.{accepted, judge}
+use Rattle.flattening.specs.Flattening.{flatten}
 use Rattle.runners.specs.Numbers.{RowOutcome, refusal}
-use Rattle.runners.specs.Flattening.{flatten}
 use Rattle.runners.specs.State.{NetState, scale, entry}
 use Rattle.runners.specs.Step.{conflict, next}
-use Rattle.runners.specs.Rows.{settle, rowRefusal, step}
+use Rattle.runners.specs.Rows.{settle, rowFault, rowRefusal, step}
 use Rattle.runners.specs.Calls.{view, slot, store, consistent, valid, eachOnce, called, flatCall, subnetCall}
-use Rattle.runners.specs.Boards.{Counts}
+use Rattle.runners.specs.inner.Storing.{Counts}
 use Rattle.runners.specs.Traces.{trace, Call, flatTrace, subnetTrace, netTrace, observed, Bounded}
 use Rattle.runners.specs.declared.Transfer.{Transfer}
 use Rattle.runners.specs.declared.State.{State as Lent}
@@ -110,11 +110,11 @@ clear-map why h none = tt
 clear-map why h (some n) = h n
 
 tests-clear : (ordered : Bool) (f : Card) (l : Lent) (row : List ℕ) → Clear (tests ordered f l row)
-unfolding rowRefusal
+unfolding rowRefusal rowFault
 tests-clear ordered f l row =
-    clear-otherwise _ _ (clear-unless ordered BadOrder tt) (clear-otherwise _ _ (clear-unless (eqb (length row) (f .signals)) BadRow tt)
-    (clear-otherwise _ _ (clear-map BadDegree (λ n. tt) (lowest 0 (f .signals) (λ g. ltb (scale f) (entry row g))))
-    (clear-map Conflict (λ n. tt) (conflict f (view l) row))))
+    clear-otherwise _ _ (clear-unless ordered BadOrder tt) (clear-otherwise _ _ (clear-otherwise _ _ (clear-unless (eqb (length row) (f .signals)) BadRow tt)
+    (clear-map BadDegree (λ n. tt) (lowest 0 (f .signals) (λ g. ltb (scale f) (entry row g)))))
+    (clear-map Conflict (λ n. tt) (conflict f (view l) row)))
 
 abbrev pub 25·alone : RowOutcome
 25·alone = refusal BadState

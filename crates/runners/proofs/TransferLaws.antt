@@ -1,25 +1,53 @@
--- A transfer in range is told by what remains of it, and a lent state's transfers by a list of such numbers. Assumes nothing.
-use Prim.Native.Nat.{ℕ, _+_, _-_, _≤_, _<_}
+-- A transfer and its number, and a lent state's transfers as a list of such numbers. Assumes nothing.
+use Prim.Native.Nat.{ℕ, zero, suc, _+_, _-_, _≤_, _<_}
 use mathlib.Core.Path.{_≡_, refl, sym, ap, _∙_}
 use mathlib.Core.Logic.{_⊎_, inl, inr}
 use mathlib.Core.Bool.{Bool, true, false, cond}
-use mathlib.Core.List.{List, map}
+use mathlib.Core.List.{List, [], _∷_, map}
 use native.Mathlib.Omega.{arith}
-use lib.ListN.{length, getD, set, take, length-set, List·getD-map}
-use lib.Seq.{getD-take, getD-set-same, getD-set-other}
-use lib.Dec.{ltb, eqb}
-use borrow.Author.Tests.{ltb-true, eqb-true, eqb-false, eq-eqb, ne-eqb}
+use lib.ListN.{length, getD, set, length-set, List·getD-map, List·getD-eq-default}
+use lib.Seq.{getD-set-same, getD-set-other}
+use lib.Dec.{eqb}
+use borrow.Author.Tests.{eqb-true, eq-eqb, ne-eqb}
 use Rattle.card.specs.Card.{Card}
 use Rattle.card.proofs.BitLaws.{lt-or-ge}
 use Rattle.card.proofs.Sums.{map-length}
-use Rattle.runners.specs.State.{scale, entry, transfer, remaining}
-use Rattle.runners.specs.Step.{idle, advanced}
-use Rattle.runners.specs.Calls.{view, slot, inRange}
-use Rattle.runners.specs.Boards.{Counts, slotAt, transferOf, Stored}
+use Rattle.runners.specs.State.{scale, transfer, remaining}
+use Rattle.runners.specs.Step.{advanced}
+use Rattle.runners.specs.Calls.{slot}
+use Rattle.runners.specs.Columns.{idleCode, codeOf, transferOf, codeAt}
+use Rattle.runners.specs.inner.Storing.{slotAt, CodesOf, Stored}
 use Rattle.runners.specs.declared.Transfer.{Transfer}
 use Rattle.runners.specs.declared.Transfer.the-variants.{Idle, Carrying}
 use Rattle.runners.specs.declared.Slot.{Slot}
 use Rattle.runners.specs.declared.State.{State as Lent}
+
+-- an entry that is there, whatever stands for one that is not
+default-free : {A : Type 0} (d e : A) (xs : List A) (t : ℕ) → t < length xs → getD xs t d ≡ getD xs t e
+default-free d e [] t l = absurd (omega arith)
+default-free d e (x ∷ xs) zero l = refl
+default-free d e (x ∷ xs) (suc t) l = default-free d e xs t (omega arith)
+
+-- a number, and its transfer
+pub of-idle : (n : ℕ) → n ≡ idleCode → Idle ≡ transferOf n
+of-idle n e = rw (eq-eqb n idleCode e)
+
+pub of-progress : (n : ℕ) → (n ≡ idleCode → ⊥) → Carrying n ≡ transferOf n
+of-progress n d = rw (ne-eqb n idleCode d)
+
+pub coded : (x : Transfer) → (x ≡ Carrying idleCode → ⊥) → transferOf (codeOf x) ≡ x
+coded Idle d = refl
+coded (Carrying c) d = sym (of-progress c (λ e. d (ap Carrying e)))
+
+-- the transfer of a transition, by its number
+pub transfer-code : (xs : List ℕ) (t : ℕ) → transfer (map transferOf xs) t ≡ transferOf (codeAt xs t)
+transfer-code xs t = List·getD-map transferOf xs t idleCode
+
+pub code-there : (xs : List ℕ) (t : ℕ) (x : Transfer) → t < length xs → x ≡ transferOf (getD xs t 0) → x ≡ transfer (map transferOf xs) t
+code-there xs t x l e = e ∙ ap transferOf (default-free 0 idleCode xs t l) ∙ sym (transfer-code xs t)
+
+pub code-past : (xs : List ℕ) (t : ℕ) → length xs ≤ t → Idle ≡ transfer (map transferOf xs) t
+code-past xs t l = sym (transfer-code xs t ∙ ap transferOf (List·getD-eq-default xs idleCode l))
 
 -- what remains
 pub rest-idle : (f : Card) (x : Transfer) → x ≡ Idle → 0 ≡ remaining f x
@@ -32,127 +60,91 @@ rest-carrying f x c e = rw e refl
 pub rest-none : (f : Card) (x : Transfer) (c : ℕ) → x ≡ Carrying c → 1000 ≤ c → 0 ≡ remaining f x
 rest-none f x c e l = let z : 0 ≡ 1000 - c = omega arith in z ∙ rest-carrying f x c e
 
--- the transfer of which so much remains
-pub of-none : (r : ℕ) → r ≡ 0 → Idle ≡ transferOf r
-of-none r e = rw e refl
-
-pub of-all : (r : ℕ) → (r ≡ 0 → ⊥) → 1000 ≤ r → Carrying 0 ≡ transferOf r
-of-all r n l = let z : 0 ≡ 1000 - r = omega arith in rw (ne-eqb r 0 n) (ap Carrying z)
-
-pub of-part : (r : ℕ) → (r ≡ 0 → ⊥) → Carrying (1000 - r) ≡ transferOf r
-of-part r n = rw (ne-eqb r 0 n)
-
-of-left : (r c : ℕ) → (r ≡ 0 → ⊥) → 1000 - r ≡ c → transferOf r ≡ Carrying c
-of-left r c n e = sym (of-part r n) ∙ ap Carrying e
-
-range-below : (f : Card) (c : ℕ) → inRange f (Carrying c) ≡ true → c < 1000
-unfolding scale
-range-below f c e = ltb-true c 1000 e
-
--- of a transfer in range
-pub told : (f : Card) (x : Transfer) (r : ℕ) → inRange f x ≡ true → r ≡ remaining f x → transferOf r ≡ x
-told f Idle r e q = sym (of-none r q)
-told f (Carrying c) r e q =
-    let l = range-below f c e in
-    let z = rest-carrying f (Carrying c) c refl in
-    of-left r c (λ n. omega arith) (omega arith)
-
-pub idle-told : (f : Card) (x : Transfer) (r : ℕ) → inRange f x ≡ true → r ≡ remaining f x → eqb r 0 ≡ idle x
-idle-told f Idle r e q = eq-eqb r 0 q
-idle-told f (Carrying c) r e q =
-    let l = range-below f c e in
-    let z = rest-carrying f (Carrying c) c refl in
-    ne-eqb r 0 (λ n. omega arith)
-
--- a candidate that starts
-pub started-rest : (f : Card) (x : Transfer) (m r : ℕ) → r ≡ remaining f x → cond (ltb 0 m) 1000 r ≡ remaining f (cond (ltb 0 m) (Carrying 0) x)
-unfolding scale
-started-rest f x m r e = go (ltb 0 m)
+-- nothing remains of the one progress that is told as idle
+pub remaining-coded : (f : Card) (x : Transfer) → remaining f (transferOf (codeOf x)) ≡ remaining f x
+remaining-coded f Idle = refl
+remaining-coded f (Carrying c) = go (eqb c idleCode) refl
   where
-    go : (b : Bool) → cond b 1000 r ≡ remaining f (cond b (Carrying 0) x)
-    go true = refl
-    go false = e
+    go : (b : Bool) → eqb c idleCode ≡ b → remaining f (cond b Idle (Carrying c)) ≡ remaining f (Carrying c)
+    go true e = rest-none f (Carrying c) c refl (omega (arith, eqb-true c idleCode e))
+    go false e = refl
 
-pub started-range : (f : Card) (x : Transfer) (m : ℕ) → inRange f x ≡ true → inRange f (cond (ltb 0 m) (Carrying 0) x) ≡ true
-unfolding scale
-started-range f x m e = go (ltb 0 m)
-  where
-    go : (b : Bool) → inRange f (cond b (Carrying 0) x) ≡ true
-    go true = refl
-    go false = e
+-- a transfer that advances
+blank-card : Card
+blank-card = record { version = 0; signals = 0; subnets = []; places = []; transitions = []; arcs = [] }
 
--- a transfer that has moved
-pub advanced-told : (f : Card) (x : Transfer) (r d : ℕ) → inRange f x ≡ true → r ≡ remaining f x → d ≤ r → transferOf (r - d) ≡ advanced f x d
+pub still-idle : (f : Card) (x : Transfer) (d : ℕ) → x ≡ Idle → Idle ≡ advanced f x d
+still-idle f x d e = rw e refl
+
+pub advanced-all : (f : Card) (x : Transfer) (c d : ℕ) → x ≡ Carrying c → c + d ≡ 1000 → Idle ≡ advanced f x d
 unfolding scale
-advanced-told f Idle r d e q l = let z : r - d ≡ 0 = omega arith in sym (of-none (r - d) z)
-advanced-told f (Carrying c) r d e q l = go (eqb (c + d) 1000) refl
-  where
-    go : (v : Bool) → eqb (c + d) 1000 ≡ v → transferOf (r - d) ≡ cond v Idle (Carrying (c + d))
-    go true w =
-        let y : r - d ≡ 0 = omega (arith, range-below f c e, rest-carrying f (Carrying c) c refl, eqb-true (c + d) 1000 w) in
-        sym (of-none (r - d) y)
-    go false w =
-        of-left (r - d) (c + d) (λ n. eqb-false (c + d) 1000 w (omega (arith, range-below f c e, rest-carrying f (Carrying c) c refl)))
-        (omega (arith, range-below f c e, rest-carrying f (Carrying c) c refl))
+advanced-all f x c d e h = rw (e, eq-eqb (c + d) 1000 h)
+
+pub advanced-part : (f : Card) (x : Transfer) (c d : ℕ) → x ≡ Carrying c → (c + d ≡ 1000 → ⊥) → Carrying (c + d) ≡ advanced f x d
+unfolding scale
+advanced-part f x c d e h = rw (e, ne-eqb (c + d) 1000 h)
+
+pub sum-fits : (x : Transfer) (c d : ℕ) → x ≡ Carrying c → c < 65536 → ((f : Card) → d ≤ remaining f x) → c + d < 65536
+sum-fits x c d e l h = omega (arith, h blank-card, rest-carrying blank-card x c e)
 
 -- lengths: an array of structs is known by a list of their parts
 pub unmapped : {A B : Type 0} (f : A → B) (xs : List A) (n : ℕ) → length (map f xs) ≡ n → length xs ≡ n
 unmapped f xs n e = sym (map-length f xs) ∙ e
 
--- the transfer of a transition, in an array and in the lent state
+-- the transfer of a transition in an array
 pub slot-at : (slots : List Slot) (t : ℕ) → slotAt slots t ≡ (getD slots t (slot Idle)) .transfer
 slot-at slots t = List·getD-map (λ (x : Slot). x .transfer) slots t (slot Idle)
 
-pub slot-is : (c : Card) (l : Lent) (t : ℕ) → Counts c l → t < length (c .transitions) → (getD (l .slots) t (slot Idle)) .transfer ≡ transfer ((view l) .transfers) t
-slot-is c l t n b = sym (getD-take (l .transitions) (map (λ (x : Slot). x .transfer) (l .slots)) t Idle (omega (arith, n .transitions)) ∙ slot-at (l .slots) t)
+-- the first k transfers as numbers
+abbrev pub CodesTo : Lent → (k : ℕ) → (codes : List ℕ) → Type 0
+CodesTo l k codes = (t : ℕ) → t < k → codeAt codes t ≡ codeOf ((getD (l .slots) t (slot Idle)) .transfer)
 
--- what remains of the first k transfers
-abbrev pub RestsOf : Lent → (k : ℕ) → (rest : List ℕ) → Type 0
-RestsOf l k rest = (f : Card) → (t : ℕ) → t < k → entry rest t ≡ remaining f ((getD (l .slots) t (slot Idle)) .transfer)
+pub codes-start : (l : Lent) (codes : List ℕ) → CodesTo l 0 codes
+codes-start l codes t b = absurd (omega arith)
 
-pub rests-start : (l : Lent) (rest : List ℕ) → RestsOf l 0 rest
-rests-start l rest f t b = absurd (omega arith)
-
-pub rests-more : (l : Lent) (k r : ℕ) (a : List ℕ) → k < length a → ((f : Card) → r ≡ remaining f ((getD (l .slots) k (slot Idle)) .transfer)) → RestsOf l k a → RestsOf l (k + 1) (set a k r)
-rests-more l k r a b e h f t d = go (lt-or-ge t k)
+pub codes-more : (l : Lent) (k n : ℕ) (a : List ℕ) → k < length a → n ≡ codeOf ((getD (l .slots) k (slot Idle)) .transfer) → CodesTo l k a → CodesTo l (k + 1) (set a k n)
+codes-more l k n a b e h t d = go (lt-or-ge t k)
   where
-    go : (t < k) ⊎ (k ≤ t) → entry (set a k r) t ≡ remaining f ((getD (l .slots) t (slot Idle)) .transfer)
-    go (inl q) = getD-set-other a k t r 0 (λ z. omega arith) ∙ h f t q
-    go (inr q) = let z : t ≡ k = omega arith in rw z (getD-set-same a k r 0 b ∙ e f)
+    go : (t < k) ⊎ (k ≤ t) → codeAt (set a k n) t ≡ codeOf ((getD (l .slots) t (slot Idle)) .transfer)
+    go (inl q) = getD-set-other a k t n idleCode (λ z. omega arith) ∙ h t q
+    go (inr q) = let z : t ≡ k = omega arith in rw z (getD-set-same a k n idleCode b ∙ e)
 
-pub rests-all : (c f : Card) (l : Lent) (k : ℕ) (rest : List ℕ) → RestsOf l k rest → Counts c l → l .transitions ≤ k → (t : ℕ) → t < length (c .transitions) → entry rest t ≡ remaining f (transfer ((view l) .transfers) t)
-rests-all c f l k rest h n b t d = h f t (omega (arith, n .transitions)) ∙ ap (remaining f) (slot-is c l t n d)
+pub codes-all : (l : Lent) (k : ℕ) (codes : List ℕ) → length codes ≡ 255 → CodesTo l k codes → ((t : ℕ) → t < l .transitions → t < 255 → t < k) → CodesOf l codes
+codes-all l k codes long h b = record { long = long; own = λ t d q. h t (b t d q) ∙ ap codeOf (sym (slot-at (l .slots) t)) }
 
 -- the first k transfers stored
-pub record StoredTo (was : List Slot) (rest : List ℕ) (k : ℕ) (slots : List Slot) : Type 0 where
-  pub own : (t : ℕ) → t < k → slotAt slots t ≡ transferOf (entry rest t)
+pub record StoredTo (was : List Slot) (codes : List ℕ) (k : ℕ) (slots : List Slot) : Type 0 where
+  pub own : (t : ℕ) → t < k → slotAt slots t ≡ transferOf (codeAt codes t)
   pub others : (t : ℕ) → k ≤ t → slotAt slots t ≡ slotAt was t
   pub long : length slots ≡ length was
 
-pub stored-start : (was : List Slot) (rest : List ℕ) → StoredTo was rest 0 was
-stored-start was rest = record { own = λ t b. absurd (omega arith); others = λ t b. refl; long = refl }
+pub stored-start : (was : List Slot) (codes : List ℕ) → StoredTo was codes 0 was
+stored-start was codes = record { own = λ t b. absurd (omega arith); others = λ t b. refl; long = refl }
 
-pub stored-more : (was : List Slot) (rest : List ℕ) (k : ℕ) (y : Transfer) (a : List Slot) → k < length a → y ≡ transferOf (entry rest k) → StoredTo was rest k a → StoredTo was rest (k + 1) (set a k (slot y))
-stored-more was rest k y a b e h =
+pub stored-more : (was : List Slot) (codes : List ℕ) (k : ℕ) (y : Transfer) (a : List Slot) → k < length a → k < length codes → y ≡ transferOf (getD codes k 0) → StoredTo was codes k a
+    → StoredTo was codes (k + 1) (set a k (slot y))
+stored-more was codes k y a b l e h =
     record { own = λ t d. at t d (lt-or-ge t k); others = λ t d. other t (λ z. omega arith) ∙ h .others t (omega arith); long = length-set a k (slot y) ∙ h .long }
   where
     other : (t : ℕ) → (t ≡ k → ⊥) → slotAt (set a k (slot y)) t ≡ slotAt a t
     other t n = slot-at (set a k (slot y)) t ∙ ap (λ (x : Slot). x .transfer) (getD-set-other a k t (slot y) (slot Idle) n) ∙ sym (slot-at a t)
 
-    at : (t : ℕ) → t < k + 1 → (t < k) ⊎ (k ≤ t) → slotAt (set a k (slot y)) t ≡ transferOf (entry rest t)
+    at : (t : ℕ) → t < k + 1 → (t < k) ⊎ (k ≤ t) → slotAt (set a k (slot y)) t ≡ transferOf (codeAt codes t)
     at t d (inl q) = other t (λ z. omega arith) ∙ h .own t q
     at t d (inr q) =
         let z : t ≡ k = omega arith in
-        rw z (slot-at (set a k (slot y)) k ∙ ap (λ (x : Slot). x .transfer) (getD-set-same a k (slot y) (slot Idle) b) ∙ e)
+        rw z (slot-at (set a k (slot y)) k ∙ ap (λ (x : Slot). x .transfer) (getD-set-same a k (slot y) (slot Idle) b) ∙ e ∙ ap transferOf (default-free 0 idleCode codes k l))
 
-pub stored-all : (l : Lent) (ms rest : List ℕ) (k : ℕ) (l′ : Lent) → StoredTo (l .slots) rest k (l′ .slots) → l .transitions ≡ k → l′ .markings ≡ ms → l′ .degrees ≡ l .degrees
-    → l′ .places ≡ l .places → l′ .transitions ≡ l .transitions → l′ .signals ≡ l .signals → Stored l ms rest l′
-stored-all l ms rest k l′ h e em ed ep et es =
+pub stored-all : (l : Lent) (ms codes : List ℕ) (k : ℕ) (l′ : Lent) → StoredTo (l .slots) codes k (l′ .slots) → k ≤ l .transitions → ((t : ℕ) → t < l .transitions → t < 255 → t < k)
+    → l′ .markings ≡ ms → l′ .degrees ≡ l .degrees → l′ .places ≡ l .places → l′ .transitions ≡ l .transitions → l′ .signals ≡ l .signals → Stored l ms codes l′
+stored-all l ms codes k l′ h e b em ed ep et es =
     record {
       markings = em;
-      own = λ t b. h .own t (omega arith);
-      others = λ t b. h .others t (omega arith);
+      own = λ t d q. h .own t (b t d q);
+      others = λ t d. h .others t (omega arith);
       long = h .long;
       degrees = ed;
-      counts = (ep, et, es);
+      places = ep;
+      transitions = et;
+      signals = es;
     }

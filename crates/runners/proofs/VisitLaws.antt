@@ -1,7 +1,7 @@
--- The three facts hold of every turn on a card that meets the conditions, and the visits of all subnets together are the whole step.
--- Assumes nothing.
-use Prim.Native.Nat.{ℕ, zero, suc, _+_, _*_, _<_}
-use mathlib.Core.Path.{_≡_, refl, ap, ap₂, _∙_}
+-- What a visit does depends only on what it may read, and changes nothing elsewhere: the three facts follow for every visit that does what its
+-- own turn gives; and the visits of all subnets together are the whole step. Assumes nothing.
+use Prim.Native.Nat.{ℕ, zero, suc, _+_, _*_, _<_, min}
+use mathlib.Core.Path.{_≡_, refl, sym, ap, ap₂, _∙_}
 use mathlib.Core.Logic.{_≢_}
 use mathlib.Core.Bool.{Bool, true, false, _&&_, cond}
 use mathlib.Core.List.{List}
@@ -10,16 +10,20 @@ use lib.ListN.{length}
 use lib.Dec.{ltb, eqb}
 use borrow.Author.Tests.{ne-eqb}
 use Rattle.card.specs.Finite.{sumTo, every}
-use Rattle.card.specs.Card.{Arc, Card, subnetAt, placeAt, transitionAt, arcAt, firstPlace, firstTransition, flatPlace}
-use Rattle.card.proofs.Sums.{sum-same, sum-zero, sum-append}
+use Rattle.card.specs.Card.{Arc, Card, draws, fills, subnetAt, placeAt, transitionAt, arcAt, firstTransition, flatPlace}
+use Rattle.card.specs.Wellformed.{TransitionRow}
+use Rattle.card.proofs.Sums.{sum-same, sum-zero, sum-append, all-at}
 use Rattle.hierarchy.specs.Conditions.{Sees, Meets}
-use Rattle.runners.specs.Flattening.{flatArc, flatten}
+use Rattle.flattening.specs.Flattening.{flatArc, flatten}
+use Rattle.flattening.proofs.FlatLaws.{place-flat, arc-flat}
 use Rattle.runners.specs.State.{NetState, scale, entry, transfer, remaining, weightAt, incidence, flow}
-use Rattle.runners.specs.Step.{idle, allows, candidateOn, startedOn, rise, advanced}
-use Rattle.runners.specs.Visits.{OwnsTransition, Round, posting, finding, moving, Turn, amount, after, effect, SameView, SameEffect, stepTurn, InTurn, Unseen, Facts}
+use Rattle.runners.specs.Step.{idle, allows, candidateOn, startedOn, rise, movesOn, advanced, arrivesOn}
+use Rattle.runners.specs.Columns.{Moved, Grown, nothing, codeOf, Columns}
+use Rattle.runners.specs.Visits.{OwnsTransition, Round, posting, finding, moving, Turn, amount, effect, SameView, stepTurn, InTurn, Unseen, Does, SameElsewhere, turnIn, Facts}
 use Rattle.runners.specs.declared.Transfer.{Transfer}
 use Rattle.runners.specs.declared.Transfer.the-variants.{Idle, Carrying}
-use Rattle.runners.proofs.FlatLaws.{place-flat, arc-flat}
+use Rattle.runners.proofs.OwnerLaws.{next-first, own, owned-below}
+use Rattle.runners.proofs.MovedLaws.{moved-same}
 
 pub every-same : (n : ℕ) (f g : ℕ → Bool) → ((k : ℕ) → k < n → f k ≡ g k) → every n f ≡ every n g
 unfolding every
@@ -30,6 +34,18 @@ every-same (suc n) f g h = ap₂ (λ (a b : Bool). a && b) (every-same n f g (λ
 scale-same : (c d : Card) → scale c ≡ scale d
 unfolding scale
 scale-same c d = refl
+
+remaining-same : (c d : Card) (x : Transfer) → remaining c x ≡ remaining d x
+remaining-same c d Idle = refl
+remaining-same c d (Carrying k) = rw (scale-same c d)
+
+advanced-same : (c d : Card) (x : Transfer) (k : ℕ) → advanced c x k ≡ advanced d x k
+advanced-same c d Idle k = refl
+advanced-same c d (Carrying n) k = rw (scale-same c d)
+
+started-same : (i j : Turn) (t : ℕ) → i .found t ≡ j .found t → transfer (i .state .transfers) t ≡ transfer (j .state .transfers) t
+    → startedOn (i .found) (i .state .transfers) t ≡ startedOn (j .found) (j .state .transfers) t
+started-same i j t a b = rw (a, b)
 
 module _ (r : Round) (s : ℕ) (i j : Turn) (m : Meets (i .card)) (below : s < length ((i .card) .subnets)) (v : SameView r s i j) where
   abbrev f : Card
@@ -54,9 +70,17 @@ module _ (r : Round) (s : ℕ) (i j : Turn) (m : Meets (i .card)) (below : s < l
   incidence-same direction t p o =
       rw (← v .transitions t o .row) (sum-same ((transitionAt (i .card) t) .arcs) _ _ (λ n l. ap (weightAt direction p) (arc-same t n o l)))
 
+  signal-below : (t : ℕ) → OwnsTransition (i .card) s t → (transitionAt (i .card) t) .signal < (i .card) .signals
+  signal-below t o =
+      all-at (TransitionRow ((i .card) .signals)) ((i .card) .transitions) (record { signal = 0; arcs = 0 }) (m .wellformed .rows .transitions) t
+      (owned-below (i .card) m s t below o) .signal
+
+  degree-same : (t : ℕ) → OwnsTransition (i .card) s t → entry (i .row) ((transitionAt (i .card) t) .signal) ≡ entry (j .row) ((transitionAt (j .card) t) .signal)
+  degree-same t o = rw (← v .transitions t o .row) (v .row ((transitionAt (i .card) t) .signal) (signal-below t o))
+
   rise-same : (t : ℕ) → OwnsTransition (i .card) s t → rise f (i .state .degrees) (i .row) t ≡ rise g (j .state .degrees) (j .row) t
   unfolding flatten
-  rise-same t o = rw (v .transitions t o .row, v .row, v .degrees)
+  rise-same t o = rw (degree-same t o, v .degrees ((transitionAt (i .card) t) .signal) (signal-below t o), v .transitions t o .row)
 
   -- the second visit
   capacity-flat : (c : Card) (p : ℕ) → (placeAt (flatten c) p) .capacity ≡ (placeAt c p) .capacity
@@ -82,57 +106,37 @@ module _ (r : Round) (s : ℕ) (i j : Turn) (m : Meets (i .card)) (below : s < l
         scale-same f g,
       )
 
-  pub candidate-same : r ≡ finding → (t : ℕ) → OwnsTransition (i .card) s t
+  candidate-same : r ≡ finding → (t : ℕ) → OwnsTransition (i .card) s t
       → candidateOn f (i .standing) (i .state) (i .row) t ≡ candidateOn g (j .standing) (j .state) (j .row) t
   unfolding candidateOn flatten
   candidate-same e t o =
       let k = v .transitions t o in
-      rw (← k .row, k .transfers, v .row) (ap (λ (b : Bool). idle (transfer (j .state .transfers) t) && ltb 0 (entry (j .row) ((transitionAt (i .card) t) .signal)) && b)
+      rw (degree-same t o, k .transfers, ← k .row) (ap (λ (b : Bool). idle (transfer (j .state .transfers) t) && ltb 0 (entry (j .row) ((transitionAt (i .card) t) .signal)) && b)
       (every-same ((transitionAt (i .card) t) .arcs) _ _ (λ n l. allows-same e t n o l)))
 
-remaining-same : (c d : Card) (x : Transfer) → remaining c x ≡ remaining d x
-remaining-same c d Idle = refl
-remaining-same c d (Carrying k) = rw (scale-same c d)
+  -- the third visit
+  moves-same : r ≡ moving → (t : ℕ) → OwnsTransition (i .card) s t → movesOn f (i .found) (i .state) (i .row) t ≡ movesOn g (j .found) (j .state) (j .row) t
+  moves-same e t o =
+      rw (rise-same t o, started-same i j t (v .found e t o) (v .transitions t o .transfers), remaining-same f g (startedOn (j .found) (j .state .transfers) t))
 
-advanced-same : (c d : Card) (x : Transfer) (k : ℕ) → advanced c x k ≡ advanced d x k
-advanced-same c d Idle k = refl
-advanced-same c d (Carrying n) k = rw (scale-same c d)
+  arrives-same : r ≡ moving → (t : ℕ) → OwnsTransition (i .card) s t → arrivesOn f (i .found) (i .state) (i .row) t ≡ arrivesOn g (j .found) (j .state) (j .row) t
+  arrives-same e t o =
+      ap₂ (advanced f) (started-same i j t (v .found e t o) (v .transitions t o .transfers)) (moves-same e t o)
+      ∙ advanced-same f g (startedOn (j .found) (j .state .transfers) t) (movesOn g (j .found) (j .state) (j .row) t)
 
-started-same : (i j : Turn) (t : ℕ) → i .found t ≡ j .found t → transfer (i .state .transfers) t ≡ transfer (j .state .transfers) t
-    → startedOn (i .found) (i .state .transfers) t ≡ startedOn (j .found) (j .state .transfers) t
-started-same i j t a b = rw (a, b)
-
--- an own transition, by its number in the subnet
-own : (c : Card) (s k : ℕ) → k < (subnetAt c s) .transitions → OwnsTransition c s (firstTransition c s + k)
-unfolding firstTransition sumTo
-own c s k l = record { low = omega arith; high = omega arith }
+  -- an own transition of one card is one of the other
+  own-back : (t : ℕ) → OwnsTransition (j .card) s t → OwnsTransition (i .card) s t
+  own-back t o =
+      record {
+        low = omega (arith, o .low, v .first);
+        high = omega (arith, o .high, v .first, v .count, next-first (i .card) s, next-first (j .card) s);
+      }
 
 module _ (s : ℕ) (i j : Turn) (m : Meets (i .card)) (below : s < length ((i .card) .subnets)) where
   amount-same : (r : Round) → SameView r s i j → (t : ℕ) → OwnsTransition (i .card) s t → amount r i t ≡ amount r j t
   amount-same posting v t o = rw (v .transitions t o .transfers) (remaining-same (flatten (i .card)) (flatten (j .card)) (transfer (j .state .transfers) t))
   amount-same finding v t o = rw (candidate-same finding s i j m below v refl t o, scale-same (flatten (i .card)) (flatten (j .card)))
-  amount-same moving v t o =
-      let k = v .verdict refl in
-      rw (
-        k .clear,
-        rise-same moving s i j m below v t o,
-        started-same i j t (k .found t o) (v .transitions t o .transfers),
-        remaining-same (flatten (i .card)) (flatten (j .card)) (startedOn (j .found) (j .state .transfers) t),
-      )
-
-  after-same : (r : Round) → SameView r s i j → (t : ℕ) → OwnsTransition (i .card) s t → after r i t ≡ after r j t
-  after-same posting v t o = v .transitions t o .transfers
-  after-same finding v t o = v .transitions t o .transfers
-  after-same moving v t o =
-      let k = v .verdict refl in
-      let a = amount-same moving v t o in
-      rw (
-        a,
-        k .clear,
-        started-same i j t (k .found t o) (v .transitions t o .transfers),
-        v .transitions t o .transfers,
-        advanced-same (flatten (i .card)) (flatten (j .card)) (startedOn (j .found) (j .state .transfers) t) (amount moving j t),
-      )
+  amount-same moving v t o = moves-same moving s i j m below v refl t o
 
   effect-same : (r : Round) → SameView r s i j → (direction p : ℕ) → effect r s i direction p ≡ effect r s j direction p
   unfolding effect
@@ -141,26 +145,45 @@ module _ (s : ℕ) (i j : Turn) (m : Meets (i .card)) (below : s < length ((i .c
       (amount-same r v (firstTransition (i .card) s + k) (own (i .card) s k l))
       (incidence-same r s i j m below v direction (firstTransition (i .card) s + k) p (own (i .card) s k l))))
 
-  pub same-effect : (r : Round) → SameView r s i j → SameEffect r s i j
-  same-effect r v = record { amounts = amount-same r v; afters = after-same r v; effects = effect-same r v }
+  effects-moved : (r : Round) → SameView r s i j → (a b : List ℕ) → Moved a b (effect r s i draws) (effect r s i fills) → Moved a b (effect r s j draws) (effect r s j fills)
+  effects-moved r v a b h =
+      moved-same a b (effect r s i draws) (effect r s i fills) (effect r s j draws) (effect r s j fills) (effect-same r v draws) (effect-same r v fills) h
+
+  effects-grown : (r : Round) → SameView r s i j → (way : ℕ) (a b : List ℕ) → Grown a b (effect r s i way) → Grown a b (effect r s j way)
+  effects-grown r v way a b h = moved-same a b nothing (effect r s i way) nothing (effect r s j way) (λ p. refl) (effect-same r v way) h
+
+  -- a visit that does what one turn gives does what every turn gives that is equal in all it may read
+  pub does-same : (r : Round) → SameView r s i j → (a a′ : Columns) → Does r s i a a′ → Does r s j a a′
+  does-same posting v a a′ h =
+      record { only = h .only; owed = effects-grown posting v draws (a .owed) (a′ .owed) (h .owed); due = effects-grown posting v fills (a .due) (a′ .due) (h .due) }
+  does-same finding v a a′ h =
+      record {
+        only = h .only;
+        drawn = effects-grown finding v draws (a .drawn) (a′ .drawn) (h .drawn);
+        filled = effects-grown finding v fills (a .filled) (a′ .filled) (h .filled);
+        long = h .long;
+        own = λ t o l. let u = own-back finding s i j m below v t o in h .own t u l ∙ candidate-same finding s i j m below v refl t u;
+      }
+  does-same moving v a a′ h =
+      record {
+        only = h .only;
+        markings = effects-moved moving v (a .markings) (a′ .markings) (h .markings);
+        long = h .long;
+        own = λ t o l. let u = own-back moving s i j m below v t o in h .own t u l ∙ ap codeOf (arrives-same moving s i j m below v refl t u);
+      }
 
 -- the turn of a subnet is, in all that its visit may read, the step's
-turn-view : (r : Round) (s : ℕ) (i : Turn) (before : NetState) → InTurn r s i before → SameView r s i (stepTurn (i .card) before (i .row))
+pub turn-view : (r : Round) (s : ℕ) (i : Turn) (before : NetState) → InTurn r s i before → SameView r s i (stepTurn (i .card) before (i .row))
 turn-view r s i before h =
     record {
       first = refl;
       count = refl;
       transitions = λ t o. record { row = refl; arcs = λ n l. refl; transfers = h .transfers t o };
       numbers = λ q n k. refl;
-      places = λ e q n k. record {
-        capacities = refl;
-        markings = ap (λ (ms : List ℕ). entry ms (firstPlace (i .card) q + n)) (h .markings e);
-        owed = h .owed e (firstPlace (i .card) q + n);
-        due = h .due e (firstPlace (i .card) q + n);
-      };
-      row = refl;
+      places = h .places;
+      row = λ g l. refl;
       degrees = h .degrees;
-      verdict = h .verdict;
+      found = h .found;
     }
 
 -- at a place that is not seen no own arc has a weight
@@ -171,23 +194,23 @@ no-weight direction p a n = rw (ne-eqb (a .place) p n) (go (eqb (a .direction) d
     go true = refl
     go false = refl
 
-no-effect : (r : Round) (s : ℕ) (i : Turn) → Meets (i .card) → s < length ((i .card) .subnets) → (direction p : ℕ) → Unseen (i .card) s p
+pub no-effect : (r : Round) (s : ℕ) (i : Turn) → Meets (i .card) → s < length ((i .card) .subnets) → (direction p : ℕ) → Unseen (i .card) s p
     → effect r s i direction p ≡ 0
 unfolding effect incidence flatten
-no-effect r s i m below direction p u = sum-zero ((subnetAt (i .card) s) .transitions) _ (λ k l. rw (nothing (firstTransition (i .card) s + k) (own (i .card) s k l)) (omega arith))
+no-effect r s i m below direction p u = sum-zero ((subnetAt (i .card) s) .transitions) _ (λ k l. rw (nothing-there (firstTransition (i .card) s + k) (own (i .card) s k l)) (omega arith))
   where
-    nothing : (t : ℕ) → OwnsTransition (i .card) s t → incidence (flatten (i .card)) direction t p ≡ 0
-    nothing t o =
+    nothing-there : (t : ℕ) → OwnsTransition (i .card) s t → incidence (flatten (i .card)) direction t p ≡ 0
+    nothing-there t o =
         sum-zero ((transitionAt (i .card) t) .arcs) _ (λ n l. rw (arc-flat (i .card) t n) (no-weight direction p (flatArc (i .card) (arcAt (i .card) t n))
         (u _ _ (m .conditions .transitions s t below (o .low) (o .high) .sees n l))))
 
--- THE THREE FACTS HOLD OF EVERY TURN
-pub facts : (r : Round) (s : ℕ) (i : Turn) → Meets (i .card) → s < length ((i .card) .subnets) → Facts r s i
-facts r s i m below =
+-- THE THREE FACTS HOLD OF A VISIT THAT DOES WHAT ITS OWN TURN GIVES, and leaves other transitions as they were
+pub facts : (r : Round) (s : ℕ) (c : Card) (a a′ : Columns) → Meets c → s < length (c .subnets) → Does r s (turnIn c a) a a′ → SameElsewhere c s a a′ → Facts r s c a a′
+facts r s c a a′ m below d e =
     record {
-      right = λ before h. same-effect s i (stepTurn (i .card) before (i .row)) m below r (turn-view r s i before h);
-      local = λ j v. same-effect s i j m below r v;
-      elsewhere = no-effect r s i m below;
+      right = λ before h. does-same s (turnIn c a) (stepTurn c before (a .row)) m below r (turn-view r s (turnIn c a) before h) a a′ d;
+      local = λ j v. does-same s (turnIn c a) j m below r v a a′ d;
+      elsewhere = e;
     }
 
 -- ALL SUBNETS TOGETHER POST AND MOVE WHAT ALL TRANSITIONS DO

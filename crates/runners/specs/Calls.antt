@@ -1,4 +1,4 @@
--- The calls: a row call, with the state that it is lent, and a call to flatten ('The two runners', 'Why a call is turned back').
+-- The calls: a call for the fresh state, and a row call with the state that it is lent ('The two runners', 'Why a call is turned back').
 use Prim.Native.Nat.{ℕ}
 use mathlib.Core.Bool.{Bool, true, _&&_}
 use mathlib.Core.List.{List, _++_, map}
@@ -7,13 +7,11 @@ use lib.ListN.{length, getD, take, drop, replicate}
 use lib.Dec.{leb, ltb, eqb}
 use Rattle.card.specs.Finite.{every, any, someUnless, _otherwise_}
 use Rattle.card.specs.Card.{Card}
-use Rattle.card.specs.Writing.{encode}
-use Rattle.hierarchy.specs.Numbers.{CheckOutcome, WriteOutcome}
+use Rattle.hierarchy.specs.Numbers.{CheckOutcome}
 use Rattle.hierarchy.specs.Judgement.{Judgement, accepted, refused, judge, outcomeOf}
-use Rattle.hierarchy.specs.Output.{delivered}
+use Rattle.flattening.specs.Flattening.{flatten}
 use Rattle.runners.specs.Numbers.{RowOutcome}
 use Rattle.runners.specs.Numbers
-use Rattle.runners.specs.Flattening.{flatten}
 use Rattle.runners.specs.State.{NetState, scale, entry, transfer, fresh, covered}
 use Rattle.runners.specs.Step.{next}
 use Rattle.runners.specs.Rows.{settle, rowRefusal}
@@ -108,9 +106,8 @@ unfoldable pub flatCall : (card : List ℕ) → Lent → (row : List ℕ) → Ro
 flatCall card = called (λ c. true) (judge card)
 
 -- the subnet runner, which is lent a visiting order
-unfoldable pub subnetCall : (card order : List ℕ) → Lent → (row : List ℕ) → RowOutcome × Lent
-subnetCall card order = called (λ c. eachOnce (length (c .subnets)) order) (judge card)
+abbrev pub inOrder : (order : List ℕ) → Card → Bool
+inOrder order c = eachOnce (length (c .subnets)) order
 
--- flattening into a buffer: the card's own refusals, then 24
-unfoldable pub flattenCall : (card buffer : List ℕ) → WriteOutcome × List ℕ
-flattenCall card = delivered (judge card) (λ c. encode (flatten c))
+unfoldable pub subnetCall : (card order : List ℕ) → Lent → (row : List ℕ) → RowOutcome × Lent
+subnetCall card order = called (inOrder order) (judge card)

@@ -1,12 +1,11 @@
 pub mod Numbers
-pub mod Flattening
-pub mod FlatRows
 pub mod State
 pub mod Step
 pub mod Rows
 pub mod Calls
-pub mod Freshness
-pub mod Traces
-pub mod Visits
-pub mod Boards
 pub mod Answers
+pub mod Nets
+pub mod Columns
+pub mod Visits
+pub mod Traces
+pub mod inner

@@ -21,12 +21,14 @@ abbrev pub settle : {S : Type 0} → Option Refusal → (before after : S) → R
 settle none before after = (rowOutcome Ok, after)
 settle (some why) before after = (rowOutcome (No why), before)
 
--- 20 row not of G degrees; 21 degree above 1000, with the lowest such signal; 22 conflict, with its place
+-- 20 row not of G degrees; 21 degree above 1000, with the lowest such signal
+unfoldable pub rowFault : Card → (row : List ℕ) → Option Refusal
+rowFault f row =
+    someUnless (eqb (length row) (f .signals)) BadRow otherwise Option·map BadDegree (lowest 0 (f .signals) (λ g. ltb (scale f) (entry row g)))
+
+-- then 22 conflict, with its place
 unfoldable pub rowRefusal : Card → NetState → (row : List ℕ) → Option Refusal
-rowRefusal f s row =
-    someUnless (eqb (length row) (f .signals)) BadRow
-    otherwise Option·map BadDegree (lowest 0 (f .signals) (λ g. ltb (scale f) (entry row g)))
-    otherwise Option·map Conflict (conflict f s row)
+rowRefusal f s row = rowFault f row otherwise Option·map Conflict (conflict f s row)
 
 -- tests 20 and 21, and then the step
 unfoldable pub step : Card → NetState → (row : List ℕ) → RowOutcome × NetState

@@ -60,8 +60,8 @@ unfoldable pub due : Card → List Transfer → (p : ℕ) → ℕ
 due f xs = flow f (λ t. remaining f (transfer xs t)) fills
 
 -- 1000 × K
-abbrev pub limit : Card → (p : ℕ) → ℕ
-limit f p = scale f * (placeAt f p) .capacity
+abbrev pub fullMarking : Card → (p : ℕ) → ℕ
+fullMarking f p = scale f * (placeAt f p) .capacity
 
 -- the claims at a place, by flat place
 pub record Claims : Type 0 where
@@ -73,4 +73,4 @@ claims f xs = record { owed = owed f xs; due = due f xs }
 
 -- the place has all that is owed, and room for all that is due
 unfoldable pub covered : Card → (markings : List ℕ) → List Transfer → (p : ℕ) → Bool
-covered f ms xs p = leb (owed f xs p) (entry ms p) && leb (entry ms p + due f xs p) (limit f p)
+covered f ms xs p = leb (owed f xs p) (entry ms p) && leb (entry ms p + due f xs p) (fullMarking f p)

@@ -7,7 +7,7 @@ use lib.ListN.{length}
 use lib.Dec.{leb, ltb, eqb}
 use Rattle.card.specs.Finite.{every, lowest, table}
 use Rattle.card.specs.Card.{Arc, Card, draws, fills, transitionAt, arcAt}
-use Rattle.runners.specs.State.{NetState, scale, entry, transfer, remaining, flow, Claims, claims, limit, covered}
+use Rattle.runners.specs.State.{NetState, scale, entry, transfer, remaining, flow, Claims, claims, fullMarking, covered}
 use Rattle.runners.specs.declared.Transfer.{Transfer}
 use Rattle.runners.specs.declared.Transfer.the-variants.{Idle, Carrying}
 
@@ -20,7 +20,7 @@ unfoldable pub allows : Card → Claims → (markings : List ℕ) → Arc → Bo
 allows f k ms a =
     cond (eqb (a .direction) draws)
     (leb (k .owed (a .place) + scale f * a .weight) (entry ms (a .place)))
-    (leb (entry ms (a .place) + k .due (a .place) + scale f * a .weight) (limit f (a .place)))
+    (leb (entry ms (a .place) + k .due (a .place) + scale f * a .weight) (fullMarking f (a .place)))
 
 -- 1. A candidate is an idle transition with new degree above 0 that each of its arcs allows,
 unfoldable pub candidateOn : Card → Claims → NetState → (row : List ℕ) → (t : ℕ) → Bool
@@ -47,14 +47,20 @@ conflict f s row = lowest 0 (length (f .places)) (λ p. not (covered f (s .marki
 abbrev pub rise : Card → (degrees row : List ℕ) → (t : ℕ) → ℕ
 rise f last row t = entry row ((transitionAt f t) .signal) - entry last ((transitionAt f t) .signal)
 
--- 3. Each carrying transition moves d, the smaller of its signal's rise and 1000 - c.
+-- 3. Each carrying transition moves d, the smaller of its signal's rise and 1000 - c; found tells which transitions start.
+abbrev pub movesOn : Card → (found : ℕ → Bool) → NetState → (row : List ℕ) → (t : ℕ) → ℕ
+movesOn f found s row t = min (rise f (s .degrees) row t) (remaining f (startedOn found (s .transfers) t))
+
 unfoldable pub moves : Card → NetState → (row : List ℕ) → (t : ℕ) → ℕ
-moves f s row t = min (rise f (s .degrees) row t) (remaining f (transfer (started f s row) t))
+moves f s row = movesOn f (candidate f s row) s row
 
 -- c grows by d; at 1000 it is idle
 abbrev pub advanced : Card → Transfer → (d : ℕ) → Transfer
 advanced f Idle d = Idle
 advanced f (Carrying c) d = cond (eqb (c + d) (scale f)) Idle (Carrying (c + d))
+
+abbrev pub arrivesOn : Card → (found : ℕ → Bool) → NetState → (row : List ℕ) → (t : ℕ) → Transfer
+arrivesOn f found s row t = advanced f (startedOn found (s .transfers) t) (movesOn f found s row t)
 
 -- Each place it draws from loses W × d, each it fills gains W × d (document 000, rules 5 and 50; nothing is cut off: proofs/StepLaws.antt).
 -- 4. The new degrees become the last ones.
@@ -62,6 +68,6 @@ unfoldable pub next : Card → NetState → (row : List ℕ) → NetState
 next f s row =
     record {
       markings = table 0 (length (f .places)) (λ p. entry (s .markings) p + flow f (moves f s row) fills p - flow f (moves f s row) draws p);
-      transfers = table 0 (length (f .transitions)) (λ t. advanced f (transfer (started f s row) t) (moves f s row t));
+      transfers = table 0 (length (f .transitions)) (arrivesOn f (candidate f s row) s row);
       degrees = row;
     }

@@ -8,11 +8,12 @@ use lib.ListN.{length}
 use Rattle.card.specs.Finite.{All}
 use Rattle.card.specs.Card.{Card}
 use Rattle.hierarchy.specs.Judgement.{accepted, judge}
+use Rattle.flattening.specs.Flattening.{flatten}
 use Rattle.runners.specs.Numbers.{RowOutcome}
-use Rattle.runners.specs.Flattening.{flatten}
-use Rattle.runners.specs.State.{NetState, entry, fresh, limit}
+use Rattle.runners.specs.State.{NetState, entry, fresh, fullMarking}
 use Rattle.runners.specs.Rows.{step}
-use Rattle.runners.specs.Calls.{view, freshLent, eachOnce, flatCall, subnetCall}
+use Rattle.runners.specs.Calls.{view, freshCall, eachOnce, flatCall, subnetCall}
+use Rattle.runners.specs.Visits.{VisitsAlike}
 use Rattle.runners.specs.declared.State.{State as Lent}
 
 -- Each reply with the state after it. Each call gets the state that the call before returned or left.
@@ -41,18 +42,19 @@ observed x = (x .0, view (x .1))
 
 -- every marking is 0 to 1000 × K
 abbrev pub Bounded : (f : Card) → NetState → Type 0
-Bounded f s = (p : ℕ) → p < length (f .places) → entry (s .markings) p ≤ limit f p
+Bounded f s = (p : ℕ) → p < length (f .places) → entry (s .markings) p ≤ fullMarking f p
 
 -- At the start and after each call the replies and states of both runners are equal, and those of the paper's own step on the flat net, run
--- from its own fresh state; and every marking is in range. A runner's first call gets its fresh state.
+-- from its own fresh state; and every marking is in range. A runner's first call gets the state that the call for a fresh one returns.
 pub record Agreement (card : List ℕ) (c : Card) (calls : List Call) : Type 0 where
-  pub start : view (freshLent (flatten c)) ≡ fresh (flatten c)
-  pub runners : subnetTrace card (freshLent (flatten c)) calls ≡ flatTrace card (freshLent (flatten c)) calls
-  pub net : map observed (flatTrace card (freshLent (flatten c)) calls) ≡ netTrace (flatten c) (fresh (flatten c)) calls
+  pub start : view ((freshCall card) .1) ≡ fresh (flatten c)
+  pub runners : subnetTrace card ((freshCall card) .1) calls ≡ flatTrace card ((freshCall card) .1) calls
+  pub net : map observed (flatTrace card ((freshCall card) .1) calls) ≡ netTrace (flatten c) (fresh (flatten c)) calls
   pub bounded : All (Bounded (flatten c)) (fresh (flatten c) ∷ map (λ x. x .1) (netTrace (flatten c) (fresh (flatten c)) calls))
 
--- Demand 3: for every accepted card and every list of row calls, refused rows among them, whatever the valid visiting orders.
-abbrev pub Demand3 : Type 0
-Demand3 =
-    (card : List ℕ) (c : Card) (calls : List Call) → judge card ≡ accepted c → All (λ k. eachOnce (length (c .subnets)) (k .order) ≡ true) calls
-    → Agreement card c calls
+-- Demand 3: for every accepted card and every list of row calls, refused rows among them, whatever the valid visiting orders, the runners
+-- agree; and no visit's outcome hangs on a place that its subnet cannot see.
+pub record Demand3 : Type 0 where
+  pub agree : (card : List ℕ) (c : Card) (calls : List Call) → judge card ≡ accepted c
+      → All (λ k. eachOnce (length (c .subnets)) (k .order) ≡ true) calls → Agreement card c calls
+  pub local : VisitsAlike

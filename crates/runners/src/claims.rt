@@ -14,10 +14,12 @@ ghost use Rattle.card.specs.Card.{Card, draws, fills, transitionAt, arcAt};
 ghost use Rattle.card.specs.Finite.{every};
 ghost use Rattle.card.specs.Index.{Lists, firstPlaceStart};
 ghost use Rattle.hierarchy.specs.Arcs.{arcOf, Begins};
-ghost use Rattle.runners.specs.Flattening.{flatten, flatArc};
+ghost use Rattle.flattening.specs.Flattening.{flatten, flatArc};
 ghost use Rattle.runners.specs.State.{entry, incidence};
 ghost use Rattle.runners.specs.Step.{allows as allowsIt};
-ghost use Rattle.runners.specs.Boards.{InTables, Moved, Grown, nothing, share, posted};
+ghost use Rattle.runners.specs.Columns.{Moved, Grown, nothing, posted};
+ghost use Rattle.runners.specs.Visits.{InTables};
+ghost use Rattle.runners.specs.inner.Transitions.{share};
 
 // Entry p, and 0 past the end.
 pub fn entry_at(column: &[u32], p: usize) -> u64
@@ -29,25 +31,21 @@ pub fn entry_at(column: &[u32], p: usize) -> u64
     0
 }
 
-// Adds v to entry p. A sum of more than 32 bits is not stored; no accepted card's claims come near one.
+// Adds v to entry p, in 32 bits, which go round. No accepted card's claims come near more.
 fn add_at(column: &mut [u32], p: usize, v: u32)
     ensures { λ r. ⌜ Grown (now (column .entry)) (now (column .exit)) (share 0 0 p v) ⌝ }
 {
     if p < column.len() {
-        if v <= 4294967295 - column[p] {
-            column[p] = column[p] + v;
-        }
+        column[p] = std::num::wrapping_add_u32(column[p], v);
     }
 }
 
-// Takes v from entry p, which has it.
+// Takes v from entry p, in 32 bits.
 fn take_at(column: &mut [u32], p: usize, v: u32)
     ensures { λ r. ⌜ Moved (now (column .entry)) (now (column .exit)) (share 0 0 p v) nothing ⌝ }
 {
     if p < column.len() {
-        if v <= column[p] {
-            column[p] = column[p] - v;
-        }
+        column[p] = std::num::wrapping_sub_u32(column[p], v);
     }
 }
 
@@ -113,20 +111,20 @@ fn post_arcs(
 pub fn post_transition(
     numbers: &[u16],
     starts: &[u32],
-    t: u32,
+    t: u16,
     part: u16,
     owed: &mut [u32],
     due: &mut [u32],
 )
     ensures { λ r. ⌜ length (now (owed .exit)) ≡ length (now (owed .entry)) ⌝ }
     ensures { λ r. ⌜ length (now (due .exit)) ≡ length (now (due .entry)) ⌝ }
-    ensures { λ r. ⌜ ((c : Card) (i : ℕ) → InTables c (now (numbers .entry)) (now (starts .entry)) → Lists c i t → Grown (now (owed .entry)) (now (owed .exit)) (λ p. part * incidence (flatten c) draws t p)) ⌝ }
-    ensures { λ r. ⌜ ((c : Card) (i : ℕ) → InTables c (now (numbers .entry)) (now (starts .entry)) → Lists c i t → Grown (now (due .entry)) (now (due .exit)) (λ p. part * incidence (flatten c) fills t p)) ⌝ }
+    ensures { λ r. ⌜ ((c : Card) → InTables c (now (numbers .entry)) (now (starts .entry)) → t < length (c .transitions) → Grown (now (owed .entry)) (now (owed .exit)) (λ p. part * incidence (flatten c) draws t p)) ⌝ }
+    ensures { λ r. ⌜ ((c : Card) → InTables c (now (numbers .entry)) (now (starts .entry)) → t < length (c .transitions) → Grown (now (due .entry)) (now (due .exit)) (λ p. part * incidence (flatten c) fills t p)) ⌝ }
 {
     if part == 0 {
         return;
     }
-    let row = transition_row(starts, t);
+    let row = transition_row(starts, t as u32);
     post_arcs(numbers, starts, row, part, owed, due);
 }
 
@@ -146,14 +144,14 @@ fn move_arcs(numbers: &[u16], starts: &[u32], row: u32, part: u16, markings: &mu
 }
 
 // Transition t moves it.
-pub fn move_transition(numbers: &[u16], starts: &[u32], t: u32, part: u16, markings: &mut [u32])
+pub fn move_transition(numbers: &[u16], starts: &[u32], t: u16, part: u16, markings: &mut [u32])
     ensures { λ r. ⌜ length (now (markings .exit)) ≡ length (now (markings .entry)) ⌝ }
-    ensures { λ r. ⌜ ((c : Card) (i : ℕ) → InTables c (now (numbers .entry)) (now (starts .entry)) → Lists c i t → Moved (now (markings .entry)) (now (markings .exit)) (λ p. part * incidence (flatten c) draws t p) (λ p. part * incidence (flatten c) fills t p)) ⌝ }
+    ensures { λ r. ⌜ ((c : Card) → InTables c (now (numbers .entry)) (now (starts .entry)) → t < length (c .transitions) → Moved (now (markings .entry)) (now (markings .exit)) (λ p. part * incidence (flatten c) draws t p) (λ p. part * incidence (flatten c) fills t p)) ⌝ }
 {
     if part == 0 {
         return;
     }
-    let row = transition_row(starts, t);
+    let row = transition_row(starts, t as u32);
     move_arcs(numbers, starts, row, part, markings);
 }
 

@@ -1,12 +1,16 @@
-// Layer 3: flattening, the step and the two runners. specs/ says what they do and what the two programs write.
+// Layer 3: the step and the two runners. specs/ says what they do.
 
 mod claims;
-pub mod flat;
+pub mod codes;
+pub mod flat_runner;
 pub mod fresh;
+mod guards;
+pub mod nets;
 mod order;
+mod places;
 mod rounds;
-pub mod row;
-mod tests;
+mod row;
+pub mod subnet_runner;
 mod transfers;
 mod verdict;
 mod visits;
@@ -54,4 +58,20 @@ pub enum Refusal {
 pub enum Reply {
     Ok,
     No(Refusal),
+}
+
+// The reply, and the next state; where the row is refused, the state as it was.
+pub struct RowAnswer {
+    pub reply: Reply,
+    pub state: State,
+}
+
+// A card that was loaded: the check's answer, its two tables, the full marking of each place, and its sizes. Only this crate makes one or looks
+// into it.
+pub struct Net {
+    answer: hierarchy::Answer,
+    numbers: [u16; 33026],
+    starts: [u32; 644],
+    full: [u32; 255],
+    sizes: Sizes,
 }

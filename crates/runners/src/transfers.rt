@@ -1,19 +1,44 @@
-// A row works on numbers, which can be lent: what remains of each transfer, 0 of an idle one. Here a lent state's transfers become such
-// numbers, and the numbers are stored as transfers again.
+// What one transition does with its transfer, to be a candidate, to start and to advance: on the enum, which numbers carry in and out. And a
+// lent state's transfers as such numbers.
 use crate::Slot;
 use crate::State;
 use crate::Transfer;
+use crate::codes::IDLE;
+use crate::codes::code_of;
+use crate::codes::transfer_of;
 ghost use mathlib.Core.Path.{_≡_};
-ghost use Prim.Native.Nat.{ℕ, _<_, _≤_};
-ghost use lib.ListN.{length};
+ghost use mathlib.Core.Bool.{cond};
+ghost use mathlib.Core.List.{map};
+ghost use Prim.Native.Nat.{ℕ, _+_, _<_, _≤_};
+ghost use lib.ListN.{length, set};
 ghost use Rattle.card.specs.Card.{Card};
-ghost use Rattle.runners.specs.Flattening.{flatten};
-ghost use Rattle.runners.specs.State.{entry, transfer as transferAt, remaining as remainingOf};
-ghost use Rattle.runners.specs.Calls.{view};
-ghost use Rattle.runners.specs.Boards.{Counts, transferOf as transferFrom, Stored};
+ghost use Rattle.runners.specs.State.{transfer as transferAt, remaining as remainingOf};
+ghost use Rattle.runners.specs.Step.{advanced as advancedOf};
+ghost use Rattle.runners.specs.Columns.{codeOf, transferOf, codeAt};
+ghost use Rattle.runners.specs.inner.Storing.{CodesOf, Stored};
+ghost use Rattle.runners.specs.declared.Transfer.the-variants.{Carrying};
+
+// The transfer of transition t; past the last one it is idle.
+pub fn transfer_at(codes: &[u16], t: usize) -> Transfer
+    ensures { λ r. ⌜ r ≡ transferAt (map transferOf (now (codes .entry))) t ⌝ }
+{
+    if t < codes.len() {
+        return transfer_of(codes[t]);
+    }
+    Transfer::Idle
+}
+
+// Stores the transfer of transition t; a number past the last stores nothing.
+pub fn put_transfer(codes: &mut [u16], t: usize, transfer: Transfer)
+    ensures { λ r. ⌜ now (codes .exit) ≡ set (now (codes .entry)) t (codeOf transfer) ⌝ }
+{
+    if t < codes.len() {
+        codes[t] = code_of(transfer);
+    }
+}
 
 // What remains of a transfer, in thousandths.
-fn remaining(transfer: Transfer) -> u16
+pub fn remaining(transfer: Transfer) -> u16
     ensures { λ r. ⌜ ((f : Card) → r ≡ remainingOf f transfer) ⌝ }
 {
     match transfer {
@@ -27,41 +52,54 @@ fn remaining(transfer: Transfer) -> u16
     }
 }
 
-// What remains of each transfer of a state.
-pub fn rests(state: State) -> [u16; 255]
-    ensures { λ r. ⌜ ((c : Card) → Counts c state → length (c .transitions) ≤ 255 → (t : ℕ) → t < length (c .transitions) → entry r t ≡ remainingOf (flatten c) (transferAt ((view state) .transfers) t)) ⌝ }
+// A candidate carries from now on.
+pub fn started(transfer: Transfer, candidate: bool) -> Transfer
+    ensures { λ r. ⌜ r ≡ cond candidate (Carrying 0) transfer ⌝ }
 {
-    let mut rest = [0; 255];
+    if candidate {
+        return Transfer::Carrying(0);
+    }
+    transfer
+}
+
+// c grows by d; at 1000 the transition is idle.
+pub fn advanced(transfer: Transfer, d: u16) -> Transfer
+    requires { ⌜ ((f : Card) → d ≤ remainingOf f transfer) ⌝ }
+    ensures { λ r. ⌜ ((f : Card) → r ≡ advancedOf f transfer d) ⌝ }
+{
+    match transfer {
+        Transfer::Idle => Transfer::Idle,
+        Transfer::Carrying(c) => {
+            if c + d == 1000 {
+                return Transfer::Idle;
+            }
+            Transfer::Carrying(c + d)
+        }
+    }
+}
+
+// The transfers of a state, as numbers.
+pub fn codes(state: State) -> [u16; 255]
+    ensures { λ r. ⌜ CodesOf state r ⌝ }
+{
+    let mut codes = [IDLE; 255];
     let n = state.transitions;
     let mut t: usize = 0;
     while t < n {
         if 255 <= t {
-            return rest;
+            return codes;
         }
         let slot = state.slots[t];
         let transfer = slot.transfer;
-        rest[t] = remaining(transfer);
+        codes[t] = code_of(transfer);
         t += 1;
     }
-    rest
+    codes
 }
 
-// The transfer of which so much remains.
-fn transfer_of(rest: u16) -> Transfer
-    ensures { λ r. ⌜ r ≡ transferFrom rest ⌝ }
-{
-    if rest == 0 {
-        return Transfer::Idle;
-    }
-    if 1000 <= rest {
-        return Transfer::Carrying(0);
-    }
-    Transfer::Carrying(1000 - rest)
-}
-
-// The state with these markings, and with transfers of which so much remains.
-pub fn stored(state: State, markings: [u32; 255], rest: [u16; 255]) -> State
-    ensures { λ r. ⌜ (state .transitions ≤ 255 → Stored state markings rest r) ⌝ }
+// The state with these markings, and with the transfers of these numbers.
+pub fn stored(state: State, markings: [u32; 255], codes: [u16; 255]) -> State
+    ensures { λ r. ⌜ Stored state markings codes r ⌝ }
 {
     let mut next = state;
     next.markings = markings;
@@ -71,7 +109,7 @@ pub fn stored(state: State, markings: [u32; 255], rest: [u16; 255]) -> State
         if 255 <= t {
             return next;
         }
-        let transfer = transfer_of(rest[t]);
+        let transfer = transfer_of(codes[t]);
         next.slots[t] = Slot { transfer };
         t += 1;
     }

@@ -1,29 +1,35 @@
 // The three visits of a subnet in a row: to post standing claims, to find candidates and post theirs, and to move. A visit works from the
-// card's tables and from its own stretch of the state. None is an entry point; each contract holds the three facts of specs/Visits.antt.
+// card's tables and from the columns that it is lent; each is made of what one transition does, over the subnet's own transitions. None is an
+// entry point; each contract holds the three facts of specs/Visits.antt.
+use crate::Transfer;
 use crate::claims::all_allow;
 use crate::claims::move_transition;
 use crate::claims::post_transition;
+use crate::transfers::advanced;
+use crate::transfers::put_transfer;
+use crate::transfers::remaining;
+use crate::transfers::started;
+use crate::transfers::transfer_at;
 use card::tables::first_transition;
+use card::tables::narrow;
 use card::tables::signal;
-use card::tables::subnet_row;
-use card::tables::transition_count;
 use card::tables::transition_row;
 ghost use mathlib.Core.Path.{_≡_};
-ghost use mathlib.Core.Bool.{Bool, _&&_, cond};
+ghost use mathlib.Core.Bool.{Bool, cond, _&&_};
 ghost use mathlib.Core.List.{List};
-ghost use Prim.Native.Nat.{ℕ, _+_, _-_, _<_, _≤_, min};
+ghost use Prim.Native.Nat.{ℕ, suc, _<_, _≤_};
 ghost use lib.ListN.{length, set};
-ghost use lib.Dec.{ltb, eqb};
-ghost use Rattle.card.specs.Card.{Card, transitionAt, arcAt};
+ghost use lib.Dec.{ltb};
+ghost use Rattle.card.specs.Card.{Card, transitionAt, arcAt, firstTransition};
 ghost use Rattle.card.specs.Finite.{every};
-ghost use Rattle.card.specs.Index.{Lists};
-ghost use Rattle.runners.specs.Flattening.{flatten};
-ghost use Rattle.runners.specs.State.{NetState, Claims, entry};
-ghost use Rattle.runners.specs.Step.{allows};
-ghost use Rattle.runners.specs.Visits.{posting, finding};
-ghost use Rattle.runners.specs.Boards.{InTables, turn, posted, isMarked, Rests, ToFind, ToMove, Posted, Marked, Shifted};
+ghost use Rattle.flattening.specs.Flattening.{flatten};
+ghost use Rattle.runners.specs.State.{NetState, scale, entry, transfer as transferIn, remaining as remainingOf};
+ghost use Rattle.runners.specs.Step.{allows, candidateOn, startedOn, movesOn};
+ghost use Rattle.runners.specs.Columns.{noted, posted, columns};
+ghost use Rattle.runners.specs.Visits.{posting, finding, moving, InTables, IsVisit};
+ghost use Rattle.runners.specs.inner.Transitions.{IsOne, IsSpan};
 
-// Entry i of a list of degrees, marks or remains, and 0 past the end.
+// Entry i of a list of degrees, and 0 past the end.
 fn number_at(list: &[u16], i: usize) -> u16
     ensures { λ r. ⌜ r ≡ entry (now (list .entry)) i ⌝ }
 {
@@ -33,128 +39,275 @@ fn number_at(list: &[u16], i: usize) -> u16
     0
 }
 
+// The entry of a list of degrees for the signal of transition t.
+fn degree_of(numbers: &[u16], starts: &[u32], t: u16, degrees: &[u16]) -> u16
+    ensures { λ r. ⌜ ((c : Card) → InTables c (now (numbers .entry)) (now (starts .entry)) → t < length (c .transitions) → r ≡ entry (now (degrees .entry)) ((transitionAt c t) .signal)) ⌝ }
+{
+    let row = transition_row(starts, t as u32);
+    number_at(degrees, signal(numbers, row) as usize)
+}
+
+// Whether transition t is noted as a candidate; one past the last is none.
+fn is_noted(candidates: &[bool], t: usize) -> bool
+    ensures { λ r. ⌜ r ≡ noted (now (candidates .entry)) t ⌝ }
+{
+    if t < candidates.len() {
+        return candidates[t];
+    }
+    false
+}
+
+// Notes whether transition t is a candidate; a number past the last notes nothing.
+fn note(candidates: &mut [bool], t: usize, candidate: bool)
+    ensures { λ r. ⌜ now (candidates .exit) ≡ set (now (candidates .entry)) t candidate ⌝ }
+{
+    if t < candidates.len() {
+        candidates[t] = candidate;
+    }
+}
+
+// Transition t posts what remains of its transfer.
+fn post_one(
+    numbers: &[u16],
+    starts: &[u32],
+    t: u16,
+    transfers: &[u16],
+    owed: &mut [u32],
+    due: &mut [u32],
+)
+    ensures { λ r. ⌜ length (now (owed .exit)) ≡ length (now (owed .entry)) ⌝ }
+    ensures { λ r. ⌜ length (now (due .exit)) ≡ length (now (due .entry)) ⌝ }
+    ensures { λ r. ⌜ ((ms last row drawn filled : List ℕ) (cs : List Bool) → IsOne posting t (now (numbers .entry)) (now (starts .entry)) (columns ms (now (transfers .entry)) last row (now (owed .entry)) (now (due .entry)) drawn filled cs) (columns ms (now (transfers .entry)) last row (now (owed .exit)) (now (due .exit)) drawn filled cs)) ⌝ }
+{
+    let transfer = transfer_at(transfers, t as usize);
+    let rest = remaining(transfer);
+    post_transition(numbers, starts, t, rest, owed, due);
+}
+
+// The transitions from first up to end post.
+pub fn post_span(
+    numbers: &[u16],
+    starts: &[u32],
+    first: u16,
+    end: u16,
+    transfers: &[u16],
+    owed: &mut [u32],
+    due: &mut [u32],
+)
+    ensures { λ r. ⌜ length (now (owed .exit)) ≡ length (now (owed .entry)) ⌝ }
+    ensures { λ r. ⌜ length (now (due .exit)) ≡ length (now (due .entry)) ⌝ }
+    ensures { λ r. ⌜ ((ms last row drawn filled : List ℕ) (cs : List Bool) → IsSpan posting first end (now (numbers .entry)) (now (starts .entry)) (columns ms (now (transfers .entry)) last row (now (owed .entry)) (now (due .entry)) drawn filled cs) (columns ms (now (transfers .entry)) last row (now (owed .exit)) (now (due .exit)) drawn filled cs)) ⌝ }
+{
+    let mut t = first;
+    while t < end {
+        post_one(numbers, starts, t, transfers, owed, due);
+        t += 1;
+    }
+}
+
+// Where the own transitions of a subnet begin, and where the next subnet's do.
+struct Span {
+    first: u16,
+    end: u16,
+}
+
+fn own_transitions(starts: &[u32], s: u16) -> Span
+    ensures { λ r. ⌜ ((c : Card) (numbers : List ℕ) → InTables c numbers (now (starts .entry)) → s < length (c .subnets) → (r .first ≡ firstTransition c s) × (r .end ≡ firstTransition c (suc s))) ⌝ }
+{
+    if s == u16::MAX {
+        return Span { first: 0, end: 0 };
+    }
+    Span {
+        first: narrow(first_transition(starts, s) as usize),
+        end: narrow(first_transition(starts, s + 1) as usize),
+    }
+}
+
 // The first visit of subnet s posts what remains of its transfers. Two wrong ones that this rules out: one that posts nothing for a transfer
 // whose progress is 0, and one that posts its children's transfers too.
 pub fn visit_post(
     numbers: &[u16],
     starts: &[u32],
     s: u16,
-    rest: &[u16],
+    transfers: &[u16],
     owed: &mut [u32],
     due: &mut [u32],
 )
     ensures { λ r. ⌜ length (now (owed .exit)) ≡ length (now (owed .entry)) ⌝ }
     ensures { λ r. ⌜ length (now (due .exit)) ≡ length (now (due .entry)) ⌝ }
-    ensures { λ r. ⌜ ((c : Card) (x : NetState) (row : List ℕ) (k : Claims) (found : ℕ → Bool) (clear : Bool) → InTables c (now (numbers .entry)) (now (starts .entry)) → s < length (c .subnets) → Rests c s x (now (rest .entry)) → Posted posting s (turn c x row k found clear) (now (owed .entry)) (now (owed .exit)) (now (due .entry)) (now (due .exit))) ⌝ }
+    ensures { λ r. ⌜ ((ms last row drawn filled : List ℕ) (cs : List Bool) → IsVisit posting s (now (numbers .entry)) (now (starts .entry)) (columns ms (now (transfers .entry)) last row (now (owed .entry)) (now (due .entry)) drawn filled cs) (columns ms (now (transfers .entry)) last row (now (owed .exit)) (now (due .exit)) drawn filled cs)) ⌝ }
 {
-    let count = transition_count(numbers, subnet_row(starts, s));
-    let first = first_transition(starts, s);
-    let mut k = 0;
-    while k < count {
-        let t = first as usize + k as usize;
-        if 255 <= t {
-            return;
-        }
-        let part = number_at(rest, t);
-        post_transition(numbers, starts, t as u32, part, owed, due);
-        k += 1;
-    }
+    let own = own_transitions(starts, s);
+    post_span(numbers, starts, own.first, own.end, transfers, owed, due);
 }
 
-// What transition t, of which so much remains, claims if it is a candidate: all of its weights, in thousandths.
-fn claim(
+// Whether transition t, if it is idle, may start: its new degree is above 0, and each of its arcs allows it.
+fn may_start(
     numbers: &[u16],
     starts: &[u32],
-    t: u32,
-    rest: u16,
+    t: u16,
     row: &[u16],
     markings: &[u32],
     owed: &[u32],
     due: &[u32],
-) -> u16
-    ensures { λ r. ⌜ ((c : Card) (i : ℕ) → InTables c (now (numbers .entry)) (now (starts .entry)) → Lists c i t → r ≡ cond (eqb rest 0 && ltb 0 (entry (now (row .entry)) ((transitionAt c t) .signal)) && every ((transitionAt c t) .arcs) (λ j. allows (flatten c) (posted (now (owed .entry)) (now (due .entry))) (now (markings .entry)) (arcAt (flatten c) t j))) 1000 0) ⌝ }
+) -> bool
+    ensures { λ r. ⌜ ((c : Card) → InTables c (now (numbers .entry)) (now (starts .entry)) → t < length (c .transitions) → r ≡ (ltb 0 (entry (now (row .entry)) ((transitionAt c t) .signal)) && every ((transitionAt c t) .arcs) (λ j. allows (flatten c) (posted (now (owed .entry)) (now (due .entry))) (now (markings .entry)) (arcAt (flatten c) t j)))) ⌝ }
 {
-    if rest != 0 {
-        return 0;
+    if degree_of(numbers, starts, t, row) == 0 {
+        return false;
     }
-    let at = transition_row(starts, t);
-    let g = signal(numbers, at) as usize;
-    if number_at(row, g) == 0 {
-        return 0;
+    let at = transition_row(starts, t as u32);
+    all_allow(numbers, starts, at, markings, owed, due)
+}
+
+// A candidate is an idle transition that may start.
+fn is_candidate(
+    numbers: &[u16],
+    starts: &[u32],
+    t: u16,
+    transfer: Transfer,
+    row: &[u16],
+    markings: &[u32],
+    owed: &[u32],
+    due: &[u32],
+) -> bool
+    ensures { λ r. ⌜ ((c : Card) (s : NetState) → InTables c (now (numbers .entry)) (now (starts .entry)) → t < length (c .transitions) → s .markings ≡ now (markings .entry) → transfer ≡ transferIn (s .transfers) t → r ≡ candidateOn (flatten c) (posted (now (owed .entry)) (now (due .entry))) s (now (row .entry)) t) ⌝ }
+{
+    match transfer {
+        Transfer::Idle => may_start(numbers, starts, t, row, markings, owed, due),
+        Transfer::Carrying(_c) => false,
     }
-    if all_allow(numbers, starts, at, markings, owed, due) {
+}
+
+// What a candidate claims: all of its weights, in thousandths.
+fn claim(candidate: bool) -> u16
+    ensures { λ r. ⌜ ((f : Card) → r ≡ cond candidate (scale f) 0) ⌝ }
+{
+    if candidate {
         return 1000;
     }
     0
 }
 
-// Stores entry t; a number past the last stores nothing.
-fn mark(list: &mut [u16], t: usize, v: u16)
-    ensures { λ r. ⌜ now (list .exit) ≡ set (now (list .entry)) t v ⌝ }
+// Transition t is noted as a candidate or not, and posts its claims if it is one.
+fn find_one(
+    numbers: &[u16],
+    starts: &[u32],
+    t: u16,
+    markings: &[u32],
+    transfers: &[u16],
+    row: &[u16],
+    owed: &[u32],
+    due: &[u32],
+    drawn: &mut [u32],
+    filled: &mut [u32],
+    candidates: &mut [bool],
+)
+    ensures { λ r. ⌜ length (now (drawn .exit)) ≡ length (now (drawn .entry)) ⌝ }
+    ensures { λ r. ⌜ length (now (filled .exit)) ≡ length (now (filled .entry)) ⌝ }
+    ensures { λ r. ⌜ length (now (candidates .exit)) ≡ length (now (candidates .entry)) ⌝ }
+    ensures { λ r. ⌜ ((last : List ℕ) → IsOne finding t (now (numbers .entry)) (now (starts .entry)) (columns (now (markings .entry)) (now (transfers .entry)) last (now (row .entry)) (now (owed .entry)) (now (due .entry)) (now (drawn .entry)) (now (filled .entry)) (now (candidates .entry))) (columns (now (markings .entry)) (now (transfers .entry)) last (now (row .entry)) (now (owed .entry)) (now (due .entry)) (now (drawn .exit)) (now (filled .exit)) (now (candidates .exit)))) ⌝ }
 {
-    if t < list.len() {
-        list[t] = v;
+    let transfer = transfer_at(transfers, t as usize);
+    let candidate = is_candidate(numbers, starts, t, transfer, row, markings, owed, due);
+    post_transition(numbers, starts, t, claim(candidate), drawn, filled);
+    note(candidates, t as usize, candidate);
+}
+
+// The transitions from first up to end.
+fn find_span(
+    numbers: &[u16],
+    starts: &[u32],
+    first: u16,
+    end: u16,
+    markings: &[u32],
+    transfers: &[u16],
+    row: &[u16],
+    owed: &[u32],
+    due: &[u32],
+    drawn: &mut [u32],
+    filled: &mut [u32],
+    candidates: &mut [bool],
+)
+    ensures { λ r. ⌜ length (now (drawn .exit)) ≡ length (now (drawn .entry)) ⌝ }
+    ensures { λ r. ⌜ length (now (filled .exit)) ≡ length (now (filled .entry)) ⌝ }
+    ensures { λ r. ⌜ length (now (candidates .exit)) ≡ length (now (candidates .entry)) ⌝ }
+    ensures { λ r. ⌜ ((last : List ℕ) → IsSpan finding first end (now (numbers .entry)) (now (starts .entry)) (columns (now (markings .entry)) (now (transfers .entry)) last (now (row .entry)) (now (owed .entry)) (now (due .entry)) (now (drawn .entry)) (now (filled .entry)) (now (candidates .entry))) (columns (now (markings .entry)) (now (transfers .entry)) last (now (row .entry)) (now (owed .entry)) (now (due .entry)) (now (drawn .exit)) (now (filled .exit)) (now (candidates .exit)))) ⌝ }
+{
+    let mut t = first;
+    while t < end {
+        find_one(
+            numbers,
+            starts,
+            t,
+            markings,
+            transfers,
+            row,
+            owed,
+            due,
+            drawn,
+            filled,
+            candidates,
+        );
+        t += 1;
     }
 }
 
-// The second visit of subnet s marks its candidates and posts what they claim. Two wrong ones that this rules out: one that judges them on
+// The second visit of subnet s notes its candidates and posts what they claim. Two wrong ones that this rules out: one that judges them on
 // the markings alone, and one that posts their claims among the standing ones.
 pub fn visit_find(
     numbers: &[u16],
     starts: &[u32],
     s: u16,
     markings: &[u32],
-    rest: &[u16],
+    transfers: &[u16],
     row: &[u16],
     owed: &[u32],
     due: &[u32],
     drawn: &mut [u32],
     filled: &mut [u32],
-    marks: &mut [u16],
+    candidates: &mut [bool],
 )
     ensures { λ r. ⌜ length (now (drawn .exit)) ≡ length (now (drawn .entry)) ⌝ }
     ensures { λ r. ⌜ length (now (filled .exit)) ≡ length (now (filled .entry)) ⌝ }
-    ensures { λ r. ⌜ length (now (marks .exit)) ≡ length (now (marks .entry)) ⌝ }
-    ensures { λ r. ⌜ ((c : Card) (x : NetState) (found : ℕ → Bool) (clear : Bool) → InTables c (now (numbers .entry)) (now (starts .entry)) → s < length (c .subnets) → ToFind c s x (now (markings .entry)) (now (rest .entry)) → Posted finding s (turn c x (now (row .entry)) (posted (now (owed .entry)) (now (due .entry))) found clear) (now (drawn .entry)) (now (drawn .exit)) (now (filled .entry)) (now (filled .exit))) ⌝ }
-    ensures { λ r. ⌜ ((c : Card) (x : NetState) (found : ℕ → Bool) (clear : Bool) → InTables c (now (numbers .entry)) (now (starts .entry)) → s < length (c .subnets) → ToFind c s x (now (markings .entry)) (now (rest .entry)) → Marked s (turn c x (now (row .entry)) (posted (now (owed .entry)) (now (due .entry))) found clear) (now (marks .entry)) (now (marks .exit))) ⌝ }
+    ensures { λ r. ⌜ length (now (candidates .exit)) ≡ length (now (candidates .entry)) ⌝ }
+    ensures { λ r. ⌜ ((last : List ℕ) → IsVisit finding s (now (numbers .entry)) (now (starts .entry)) (columns (now (markings .entry)) (now (transfers .entry)) last (now (row .entry)) (now (owed .entry)) (now (due .entry)) (now (drawn .entry)) (now (filled .entry)) (now (candidates .entry))) (columns (now (markings .entry)) (now (transfers .entry)) last (now (row .entry)) (now (owed .entry)) (now (due .entry)) (now (drawn .exit)) (now (filled .exit)) (now (candidates .exit)))) ⌝ }
 {
-    let count = transition_count(numbers, subnet_row(starts, s));
-    let first = first_transition(starts, s);
-    let mut k = 0;
-    while k < count {
-        let t = first as usize + k as usize;
-        if 255 <= t {
-            return;
-        }
-        let left = number_at(rest, t);
-        let part = claim(numbers, starts, t as u32, left, row, markings, owed, due);
-        post_transition(numbers, starts, t as u32, part, drawn, filled);
-        mark(marks, t, part);
-        k += 1;
-    }
+    let own = own_transitions(starts, s);
+    find_span(
+        numbers,
+        starts,
+        own.first,
+        own.end,
+        markings,
+        transfers,
+        row,
+        owed,
+        due,
+        drawn,
+        filled,
+        candidates,
+    );
 }
 
-// What remains of a transfer with a candidate's mark: all of it, since it carries from now on.
-fn started(rest: u16, part: u16) -> u16
-    ensures { λ r. ⌜ r ≡ cond (ltb 0 part) 1000 rest ⌝ }
+// How far transition t moves: the smaller of its signal's rise and what remains of its transfer.
+fn distance(
+    numbers: &[u16],
+    starts: &[u32],
+    t: u16,
+    transfer: Transfer,
+    degrees: &[u16],
+    row: &[u16],
+) -> u16
+    ensures { λ r. ⌜ ((f : Card) → r ≤ remainingOf f transfer) ⌝ }
+    ensures { λ r. ⌜ ((c : Card) (s : NetState) (found : ℕ → Bool) → InTables c (now (numbers .entry)) (now (starts .entry)) → t < length (c .transitions) → s .degrees ≡ now (degrees .entry) → transfer ≡ startedOn found (s .transfers) t → r ≡ movesOn (flatten c) found s (now (row .entry)) t) ⌝ }
 {
-    if part == 0 {
-        return rest;
-    }
-    1000
-}
-
-// How far transition t, of which so much remains, moves: the smaller of its signal's rise and what remains.
-fn stride(numbers: &[u16], starts: &[u32], t: u32, rest: u16, degrees: &[u16], row: &[u16]) -> u16
-    ensures { λ r. ⌜ (r ≤ rest) × ((c : Card) (i : ℕ) → InTables c (now (numbers .entry)) (now (starts .entry)) → Lists c i t → r ≡ min (entry (now (row .entry)) ((transitionAt c t) .signal) - entry (now (degrees .entry)) ((transitionAt c t) .signal)) rest) ⌝ }
-{
+    let rest = remaining(transfer);
     if rest == 0 {
         return 0;
     }
-    let at = transition_row(starts, t);
-    let g = signal(numbers, at) as usize;
-    let last = number_at(degrees, g);
-    let degree = number_at(row, g);
+    let last = degree_of(numbers, starts, t, degrees);
+    let degree = degree_of(numbers, starts, t, row);
     if degree <= last {
         return 0;
     }
@@ -164,38 +317,86 @@ fn stride(numbers: &[u16], starts: &[u32], t: u32, rest: u16, degrees: &[u16], r
     rest
 }
 
-// The third visit of subnet s moves what its transfers carry. Two wrong ones that this rules out: one that lets degrees add up past 1000, and
-// one that takes a progress of 0 for idle.
+// Transition t starts if it is a candidate, and moves what it carries.
+fn move_one(
+    numbers: &[u16],
+    starts: &[u32],
+    t: u16,
+    degrees: &[u16],
+    row: &[u16],
+    candidates: &[bool],
+    markings: &mut [u32],
+    transfers: &mut [u16],
+)
+    ensures { λ r. ⌜ length (now (markings .exit)) ≡ length (now (markings .entry)) ⌝ }
+    ensures { λ r. ⌜ length (now (transfers .exit)) ≡ length (now (transfers .entry)) ⌝ }
+    ensures { λ r. ⌜ ((owed due drawn filled : List ℕ) → IsOne moving t (now (numbers .entry)) (now (starts .entry)) (columns (now (markings .entry)) (now (transfers .entry)) (now (degrees .entry)) (now (row .entry)) owed due drawn filled (now (candidates .entry))) (columns (now (markings .exit)) (now (transfers .exit)) (now (degrees .entry)) (now (row .entry)) owed due drawn filled (now (candidates .entry)))) ⌝ }
+{
+    let was = transfer_at(transfers, t as usize);
+    let transfer = started(was, is_noted(candidates, t as usize));
+    let d = distance(numbers, starts, t, transfer, degrees, row);
+    move_transition(numbers, starts, t, d, markings);
+    put_transfer(transfers, t as usize, advanced(transfer, d));
+}
+
+// The transitions from first up to end.
+fn move_span(
+    numbers: &[u16],
+    starts: &[u32],
+    first: u16,
+    end: u16,
+    degrees: &[u16],
+    row: &[u16],
+    candidates: &[bool],
+    markings: &mut [u32],
+    transfers: &mut [u16],
+)
+    ensures { λ r. ⌜ length (now (markings .exit)) ≡ length (now (markings .entry)) ⌝ }
+    ensures { λ r. ⌜ length (now (transfers .exit)) ≡ length (now (transfers .entry)) ⌝ }
+    ensures { λ r. ⌜ ((owed due drawn filled : List ℕ) → IsSpan moving first end (now (numbers .entry)) (now (starts .entry)) (columns (now (markings .entry)) (now (transfers .entry)) (now (degrees .entry)) (now (row .entry)) owed due drawn filled (now (candidates .entry))) (columns (now (markings .exit)) (now (transfers .exit)) (now (degrees .entry)) (now (row .entry)) owed due drawn filled (now (candidates .entry)))) ⌝ }
+{
+    let mut t = first;
+    while t < end {
+        move_one(
+            numbers,
+            starts,
+            t,
+            degrees,
+            row,
+            candidates,
+            markings,
+            transfers,
+        );
+        t += 1;
+    }
+}
+
+// The third visit of subnet s starts its candidates and moves what its transfers carry. Two wrong ones that this rules out: one that lets
+// degrees add up past 1000, and one that takes a progress of 0 for idle.
 pub fn visit_move(
     numbers: &[u16],
     starts: &[u32],
     s: u16,
     degrees: &[u16],
     row: &[u16],
-    marks: &[u16],
-    clear: bool,
+    candidates: &[bool],
     markings: &mut [u32],
-    rest: &mut [u16],
+    transfers: &mut [u16],
 )
     ensures { λ r. ⌜ length (now (markings .exit)) ≡ length (now (markings .entry)) ⌝ }
-    ensures { λ r. ⌜ length (now (rest .exit)) ≡ length (now (rest .entry)) ⌝ }
-    ensures { λ r. ⌜ ((c : Card) (x : NetState) (k : Claims) → InTables c (now (numbers .entry)) (now (starts .entry)) → s < length (c .subnets) → ToMove c s x (now (rest .entry)) (now (degrees .entry)) → Shifted s (turn c x (now (row .entry)) k (isMarked (now (marks .entry))) clear) (now (markings .entry)) (now (markings .exit)) (now (rest .entry)) (now (rest .exit))) ⌝ }
+    ensures { λ r. ⌜ length (now (transfers .exit)) ≡ length (now (transfers .entry)) ⌝ }
+    ensures { λ r. ⌜ ((owed due drawn filled : List ℕ) → IsVisit moving s (now (numbers .entry)) (now (starts .entry)) (columns (now (markings .entry)) (now (transfers .entry)) (now (degrees .entry)) (now (row .entry)) owed due drawn filled (now (candidates .entry))) (columns (now (markings .exit)) (now (transfers .exit)) (now (degrees .entry)) (now (row .entry)) owed due drawn filled (now (candidates .entry)))) ⌝ }
 {
-    if !clear {
-        return;
-    }
-    let count = transition_count(numbers, subnet_row(starts, s));
-    let first = first_transition(starts, s);
-    let mut k = 0;
-    while k < count {
-        let t = first as usize + k as usize;
-        if 255 <= t {
-            return;
-        }
-        let left = started(number_at(rest, t), number_at(marks, t));
-        let d = stride(numbers, starts, t as u32, left, degrees, row);
-        move_transition(numbers, starts, t as u32, d, markings);
-        mark(rest, t, left - d);
-        k += 1;
-    }
+    let own = own_transitions(starts, s);
+    move_span(
+        numbers,
+        starts,
+        own.first,
+        own.end,
+        degrees,
+        row,
+        candidates,
+        markings,
+        transfers,
+    );
 }

@@ -24,14 +24,14 @@ loop-holds c = (length-replicate {A = Slot} 255 (slot Idle), slots-start (now (c
 returns : tie.Need-returns Inv-loop μ-loop
 returns c = λ l. absurd (omega (arith, c .if1 .taken, c .before .loop-test .taken))
 
-mul-transfer-from : tie.Need-mul-transfer-from Inv-loop μ-loop
-mul-transfer-from c = search needs
+mul-transfer-of : tie.Need-mul-transfer-of Inv-loop μ-loop
+mul-transfer-of c = search needs
 
-shared-slice-read-transfer-from : tie.Need-shared-slice-read-transfer-from Inv-loop μ-loop
-shared-slice-read-transfer-from c = search needs
+shared-slice-read-transfer-of : tie.Need-shared-slice-read-transfer-of Inv-loop μ-loop
+shared-slice-read-transfer-of c = search needs
 
-transfer-from-requires : tie.Need-transfer-from-requires Inv-loop μ-loop
-transfer-from-requires c κs = search needs
+transfer-of-requires : tie.Need-transfer-of-requires Inv-loop μ-loop
+transfer-of-requires c κs = search needs
 
 mul-all : tie.Need-mul-all Inv-loop μ-loop
 mul-all c = search needs
@@ -48,7 +48,7 @@ loop-less c = search needs
 loop-again : tie.Need-loop-again Inv-loop μ-loop
 loop-again c =
     let l = c .before .before .before .before .loop in
-    (length-set (l .all) (l .i) (slot (c .transfer-from .result)) ∙ l .inv .0, slots-more (now (c .before .before .before .before .before .before .args .transfers)) (l .i) (c .transfer-from .result) (l .all) (omega (arith, l .inv .0, c .before .before .if1 .left)) (c .transfer-from .ensures) (l .inv .1))
+    (length-set (l .all) (l .i) (slot (c .transfer-of .result)) ∙ l .inv .0, slots-more (now (c .before .before .before .before .before .before .args .transfers)) (l .i) (c .transfer-of .result) (l .all) (omega (arith, l .inv .0, c .before .before .if1 .left)) (c .transfer-of .ensures) (l .inv .1))
 
 returns-2 : tie.Need-returns-2 Inv-loop μ-loop
 returns-2 c = λ b. slots-all (now (c .before .before .before .args .transfers)) (c .before .loop .i) (c .before .loop .all) (omega (arith, c .loop-test .left)) (c .before .loop .inv .0) b (c .before .loop .inv .1)
@@ -61,9 +61,9 @@ load-slots-spec =
     μ-loop
     loop-holds
     returns
-    mul-transfer-from
-    shared-slice-read-transfer-from
-    transfer-from-requires
+    mul-transfer-of
+    shared-slice-read-transfer-of
+    transfer-of-requires
     mul-all
     array-set-from-all
     add-i

@@ -8,14 +8,14 @@ use denote.Ref.{now}
 use Rattle.card.proofs.Copy.{Copying}
 use Rattle.runners.specs.declared.Slot.{Slot}
 use Rattle.runners.proofs.TransferLaws.{unmapped}
-use Rattle.net_runner.specs.Slices.{numberFor}
+use Rattle.runners.specs.Columns.{codeOf}
 use Rattle.net_runner.proofs.SliceLaws.{put-start, put-more, put-done, numbers-long, numbers-at}
 use borrow.Author.Needs.{needs}
 use Rattle.net_runner.proofs.lending.put_transfers.Statement.{statement}
 use Rattle.net_runner.proofs.lending.put_transfers.Tie as tie
 
 abbrev Inv-loop : tie.InvT-loop
-Inv-loop out₀ state i₀ out i = (length (state .slots) ≡ 255) × (length out ≡ length out₀) × (i ≤ length out₀) × (length out₀ ≤ 255 → Copying (map numberFor (take (length out₀) (map (λ (x : Slot). x .transfer) (state .slots)))) out₀ out i)
+Inv-loop out₀ state i₀ out i = (length (state .slots) ≡ 255) × (length out ≡ length out₀) × (i ≤ length out₀) × (length out₀ ≤ 255 → Copying (map codeOf (take (length out₀) (map (λ (x : Slot). x .transfer) (state .slots)))) out₀ out i)
 
 abbrev μ-loop : tie.MeasureT-loop
 μ-loop out₀ state i₀ out i = length out₀ - i
@@ -24,7 +24,7 @@ loop-holds : tie.Need-loop-holds Inv-loop μ-loop
 loop-holds c =
     let a = c .before .args in
     let z = unmapped _ (a .t1 .slots) 255 (c .before .good .0 .1 .1 .1 .0 .1 .0 .1) in
-    (z, refl, omega arith, λ b. put-start (map numberFor (take (length (now (a .out))) (map (λ (x : Slot). x .transfer) (a .t1 .slots)))) (now (a .out)) (numbers-long (a .t1 .slots) (length (now (a .out))) (omega (arith, z))))
+    (z, refl, omega arith, λ b. put-start (map codeOf (take (length (now (a .out))) (map (λ (x : Slot). x .transfer) (a .t1 .slots)))) (now (a .out)) (numbers-long (a .t1 .slots) (length (now (a .out))) (omega (arith, z))))
 
 same-length : tie.Need-same-length Inv-loop μ-loop
 same-length c = c .before .before .loop .inv .1
@@ -38,8 +38,8 @@ mul-slot c = search needs
 element-copy-out-slot : tie.Need-element-copy-out-slot Inv-loop μ-loop
 element-copy-out-slot c = search needs
 
-number-for-requires : tie.Need-number-for-requires Inv-loop μ-loop
-number-for-requires c κs = search needs
+code-of-requires : tie.Need-code-of-requires Inv-loop μ-loop
+code-of-requires c κs = search needs
 
 mul-out : tie.Need-mul-out Inv-loop μ-loop
 mul-out c = search needs
@@ -58,7 +58,7 @@ loop-again c =
     let a = c .before .before .before .before .before .before .args in
     let l = c .before .before .before .before .loop in
     let q : l .i < length (now (a .out)) = omega (arith, c .before .before .before .loop-test .taken, l .inv .1) in
-    (l .inv .0, length-set (l .out) (l .i) _ ∙ l .inv .1, omega (arith, q), λ b. put-more (map numberFor (take (length (now (a .out))) (map (λ (x : Slot). x .transfer) (a .t1 .slots)))) (now (a .out)) (numbers-long (a .t1 .slots) (length (now (a .out))) (omega (arith, l .inv .0))) (l .out) (l .i) (c .number-for .result) (l .inv .3 b) q (c .number-for .ensures ∙ sym (numbers-at (a .t1 .slots) (length (now (a .out))) (l .i) q (omega (arith, l .inv .0)))))
+    (l .inv .0, length-set (l .out) (l .i) _ ∙ l .inv .1, omega (arith, q), λ b. put-more (map codeOf (take (length (now (a .out))) (map (λ (x : Slot). x .transfer) (a .t1 .slots)))) (now (a .out)) (numbers-long (a .t1 .slots) (length (now (a .out))) (omega (arith, l .inv .0))) (l .out) (l .i) (c .code-of .result) (l .inv .3 b) q (c .code-of .ensures ∙ sym (numbers-at (a .t1 .slots) (length (now (a .out))) (l .i) q (omega (arith, l .inv .0)))))
 
 same-length-2 : tie.Need-same-length-2 Inv-loop μ-loop
 same-length-2 c = c .before .loop .inv .1
@@ -67,7 +67,7 @@ returns-2 : tie.Need-returns-2 Inv-loop μ-loop
 returns-2 c =
     let a = c .before .before .before .args in
     let l = c .before .loop in
-    λ b. put-done (map numberFor (take (length (now (a .out))) (map (λ (x : Slot). x .transfer) (a .t1 .slots)))) (now (a .out)) (numbers-long (a .t1 .slots) (length (now (a .out))) (omega (arith, l .inv .0))) (l .out) (l .i) (l .inv .3 b) (omega (arith, c .loop-test .left, l .inv .1))
+    λ b. put-done (map codeOf (take (length (now (a .out))) (map (λ (x : Slot). x .transfer) (a .t1 .slots)))) (now (a .out)) (numbers-long (a .t1 .slots) (length (now (a .out))) (omega (arith, l .inv .0))) (l .out) (l .i) (l .inv .3 b) (omega (arith, c .loop-test .left, l .inv .1))
 
 pub put-transfers-spec : {M : Type 1} → statement M
 put-transfers-spec =
@@ -80,7 +80,7 @@ put-transfers-spec =
     returns
     mul-slot
     element-copy-out-slot
-    number-for-requires
+    code-of-requires
     mul-out
     slice-write-out
     add-i

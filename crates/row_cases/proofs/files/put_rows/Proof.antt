@@ -4,19 +4,12 @@ use lib.ListN.{length}
 use borrow.Author.Needs.{needs}
 use Rattle.row_cases.proofs.files.put_rows.Statement.{statement}
 use Rattle.row_cases.proofs.files.put_rows.Tie as tie
-use Rattle.row_cases.proofs.files.put_rows.Reads as reads
-use Rattle.row_cases.proofs.files.put_rows.Lts as lts
-use Rattle.row_cases.proofs.files.end_of.Reads as end-of-reads
-use Rattle.row_cases.proofs.lines.put_line.Reads as put-line-reads
-use Rattle.row_cases.proofs.numbers.next_number.Reads as next-number-reads
-use Rattle.programs.proofs.feed.file_row.Reads as file-row-reads
-use Rattle.programs.proofs.line.reply_line.Reads as reply-line-reads
 
 abbrev Inv-loop : tie.InvT-loop
-Inv-loop numbers starts rows sizes bytes size state₀ n₀ at₀ state n at = at ≤ length bytes
+Inv-loop net bytes size state₀ n₀ at₀ state n at = at ≤ length bytes
 
 abbrev μ-loop : tie.MeasureT-loop
-μ-loop numbers starts rows sizes bytes size state₀ n₀ at₀ state n at = length bytes - at
+μ-loop net bytes size state₀ n₀ at₀ state n at = length bytes - at
 
 loop-holds : tie.Need-loop-holds Inv-loop μ-loop
 loop-holds c = search needs

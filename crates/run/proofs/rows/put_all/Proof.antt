@@ -6,18 +6,12 @@ use lib.ListN.{length, length-take}
 use borrow.Author.Needs.{needs}
 use Rattle.run.proofs.rows.put_all.Statement.{statement}
 use Rattle.run.proofs.rows.put_all.Tie as tie
-use Rattle.run.proofs.rows.put_all.Reads as reads
-use Rattle.run.proofs.rows.put_all.Lts as lts
-use Rattle.run.proofs.rows.put_rows.Reads as put-rows-reads
-use Rattle.run.proofs.rows.put_short.Reads as put-short-reads
-use Rattle.run.proofs.rows.read_behind.Reads as read-behind-reads
-use Rattle.run.proofs.rows.to_front.Reads as to-front-reads
 
 abbrev Inv-loop : tie.InvT-loop
-Inv-loop numbers starts rows sizes buffer₀ size p₀ have₀ turns₀ buffer p have turns = (length buffer ≡ length buffer₀)
+Inv-loop net buffer₀ size p₀ have₀ turns₀ buffer p have turns = (length buffer ≡ length buffer₀)
 
 abbrev μ-loop : tie.MeasureT-loop
-μ-loop numbers starts rows sizes buffer₀ size p₀ have₀ turns₀ buffer p have turns = turns
+μ-loop net buffer₀ size p₀ have₀ turns₀ buffer p have turns = turns
 
 loop-holds : tie.Need-loop-holds Inv-loop μ-loop
 loop-holds c = search needs

@@ -4,15 +4,12 @@ use lib.ListN.{length}
 use borrow.Author.Needs.{needs}
 use Rattle.run.proofs.rows.put_rows.Statement.{statement}
 use Rattle.run.proofs.rows.put_rows.Tie as tie
-use Rattle.run.proofs.rows.put_rows.Reads as reads
-use Rattle.run.proofs.rows.put_rows.Lts as lts
-use Rattle.run.proofs.rows.put_row.Reads as put-row-reads
 
 abbrev Inv-loop : tie.InvT-loop
-Inv-loop numbers starts rows sizes bytes size q₀ at₀ q at = (at ≤ length bytes)
+Inv-loop net bytes size q₀ at₀ q at = (at ≤ length bytes)
 
 abbrev μ-loop : tie.MeasureT-loop
-μ-loop numbers starts rows sizes bytes size q₀ at₀ q at = length bytes - at
+μ-loop net bytes size q₀ at₀ q at = length bytes - at
 
 loop-holds : tie.Need-loop-holds Inv-loop μ-loop
 loop-holds c = search needs

@@ -1,13 +1,13 @@
 -- `runners::claims::all_allow` meets its contract. Assumes nothing.
+use Rattle.flattening.specs.Flattening.{flatten}
 use Rattle.runners.proofs.claims.all_allow.Statement.{statement}
 use Rattle.runners.proofs.ClaimLaws.{counted, in-arcs, arc-is}
 use Rattle.hierarchy.proofs.WalkLaws.{Below, below-start, below-more, every-none, every-all, test-fails, test-holds}
-use Rattle.runners.specs.Boards.{posted}
+use Rattle.runners.specs.Columns.{posted}
 use Rattle.runners.specs.Step.{allows}
 use Rattle.card.specs.Card.{transitionAt, arcAt}
 use mathlib.Core.Bool.{true}
-use Rattle.runners.specs.Boards.{InTables}
-use Rattle.runners.specs.Flattening.{flatten}
+use Rattle.runners.specs.Visits.{InTables}
 use Rattle.hierarchy.specs.Arcs.{Begins}
 use Rattle.card.specs.Card.{Card}
 use borrow.Author.Needs.{needs}

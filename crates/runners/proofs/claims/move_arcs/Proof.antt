@@ -1,9 +1,10 @@
 -- `runners::claims::move_arcs` meets its contract. Assumes nothing.
+use Rattle.flattening.specs.Flattening.{flatten}
 use Rattle.runners.proofs.claims.move_arcs.Statement.{statement}
 use Rattle.runners.proofs.ClaimLaws.{weights, in-arcs, product-fits, arc-is, moved-more, moved-all, moved-start}
-use Rattle.runners.specs.Boards.{InTables, Moved}
+use Rattle.runners.specs.Columns.{Moved}
+use Rattle.runners.specs.Visits.{InTables}
 use Rattle.runners.specs.State.{incidence}
-use Rattle.runners.specs.Flattening.{flatten}
 use Rattle.hierarchy.specs.Arcs.{Begins}
 use Rattle.card.specs.Card.{Card, draws, fills}
 use borrow.Author.Needs.{needs}

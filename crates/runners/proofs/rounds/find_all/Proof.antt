@@ -1,41 +1,35 @@
 -- `runners::rounds::find_all` meets its contract. Assumes nothing.
-use Prim.Native.Nat.{ℕ, _-_, _≤_}
+use Prim.Native.Nat.{ℕ, _-_, _≤_, _<_}
 use mathlib.Core.Path.{_≡_, refl, _∙_}
 use mathlib.Core.Bool.{Bool, true}
+use mathlib.Core.List.{List}
 use native.Mathlib.Omega.{arith}
-use lib.ListN.{length}
 use denote.Ref.{now}
+use lib.ListN.{length}
 use Rattle.card.specs.Card.{Card}
-use Rattle.runners.specs.Calls.{eachOnce}
 use Rattle.runners.specs.State.{NetState}
-use Rattle.runners.specs.Visits.{finding}
-use Rattle.runners.specs.Boards.{InTables, Each, ToFind, turn, posted}
-use Rattle.runners.proofs.VisitTurns.{GoodMark}
-use Rattle.runners.proofs.RoundLaws.{PostedTo, posted-start, posted-more, posted-all, NumbersTo, numbers-start, numbers-more, marked-all, visited}
+use Rattle.runners.specs.Calls.{eachOnce}
+use Rattle.runners.specs.Columns.{columns}
+use Rattle.runners.proofs.RoundLaws.{DoesTo, round-start, round-more, round-all}
+use Rattle.runners.specs.Visits.{finding, stepTurn, InTurn, InTables, turnIn}
 use borrow.Author.Needs.{needs}
 use Rattle.runners.proofs.rounds.find_all.Statement.{statement}
 use Rattle.runners.proofs.rounds.find_all.Tie as tie
 
 abbrev Inv-loop : tie.InvT-loop
-Inv-loop numbers starts order markings rest row owed due drawn₀ filled₀ marks₀ n₀ drawn filled marks n = (length drawn ≡ length drawn₀) × (length filled ≡ length filled₀) × (length marks ≡ length marks₀) × (n ≤ length order)
-    × ((c : Card) (x : NetState) (found : ℕ → Bool) (clear : Bool) → InTables c numbers starts → Each c (λ s. ToFind c s x markings rest) → eachOnce (length (c .subnets)) order ≡ true
-    → PostedTo finding (turn c x row (posted owed due) found clear) order n drawn₀ drawn filled₀ filled
-    × NumbersTo c (GoodMark (turn c x row (posted owed due) found clear)) order n marks₀ marks)
+Inv-loop numbers starts order markings transfers row owed due drawn₀ filled₀ candidates₀ n₀ drawn filled candidates n =
+    (length drawn ≡ length drawn₀) × (length filled ≡ length filled₀) × (length candidates ≡ length candidates₀) × (n ≤ length order)
+    × ((last : List ℕ) (c : Card) (before : NetState) → InTables c numbers starts → eachOnce (length (c .subnets)) order ≡ true
+    → ((s : ℕ) → s < length (c .subnets) → InTurn finding s (turnIn c (columns markings transfers last row owed due drawn₀ filled₀ candidates₀)) before)
+    → DoesTo finding (stepTurn c before row) order n (columns markings transfers last row owed due drawn₀ filled₀ candidates₀) (columns markings transfers last row owed due drawn filled candidates))
 
 abbrev μ-loop : tie.MeasureT-loop
-μ-loop numbers starts order markings rest row owed due drawn₀ filled₀ marks₀ n₀ drawn filled marks n = length order - n
+μ-loop numbers starts order markings transfers row owed due drawn₀ filled₀ candidates₀ n₀ drawn filled candidates n = length order - n
 
 loop-holds : tie.Need-loop-holds Inv-loop μ-loop
 loop-holds c =
-    let a = c .before .before .before .before .before .before .before .before .before .before .before .args in (
-      refl,
-      refl,
-      refl,
-      omega arith,
-      λ k x found clear h b e.
-          let i = turn k x (now (a .row)) (posted (now (a .owed)) (now (a .due))) found clear in
-          (posted-start finding i (now (a .order)) (now (a .drawn)) (now (a .filled)), numbers-start i (GoodMark i) (now (a .order)) (now (a .marks))),
-    )
+    let a = (c .before .before .before .before .before .before .before .before .before .before .before .args) in
+    (refl, refl, refl, omega arith, λ last k before h e i. round-start finding (stepTurn k before (now (a .row))) (now (a .order)) (columns (now (a .markings)) (now (a .transfers)) last (now (a .row)) (now (a .owed)) (now (a .due)) (now (a .drawn)) (now (a .filled)) (now (a .candidates))))
 
 mul-visit-find : tie.Need-mul-visit-find Inv-loop μ-loop
 mul-visit-find c = search needs
@@ -54,53 +48,37 @@ loop-less c = search needs
 
 loop-again : tie.Need-loop-again Inv-loop μ-loop
 loop-again c =
-    let a = c .before .before .before .before .before .before .before .before .before .before .before .before .before .before .before .before .before .before .before .before .before .before .before .before .args in
-    let l = c .before .before .before .before .before .before .before .before .before .before .before .before .loop in
-    let v = c .before .before .before .before .before .before .visit-find in
-    let drawn : length (v .last .1 .1 .1 .1 .1 .1 .1 .1 .0) ≡ length (l .drawn) = v .ensures .0 in
-    let filled : length (v .last .1 .1 .1 .1 .1 .1 .1 .1 .1 .0) ≡ length (l .filled) = v .ensures .1 .0 in
-    let marks : length (v .last .1 .1 .1 .1 .1 .1 .1 .1 .1 .1 .0) ≡ length (l .marks) = v .ensures .1 .1 .0 in (
-      drawn ∙ l .inv .0,
-      filled ∙ l .inv .1,
-      marks ∙ l .inv .2,
-      omega (arith, c .before .before .before .before .before .before .before .before .before .before .before .loop-test .taken),
-      λ k x found clear h b e.
-          let i = turn k x (now (a .row)) (posted (now (a .owed)) (now (a .due))) found clear in
-          let s = visited (length (k .subnets)) (now (a .order)) (l .n) e (c .before .before .before .before .before .before .before .before .before .before .before .loop-test .taken) in
-          let m = v .ensures .1 .1 .1 .1 k x found clear h s (b _ s) in
-          let g = l .inv .4 k x found clear h b e in (
-            posted-more finding i (now (a .order)) (l .n) (now (a .drawn)) (l .drawn) (v .last .1 .1 .1 .1 .1 .1 .1 .1 .0) (now (a .filled)) (l .filled) (v .last .1 .1 .1 .1 .1 .1 .1 .1 .1 .0) (g .0) (v .ensures .1 .1 .1 .0 k x found clear h s (b _ s)),
-            numbers-more i (GoodMark i) (now (a .order)) e (l .n) (now (a .marks)) (l .marks) (v .last .1 .1 .1 .1 .1 .1 .1 .1 .1 .1 .0) (c .before .before .before .before .before .before .before .before .before .before .before .loop-test .taken) (g .1) (m .long) (m .own) (m .others),
-          ),
+    let a = (c .before .before .before .before .before .before .before .before .before .before .before .before .before .before .before .before .before .before .before .before .before .before .before .before .args) in
+    let l = (c .before .before .before .before .before .before .before .before .before .before .before .before .loop) in
+    let v = (c .before .before .before .before .before .before .visit-find) in (
+      v .ensures .0 ∙ l .inv .0,
+      v .ensures .1 .0 ∙ l .inv .1,
+      v .ensures .1 .1 .0 ∙ l .inv .2,
+      omega (arith, (c .before .before .before .before .before .before .before .before .before .before .before .loop-test) .taken),
+      λ last k before h e i.
+          round-more finding k before (now (a .order)) (l .n) (now (a .numbers)) (now (a .starts)) (columns (now (a .markings)) (now (a .transfers)) last (now (a .row)) (now (a .owed)) (now (a .due)) (now (a .drawn)) (now (a .filled)) (now (a .candidates))) (columns (now (a .markings)) (now (a .transfers)) last (now (a .row)) (now (a .owed)) (now (a .due)) (l .drawn) (l .filled) (l .candidates)) _
+          h e ((c .before .before .before .before .before .before .before .before .before .before .before .loop-test) .taken) i (l .inv .4 last k before h e i) (v .ensures .1 .1 .1 last),
     )
 
 same-length : tie.Need-same-length Inv-loop μ-loop
-same-length c = c .before .loop .inv .0
+same-length c = (c .before .loop) .inv .0
 
 same-length-2 : tie.Need-same-length-2 Inv-loop μ-loop
-same-length-2 c = c .before .loop .inv .1
+same-length-2 c = (c .before .loop) .inv .1
 
 same-length-3 : tie.Need-same-length-3 Inv-loop μ-loop
-same-length-3 c = c .before .loop .inv .2
+same-length-3 c = (c .before .loop) .inv .2
 
 returns : tie.Need-returns Inv-loop μ-loop
 returns c =
-    let a = c .before .before .before .before .before .before .before .before .before .before .before .before .before .args in
-    let l = c .before .loop in
-    let q : l .n ≡ length (now (a .order)) = omega (arith, l .inv .3, c .loop-test .left) in (
+    let a = (c .before .before .before .before .before .before .before .before .before .before .before .before .before .args) in
+    let l = (c .before .loop) in (
       l .inv .0,
       (
         l .inv .1,
         (
           l .inv .2,
-          (
-            λ k x found clear h b e.
-                posted-all finding (turn k x (now (a .row)) (posted (now (a .owed)) (now (a .due))) found clear) (now (a .order)) (l .n) (now (a .drawn)) (l .drawn) (now (a .filled)) (l .filled)
-                (h .meets) e q (l .inv .4 k x found clear h b e .0),
-            λ k x found clear h b e.
-                marked-all (turn k x (now (a .row)) (posted (now (a .owed)) (now (a .due))) found clear) (now (a .order)) (l .n) (now (a .marks)) (l .marks) (h .meets) e q
-                (l .inv .4 k x found clear h b e .1),
-          ),
+          λ last k before h e i. round-all finding (stepTurn k before (now (a .row))) (now (a .order)) (l .n) _ _ (h .meets) e (omega (arith, l .inv .3, (c .loop-test) .left)) (l .inv .4 last k before h e i),
         ),
       ),
     )

@@ -1,6 +1,6 @@
 -- `runners::row::loaded_row` meets its contract. Assumes nothing.
 use denote.Ref.{now}
-use Rattle.runners.specs.Flattening.{flatten}
+use Rattle.flattening.specs.Flattening.{flatten}
 use Rattle.runners.proofs.CallLaws.{flat-signals, fault-none, row-refused, row-stepped}
 use borrow.Author.Needs.{needs}
 use Rattle.runners.proofs.row.loaded_row.Statement.{statement}
@@ -12,6 +12,9 @@ row-test-requires c κs = search needs
 enum-known-fault : tie.Need-enum-known-fault
 enum-known-fault c = search needs
 
+refuse-requires : tie.Need-refuse-requires
+refuse-requires c κs = search needs
+
 enum-told : tie.Need-enum-told
 enum-told c = search needs
 
@@ -19,16 +22,23 @@ step-requires : tie.Need-step-requires
 step-requires c κs = search needs
 
 returns : tie.Need-returns
-returns c = λ k i p n v o. row-refused k ((c .before .before .before .before .before .before .before .before .before .args) .state) _ (now ((c .before .before .before .before .before .before .before .before .before .args) .row)) ((c .before .before .before .row-test) .result) ((c .before .before .before .row-test) .ensures (flatten k) (flat-signals k _ (n .signals))) _ ((c .before .fault) .given .1)
+returns c = λ k n v o. row-refused k ((c .before .before .before .before .before .before .before .before .before .before .args) .state) _ (now ((c .before .before .before .before .before .before .before .before .before .before .args) .row)) ((c .before .before .before .before .row-test) .result) ((c .before .before .before .before .row-test) .ensures (flatten k) (flat-signals k _ (n .sizes .signals))) _ ((c .refuse) .result) ((c .refuse) .ensures) ((c .before .before .fault) .given .1)
 
 returns-2 : tie.Need-returns-2
 returns-2 c =
-    λ k i p n v o.
-    let e = (c .before .before .before .row-test) .ensures (flatten k) (flat-signals k _ (n .signals)) in
-    row-stepped k ((c .before .before .before .before .before .before .before .before .before .args) .state) _ (now ((c .before .before .before .before .before .before .before .before .before .args) .row)) ((c .before .before .before .row-test) .result) e ((c .step) .result) ((c .before .enum-told) .given .1)
-    ((c .step) .ensures k i p (n .places) v o (fault-none k ((c .before .before .before .before .before .before .before .before .before .args) .state) ((c .before .before .before .before .before .before .before .before .before .args) .state) (now ((c .before .before .before .before .before .before .before .before .before .args) .row)) ((c .before .before .before .row-test) .result) e ((c .before .enum-told) .given .1)))
+    let a = (c .before .before .before .before .before .before .before .before .before .args) in
+    λ k n v o.
+    let e = (c .before .before .before .row-test) .ensures (flatten k) (flat-signals k _ (n .sizes .signals)) in
+    row-stepped k (a .state) _ (now (a .row)) ((c .before .before .before .row-test) .result) e ((c .step) .result) ((c .before .enum-told) .given .1) ((c .step) .ensures k n v o (fault-none k (a .state) (a .state) (now (a .row)) ((c .before .before .before .row-test) .result) e ((c .before .enum-told) .given .1)))
 
 pub loaded-row-spec : {M : Type 1} → statement M
 loaded-row-spec =
     tie.close
-    (tie.spec row-test-requires enum-known-fault enum-told step-requires returns returns-2)
+    (tie.spec
+    row-test-requires
+    enum-known-fault
+    refuse-requires
+    enum-told
+    step-requires
+    returns
+    returns-2)

@@ -1,6 +1,6 @@
 -- `runners::transfers::remaining` meets its contract. Assumes nothing.
-use borrow.Author.Needs.{needs}
 use Rattle.runners.proofs.TransferLaws.{rest-idle, rest-carrying, rest-none}
+use borrow.Author.Needs.{needs}
 use Rattle.runners.proofs.transfers.remaining.Statement.{statement}
 use Rattle.runners.proofs.transfers.remaining.Tie as tie
 
@@ -14,13 +14,13 @@ sub-result : tie.Need-sub-result
 sub-result c = search needs
 
 returns : tie.Need-returns
-returns c = λ k. rest-carrying k (c .before .before .before .before .args .transfer) (c .before .before .transfer .given .0 .0) (c .before .before .transfer .given .1)
+returns c = λ f. rest-carrying f ((c .before .before .before .before .args) .transfer) ((c .before .before .transfer) .given .0 .0) ((c .before .before .transfer) .given .1)
 
 returns-2 : tie.Need-returns-2
-returns-2 c = λ k. rest-idle k (c .before .before .args .transfer) (c .enum-told .given .1)
+returns-2 c = λ f. rest-idle f ((c .before .before .args) .transfer) ((c .enum-told) .given .1)
 
 returns-3 : tie.Need-returns-3
-returns-3 c = λ k. rest-none k (c .before .before .before .before .args .transfer) (c .before .before .transfer .given .0 .0) (c .before .before .transfer .given .1) (c .if1 .left)
+returns-3 c = λ f. rest-none f ((c .before .before .before .before .args) .transfer) ((c .before .before .transfer) .given .0 .0) ((c .before .before .transfer) .given .1) ((c .if1) .left)
 
 pub remaining-spec : {M : Type 1} → statement M
 remaining-spec =

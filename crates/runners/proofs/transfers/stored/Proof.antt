@@ -3,26 +3,27 @@ use Prim.Native.Nat.{_-_, _≤_}
 use mathlib.Core.Path.{_≡_, refl, _∙_}
 use native.Mathlib.Omega.{arith}
 use lib.ListN.{length, length-set}
-use borrow.Author.Needs.{needs}
 use Rattle.runners.specs.Calls.{slot}
-use Rattle.runners.proofs.TransferLaws.{StoredTo, stored-start, stored-more, stored-all, unmapped}
+use Rattle.runners.proofs.TransferLaws.{unmapped, StoredTo, stored-start, stored-more, stored-all}
+use borrow.Author.Needs.{needs}
 use Rattle.runners.proofs.transfers.stored.Statement.{statement}
 use Rattle.runners.proofs.transfers.stored.Tie as tie
 
 abbrev Inv-loop : tie.InvT-loop
-Inv-loop rest next₀ n t₀ next t = (length (next .slots) ≡ 255) × StoredTo (next₀ .slots) rest t (next .slots) × (next .markings ≡ next₀ .markings) × (next .degrees ≡ next₀ .degrees)
+Inv-loop codes next₀ n t₀ next t =
+    (length (next .slots) ≡ 255) × StoredTo (next₀ .slots) codes t (next .slots) × (next .markings ≡ next₀ .markings) × (next .degrees ≡ next₀ .degrees)
     × (next .places ≡ next₀ .places) × (next .transitions ≡ next₀ .transitions) × (next .signals ≡ next₀ .signals) × (t ≤ n)
 
 abbrev μ-loop : tie.MeasureT-loop
-μ-loop rest next₀ n t₀ next t = n - t
+μ-loop codes next₀ n t₀ next t = n - t
 
 loop-holds : tie.Need-loop-holds Inv-loop μ-loop
-loop-holds c =
-    let a = c .args in
-    (unmapped _ (a .state .slots) 255 (c .good .0 .1 .1 .1 .0 .1 .0 .1), stored-start (a .state .slots) (a .t3), refl, refl, refl, refl, refl, omega arith)
+loop-holds c = (unmapped _ ((c .args) .state .slots) 255 ((c .good) .0 .1 .1 .1 .0 .1 .0 .1), stored-start ((c .args) .state .slots) ((c .args) .t3), refl, refl, refl, refl, refl, omega arith)
 
 returns : tie.Need-returns Inv-loop μ-loop
-returns c = λ b. absurd (omega (arith, c .if1 .taken, c .before .loop-test .taken))
+returns c =
+    let l = (c .before .before .loop) in
+    stored-all ((c .before .before .before .args) .state) ((c .before .before .before .args) .markings) ((c .before .before .before .args) .t3) (l .t) (l .next) (l .inv .1) (omega (arith, l .inv .7)) (λ u d q. omega (arith, (c .if1) .taken)) (l .inv .2) (l .inv .3) (l .inv .4) (l .inv .5) (l .inv .6)
 
 mul-transfer-of : tie.Need-mul-transfer-of Inv-loop μ-loop
 mul-transfer-of c = search needs
@@ -47,14 +48,14 @@ loop-less c = search needs
 
 loop-again : tie.Need-loop-again Inv-loop μ-loop
 loop-again c =
-    let a = c .before .before .before .before .args in
-    let l = c .before .before .before .loop in
-    (length-set (l .next .slots) (l .t) (slot (c .transfer-of .result)) ∙ l .inv .0, stored-more (a .state .slots) (a .t3) (l .t) (c .transfer-of .result) (l .next .slots) (omega (arith, l .inv .0, c .before .if1 .left)) (c .transfer-of .ensures) (l .inv .1), l .inv .2, l .inv .3, l .inv .4, l .inv .5, l .inv .6, omega (arith, c .before .before .loop-test .taken))
+    let a = (c .before .before .before .before .args) in
+    let l = (c .before .before .before .loop) in
+    (length-set (l .next .slots) (l .t) (slot ((c .transfer-of) .result)) ∙ l .inv .0, stored-more (a .state .slots) (a .t3) (l .t) ((c .transfer-of) .result) (l .next .slots) (omega (arith, l .inv .0, (c .before .if1) .left)) (search needs) ((c .transfer-of) .ensures) (l .inv .1), l .inv .2, l .inv .3, l .inv .4, l .inv .5, l .inv .6, omega (arith, (c .before .before .loop-test) .taken))
 
 returns-2 : tie.Need-returns-2 Inv-loop μ-loop
 returns-2 c =
-    let l = c .before .loop in
-    λ b. stored-all (c .before .before .args .state) (c .before .before .args .markings) (c .before .before .args .t3) (l .t) (l .next) (l .inv .1) (omega (arith, c .loop-test .left, l .inv .7)) (l .inv .2) (l .inv .3) (l .inv .4) (l .inv .5) (l .inv .6)
+    let l = (c .before .loop) in
+    stored-all ((c .before .before .args) .state) ((c .before .before .args) .markings) ((c .before .before .args) .t3) (l .t) (l .next) (l .inv .1) (omega (arith, l .inv .7)) (λ u d q. omega (arith, (c .loop-test) .left)) (l .inv .2) (l .inv .3) (l .inv .4) (l .inv .5) (l .inv .6)
 
 pub stored-spec : {M : Type 1} → statement M
 stored-spec =

@@ -1,0 +1,143 @@
+-- The rows that are stored are the flat card's tables, and writing them is flattening. Assumes nothing.
+use Prim.Native.Nat.{ℕ, _+_, _*_, _/_, _%_, _≤_, _<_}
+use mathlib.Core.Path.{_≡_, refl, sym, ap, subst, _∙_}
+use mathlib.Core.List.{List, [], _∷_, map}
+use native.Mathlib.Omega.{arith}
+use lib.ListN.{length, getD, take, List·getD-map}
+use lib.Seq.{ext-getD, getD-take, length-take-le}
+use borrow.Author.Tests.{eq-eqb}
+use Rattle.card.specs.Finite.{table}
+use Rattle.card.specs.Card.{Place, Transition, Arc, Card, placeAt, transitionAt}
+use Rattle.card.specs.Rows.{entry, tablesIn, wholeRows, readRows}
+use Rattle.card.specs.Writing.{encode}
+use Rattle.card.proofs.Sums.{table-length, table-at, map-length}
+use Rattle.hierarchy.specs.Conditions.{Meets}
+use Rattle.card.specs.Index.{Loaded}
+use Rattle.hierarchy.specs.Numbers.{number, checkOutcome}
+use Rattle.hierarchy.specs.Judgement.{Judgement, accepted, refused, judged, judge, judgeTables, outcomeOf, Tables, IsChecked}
+use Rattle.hierarchy.specs.Output.{delivered, writeRows, IsWritten}
+use Rattle.hierarchy.specs.declared.Written.{Written}
+use Rattle.hierarchy.specs.declared.Written.the-variants.{Refused as NotWritten}
+use Rattle.hierarchy.specs.declared.Answer.the-variants.{Accepted, Refused}
+use Rattle.hierarchy.specs.declared.CardFault.{CardFault}
+use Rattle.hierarchy.specs.declared.check.CheckedCard.{CheckedCard}
+use Rattle.hierarchy.proofs.Accepted.{accepted-meets, meets-written}
+use Rattle.flattening.specs.Flattening.{flatPlaceRow, flatArc, flatten, flattenCall}
+use Rattle.flattening.specs.inner.FlatRows.{Sizes, PlacesTo, TransitionsTo, ArcsTo}
+use Rattle.flattening.proofs.FlatLaws.{flat-meets}
+
+map-same : {A : Type 0} (xs : List A) → map (λ x. x) xs ≡ xs
+map-same [] = refl
+map-same (x ∷ xs) = ap (λ ys. x ∷ ys) (map-same xs)
+
+-- rows of w numbers, as many as n, in the first w * n entries
+cut-long : (w n : ℕ) (xs : List ℕ) → w * n ≤ length xs → length (take (w * n) xs) ≡ w * n
+cut-long w n xs l = length-take-le (w * n) xs l
+
+pub cut-is : (n : ℕ) (xs : List ℕ) → n ≤ length xs → n ≡ length (take n xs)
+cut-is n xs l = sym (length-take-le n xs l)
+
+cut-entry : (w n : ℕ) (xs : List ℕ) (i k : ℕ) → w * i + k < w * n → entry (take (w * n) xs) w i k ≡ entry xs w i k
+cut-entry w n xs i k l = getD-take (w * n) xs (w * i + k) 0 l
+
+-- rows that are f of a list's entries make the list under f
+rows-map : {A B : Type 0} (f : A → B) (xs : List A) (d : A) (n : ℕ) (row : ℕ → B) → n ≡ length xs → ((i : ℕ) → i < length xs → row i ≡ f (getD xs i d)) → table 0 n row ≡ map f xs
+rows-map f xs d n row e h =
+    ext-getD (f d) (table 0 n row) (map f xs) (table-length 0 n row ∙ e ∙ sym (map-length f xs))
+    (λ i l. let b : i < n = omega (arith, table-length 0 n row) in table-at n row (f d) i b ∙ h i (omega arith) ∙ sym (List·getD-map f xs i d))
+
+module _ (c : Card) (m : Meets c) (ps ts arcs : List ℕ) (hp : PlacesTo c ps (length (c .places))) (ht : TransitionsTo c ts (length (c .transitions))) (ha : ArcsTo c arcs (length (c .arcs)))
+    (few : length (c .arcs) ≤ 7905) where
+  abbrev P : ℕ
+  P = length (c .places)
+
+  abbrev T : ℕ
+  T = length (c .transitions)
+
+  abbrev A : ℕ
+  A = length (c .arcs)
+
+  places-long : length (take (3 * P) ps) ≡ 3 * P
+  places-long = cut-long 3 P ps (omega (arith, hp .long, m .wellformed .rows .fewPlaces))
+
+  transitions-long : length (take (2 * T) ts) ≡ 2 * T
+  transitions-long = cut-long 2 T ts (omega (arith, ht .long, m .wellformed .rows .fewTransitions))
+
+  arcs-long : length (take (4 * A) arcs) ≡ 4 * A
+  arcs-long = cut-long 4 A arcs (omega (arith, ha .long, few))
+
+  same-place : (i : ℕ) → i < P → _≡_ {A = Place} (record { kind = entry (take (3 * P) ps) 3 i 0; capacity = entry (take (3 * P) ps) 3 i 1; tokens = entry (take (3 * P) ps) 3 i 2 }) (flatPlaceRow (placeAt c i))
+  same-place i l =
+      let x = hp .held i l in
+      rw (cut-entry 3 P ps i 0 (omega arith), cut-entry 3 P ps i 1 (omega arith), cut-entry 3 P ps i 2 (omega arith), x .kind, x .capacity, x .tokens)
+
+  same-transition : (i : ℕ) → i < T → _≡_ {A = Transition} (record { signal = entry (take (2 * T) ts) 2 i 0; arcs = entry (take (2 * T) ts) 2 i 1 }) (transitionAt c i)
+  same-transition i l =
+      let x = ht .held i l in
+      rw (cut-entry 2 T ts i 0 (omega arith), cut-entry 2 T ts i 1 (omega arith), x .signal, x .arcs)
+
+  same-arc : (i : ℕ) → i < A
+      → _≡_ {A = Arc} (record { direction = entry (take (4 * A) arcs) 4 i 0; subnet = entry (take (4 * A) arcs) 4 i 1; place = entry (take (4 * A) arcs) 4 i 2; weight = entry (take (4 * A) arcs) 4 i 3 })
+      (flatArc c (getD (c .arcs) i (record { direction = 0; subnet = 0; place = 0; weight = 0 })))
+  same-arc i l =
+      let x = ha .held i l in
+      rw (cut-entry 4 A arcs i 0 (omega arith), cut-entry 4 A arcs i 1 (omega arith), cut-entry 4 A arcs i 2 (omega arith), cut-entry 4 A arcs i 3 (omega arith), x .direction, x .subnet, x .place, x .weight)
+
+  -- THE ROWS ARE THE FLAT CARD'S TABLES
+  flat-tables : tablesIn (c .version) (c .signals) (0 ∷ 0 ∷ P ∷ T ∷ []) (take (3 * P) ps) (take (2 * T) ts) (take (4 * A) arcs) ≡ flatten c
+  unfolding tablesIn flatten table
+  flat-tables =
+      rw (
+        rows-map flatPlaceRow (c .places) (record { kind = 0; capacity = 0; tokens = 0 }) (length (take (3 * P) ps) / 3) _ (omega (arith, places-long)) same-place,
+        rows-map (λ x. x) (c .transitions) (record { signal = 0; arcs = 0 }) (length (take (2 * T) ts) / 2) _ (omega (arith, transitions-long)) same-transition,
+        rows-map (flatArc c) (c .arcs) (record { direction = 0; subnet = 0; place = 0; weight = 0 }) (length (take (4 * A) arcs) / 4) _ (omega (arith, arcs-long)) same-arc,
+        map-same (c .transitions),
+      )
+
+  judged-flat : judged (readRows (c .version) (c .signals) (0 ∷ 0 ∷ P ∷ T ∷ []) (take (3 * P) ps) (take (2 * T) ts) (take (4 * A) arcs)) ≡ accepted (flatten c)
+  unfolding readRows wholeRows judgeTables
+  judged-flat =
+      rw (
+        eq-eqb (length (take (3 * P) ps) % 3) 0 (omega (arith, places-long)),
+        eq-eqb (length (take (2 * T) ts) % 2) 0 (omega (arith, transitions-long)),
+        eq-eqb (length (take (4 * A) arcs) % 4) 0 (omega (arith, arcs-long)),
+        flat-tables,
+      ) (unfold judgeTables in meets-written (flatten c) (flat-meets c m))
+
+  pub flat-written : (v g p t a : ℕ) → v ≡ c .version → g ≡ c .signals → p ≡ P → t ≡ T → a ≡ A → (buffer out : List ℕ) (r : Written)
+      → IsWritten (writeRows v g (0 ∷ 0 ∷ p ∷ t ∷ []) (take (3 * p) ps) (take (2 * t) ts) (take (4 * a) arcs) buffer) r out → IsWritten (delivered (accepted c) (λ d. encode (flatten d)) buffer) r out
+  unfolding writeRows
+  flat-written v g p t a ev eg ep et ea buffer out r h = subst (λ (x : Judgement). IsWritten (delivered x encode buffer) r out) judged-flat (rw (ev, eg, ep, et, ea) at h)
+
+-- flattening a card that was checked
+module _ (bytes buffer : List ℕ) (k : CheckedCard) (h : IsChecked (judge bytes) k) where
+  pub flatten-refused : (f : CardFault) (at : ℕ) (r : Written) → k .answer ≡ Refused f at → r ≡ NotWritten f at → IsWritten (flattenCall bytes buffer) r buffer
+  unfolding flattenCall
+  flatten-refused f at r e t = go (judge bytes) (sym (ap checkOutcome e) ∙ h .answer)
+    where
+      go : (x : Judgement) → checkOutcome (Refused f at) ≡ outcomeOf x → IsWritten (delivered x (λ d. encode (flatten d)) buffer) r buffer
+      go (refused n i) q =
+          let a : number f ≡ n = cc in
+          let b : at ≡ i = cc in
+          rw (t, ← a, ← b) (record { answer = refl; bytes = refl })
+      go (accepted d) q = absurd (let z : _≡_ {A = ℕ} 0 1 = cc in omega arith)
+
+  pub flatten-accepted : (s p t s′ p′ t′ : ℕ) → k .answer ≡ Accepted s p t → (s < 65536 → s′ ≡ s) → (p < 65536 → p′ ≡ p) → (t < 65536 → t′ ≡ t) → (out : List ℕ) (r : Written)
+      → ((c : Card) → Meets c → Loaded c (k .numbers) (k .starts) → Sizes c s′ p′ t′ → IsWritten (delivered (accepted c) (λ d. encode (flatten d)) buffer) r out)
+      → IsWritten (flattenCall bytes buffer) r out
+  unfolding flattenCall
+  flatten-accepted s p t s′ p′ t′ e es ep et out r g = go (judge bytes) refl (sym (ap checkOutcome e) ∙ h .answer) (h .tables)
+    where
+      go : (x : Judgement) → judge bytes ≡ x → checkOutcome (Accepted s p t) ≡ outcomeOf x → Tables x (k .numbers) (k .starts) → IsWritten (delivered x (λ d. encode (flatten d)) buffer) r out
+      go (refused n i) j q l = absurd (let z : _≡_ {A = ℕ} 0 1 = cc in omega arith)
+      go (accepted c) j q l =
+          let m = accepted-meets bytes c j in
+          let a : s ≡ length (c .subnets) = cc in
+          let b : p ≡ length (c .places) = cc in
+          let d : t ≡ length (c .transitions) = cc in
+          let w = m .wellformed in
+          g c m l (record {
+            subnets = es (omega (arith, a, w .fewSubnets)) ∙ a;
+            places = ep (omega (arith, b, w .rows .fewPlaces)) ∙ b;
+            transitions = et (omega (arith, d, w .rows .fewTransitions)) ∙ d;
+          })

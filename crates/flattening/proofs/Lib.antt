@@ -1,0 +1,3 @@
+pub mod FlatLaws
+pub mod FlatRowLaws
+pub mod FlatWrite

@@ -1,0 +1,49 @@
+-- `runners::flat::put_arc` meets its contract. Assumes nothing.
+use borrow.Author.Needs.{needs}
+use Rattle.flattening.proofs.rows.put_arc.Statement.{statement}
+use Rattle.flattening.proofs.rows.put_arc.Tie as tie
+
+mul-i : tie.Need-mul-i
+mul-i c = search needs
+
+put-requires : tie.Need-put-requires
+put-requires c κs = search needs
+
+add-put : tie.Need-add-put
+add-put c = search needs
+
+put-requires-2 : tie.Need-put-requires-2
+put-requires-2 c κs = search needs
+
+add-put-2 : tie.Need-add-put-2
+add-put-2 c = search needs
+
+put-requires-3 : tie.Need-put-requires-3
+put-requires-3 c κs = search needs
+
+add-put-3 : tie.Need-add-put-3
+add-put-3 c = search needs
+
+put-requires-4 : tie.Need-put-requires-4
+put-requires-4 c κs = search needs
+
+same-length : tie.Need-same-length
+same-length c = search needs
+
+returns : tie.Need-returns
+returns c = rw ((c .before .before .put4) .ensures, (c .before .before .before .before .before .before .put3) .ensures, (c .before .before .before .before .before .before .before .before .before .before .put2) .ensures, (c .before .before .before .before .before .before .before .before .before .before .before .before .before .before .put) .ensures)
+
+pub put-arc-spec : {M : Type 1} → statement M
+put-arc-spec =
+    tie.close
+    (tie.spec
+    mul-i
+    put-requires
+    add-put
+    put-requires-2
+    add-put-2
+    put-requires-3
+    add-put-3
+    put-requires-4
+    same-length
+    returns)

@@ -1,0 +1,41 @@
+-- `runners::flat::put_place` meets its contract. Assumes nothing.
+use borrow.Author.Needs.{needs}
+use Rattle.flattening.proofs.rows.put_place.Statement.{statement}
+use Rattle.flattening.proofs.rows.put_place.Tie as tie
+
+mul-i : tie.Need-mul-i
+mul-i c = search needs
+
+put-requires : tie.Need-put-requires
+put-requires c κs = search needs
+
+add-put : tie.Need-add-put
+add-put c = search needs
+
+put-requires-2 : tie.Need-put-requires-2
+put-requires-2 c κs = search needs
+
+add-put-2 : tie.Need-add-put-2
+add-put-2 c = search needs
+
+put-requires-3 : tie.Need-put-requires-3
+put-requires-3 c κs = search needs
+
+same-length : tie.Need-same-length
+same-length c = search needs
+
+returns : tie.Need-returns
+returns c = rw ((c .before .before .put3) .ensures, (c .before .before .before .before .before .before .put2) .ensures, (c .before .before .before .before .before .before .before .before .before .before .put) .ensures)
+
+pub put-place-spec : {M : Type 1} → statement M
+put-place-spec =
+    tie.close
+    (tie.spec
+    mul-i
+    put-requires
+    add-put
+    put-requires-2
+    add-put-2
+    put-requires-3
+    same-length
+    returns)

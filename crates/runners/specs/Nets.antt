@@ -1,0 +1,42 @@
+-- A card that was loaded once, for many rows. Only this crate makes such a net or looks into it.
+use Prim.Native.Nat.{ℕ}
+use mathlib.Core.Path.{_≡_}
+use mathlib.Core.List.{List, [], _∷_}
+use Rattle.card.specs.Card.{Card}
+use Rattle.hierarchy.specs.Numbers.{checkOutcome}
+use Rattle.hierarchy.specs.Judgement.{Judgement, accepted, refused, outcomeOf}
+use Rattle.flattening.specs.Flattening.{flatten}
+use Rattle.runners.specs.Numbers.{RowOutcome}
+use Rattle.runners.specs.Rows.{pieces}
+use Rattle.runners.specs.inner.Steps.{HoldsNet}
+use Rattle.runners.specs.declared.Net.{Net}
+
+-- the flat card of an accepted card is accepted (proofs/FlatLaws.antt); of a refused one there is none
+abbrev pub flatJudged : Judgement → Judgement
+flatJudged (accepted c) = accepted (flatten c)
+flatJudged (refused n at) = refused n at
+
+-- how many signals its rows give degrees of
+abbrev pub signalsIn : Judgement → ℕ
+signalsIn (accepted c) = c .signals
+signalsIn (refused n at) = 0
+
+abbrev pub HoldsJudged : Judgement → Net → Type 0
+HoldsJudged (accepted c) n = HoldsNet c (n .numbers) (n .starts) (n .full) (n .sizes)
+HoldsJudged (refused why at) n = Unit {0}
+
+-- the net of what a card was judged to be
+pub record IsNet (j : Judgement) (n : Net) : Type 0 where
+  pub answer : checkOutcome (n .answer) ≡ outcomeOf j
+  pub signals : (n .sizes) .signals ≡ signalsIn j
+  pub tables : HoldsJudged j n
+
+-- Rows one after another, each from the state that the one before left: the state that they leave.
+unfoldable pub leaves : {S C : Type 0} → (S → C → RowOutcome × S) → S → List C → S
+leaves call s [] = s
+leaves call s (c ∷ cs) = leaves call ((call s c) .1) cs
+
+-- rows in one list, a degree for each signal; a last one that is cut short is a row too
+abbrev pub rowsIn : Judgement → (degrees : List ℕ) → List (List ℕ)
+rowsIn (accepted c) degrees = pieces (c .signals) degrees
+rowsIn (refused n at) degrees = []

@@ -1,0 +1,72 @@
+// Columns by flat place, out of a card's tables: a thousand for each token of a place's capacity, or of its first tokens.
+use card::tables::capacity;
+use card::tables::first_place;
+use card::tables::narrow;
+use card::tables::place_count;
+use card::tables::subnet_row;
+use card::tables::tokens;
+ghost use mathlib.Core.Path.{_≡_};
+ghost use mathlib.Core.List.{List};
+ghost use Prim.Native.Nat.{ℕ, suc, _+_, _<_};
+ghost use lib.ListN.{length, set};
+ghost use Rattle.card.specs.Card.{Card, placeAt, firstPlace, subnetAt};
+ghost use Rattle.card.specs.Index.{subnetRow, Loaded};
+ghost use Rattle.runners.specs.Visits.{InTables};
+ghost use Rattle.runners.specs.inner.Markings.{numberOf as numberIn, FilledTo, Filled};
+
+// Which number of a place.
+pub enum PlaceNumber {
+    Capacity,
+    Tokens,
+}
+
+fn number_of(numbers: &[u16], row: u32, n: u16, which: PlaceNumber) -> u16
+    ensures { λ r. ⌜ ((c : Card) (starts : List ℕ) (s : ℕ) → Loaded c (now (numbers .entry)) starts → s < length (c .subnets) → row ≡ subnetRow c s → n < (subnetAt c s) .places → r ≡ numberIn which (placeAt c (firstPlace c s + n))) ⌝ }
+{
+    match which {
+        PlaceNumber::Capacity => capacity(numbers, row, n),
+        PlaceNumber::Tokens => tokens(numbers, row, n),
+    }
+}
+
+// Stores entry p; past the end it stores nothing.
+fn put(column: &mut [u32], p: usize, v: u32)
+    ensures { λ r. ⌜ now (column .exit) ≡ set (now (column .entry)) p v ⌝ }
+{
+    if p < column.len() {
+        column[p] = v;
+    }
+}
+
+// The places of the subnet whose row begins at row; first is the flat number of its first one.
+fn fill_subnet(numbers: &[u16], row: u32, first: u16, which: PlaceNumber, column: &mut [u32])
+    ensures { λ r. ⌜ length (now (column .exit)) ≡ length (now (column .entry)) ⌝ }
+    ensures { λ r. ⌜ ((c : Card) (starts : List ℕ) (s : ℕ) → InTables c (now (numbers .entry)) starts → s < length (c .subnets) → row ≡ subnetRow c s → first ≡ firstPlace c s → FilledTo which c (firstPlace c s) (now (column .entry)) → FilledTo which c (firstPlace c (suc s)) (now (column .exit))) ⌝ }
+{
+    let count = place_count(numbers, row);
+    let mut n = 0;
+    while n < count {
+        let p = first as usize + n as usize;
+        put(column, p, 1000 * number_of(numbers, row, n, which) as u32);
+        n += 1;
+    }
+}
+
+// The places of all subnets.
+pub fn by_place<'a>(
+    numbers: &'a [u16],
+    starts: &'a [u32],
+    subnets: u16,
+    which: PlaceNumber,
+) -> [u32; 255]
+    ensures { λ r. ⌜ ((c : Card) → InTables c (now (numbers .entry)) (now (starts .entry)) → subnets ≡ length (c .subnets) → Filled which c r) ⌝ }
+{
+    let mut column = [0; 255];
+    let mut s = 0;
+    while s < subnets {
+        let first = narrow(first_place(starts, s) as usize);
+        fill_subnet(numbers, subnet_row(starts, s), first, which, &mut column);
+        s += 1;
+    }
+    column
+}
