@@ -22,7 +22,7 @@ def declared(name, place):
     if not path.is_file():
         return False
     marks = r"(?:unfoldable |abbrev |pub |extern \"C\" |record |data |fn |struct |enum )*"
-    return re.search(rf"^\s*{marks}{re.escape(name)}(?=[ :({{]|$)", path.read_text(), re.M) is not None
+    return re.search(rf"^\s*{marks}{re.escape(name)}(?=[ :(<{{]|$)", path.read_text(), re.M) is not None
 
 
 def cells(text):

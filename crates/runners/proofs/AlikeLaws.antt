@@ -25,32 +25,33 @@ self-view r s i =
       found = λ e t o. refl;
     }
 
--- columns that neither visit changes
-still : (a a′ b b′ : List ℕ) → a′ ≡ a → b′ ≡ b → SameChange a a′ b b′
-still a a′ b b′ e f p l k = rw (e, f) (ap (λ (n : ℕ). n % word) (omega arith))
-
 module _ (s : ℕ) (c d : Card) (a a′ b b′ : Columns) (first : firstTransition c s ≡ firstTransition d s) (count : (subnetAt c s) .transitions ≡ (subnetAt d s) .transitions) where
   -- an own transition of one card is one of the other
   own-on : (t : ℕ) → OwnsTransition c s t → OwnsTransition d s t
   own-on t o = record { low = omega (arith, o .low, first); high = omega (arith, o .high, first, count, next-first c s, next-first d s) }
 
+  -- a column that neither visit changes
+  kept : (column : Columns → List ℕ) (k l : Columns) → a′ ≡ k → b′ ≡ l → column k ≡ column a → column l ≡ column b
+      → SameChange (column a) (column a′) (column b) (column b′)
+  kept column k l e f g h p x y = rw (e, f, g, h) (ap (λ (n : ℕ). n % word) (omega arith))
+
   -- two visits that do the same on any columns
   alike : (r : Round) (j : Turn) → j .card ≡ d → Does r s j a a′ → Does r s j b b′ → SameOutcome r s c a a′ b b′
   alike posting j e x y =
       record {
-        markings = still (a .markings) (a′ .markings) (b .markings) (b′ .markings) (ap (λ (k : Columns). k .markings) (x .only)) (ap (λ (k : Columns). k .markings) (y .only));
+        markings = kept (λ k. k .markings) _ _ (x .only) (y .only) refl refl;
         owed = moved-alike (a .owed) (a′ .owed) (b .owed) (b′ .owed) nothing (effect posting s j draws) (x .owed) (y .owed);
         due = moved-alike (a .due) (a′ .due) (b .due) (b′ .due) nothing (effect posting s j fills) (x .due) (y .due);
-        drawn = still (a .drawn) (a′ .drawn) (b .drawn) (b′ .drawn) (ap (λ (k : Columns). k .drawn) (x .only)) (ap (λ (k : Columns). k .drawn) (y .only));
-        filled = still (a .filled) (a′ .filled) (b .filled) (b′ .filled) (ap (λ (k : Columns). k .filled) (x .only)) (ap (λ (k : Columns). k .filled) (y .only));
+        drawn = kept (λ k. k .drawn) _ _ (x .only) (y .only) refl refl;
+        filled = kept (λ k. k .filled) _ _ (x .only) (y .only) refl refl;
         candidates = λ z t o l k. absurd (let g : _≡_ {A = ℕ} 0 1 = cc in omega arith);
         transfers = λ z t o l k. absurd (let g : _≡_ {A = ℕ} 0 1 = cc in omega arith);
       }
   alike finding j e x y =
       record {
-        markings = still (a .markings) (a′ .markings) (b .markings) (b′ .markings) (ap (λ (k : Columns). k .markings) (x .only)) (ap (λ (k : Columns). k .markings) (y .only));
-        owed = still (a .owed) (a′ .owed) (b .owed) (b′ .owed) (ap (λ (k : Columns). k .owed) (x .only)) (ap (λ (k : Columns). k .owed) (y .only));
-        due = still (a .due) (a′ .due) (b .due) (b′ .due) (ap (λ (k : Columns). k .due) (x .only)) (ap (λ (k : Columns). k .due) (y .only));
+        markings = kept (λ k. k .markings) _ _ (x .only) (y .only) refl refl;
+        owed = kept (λ k. k .owed) _ _ (x .only) (y .only) refl refl;
+        due = kept (λ k. k .due) _ _ (x .only) (y .only) refl refl;
         drawn = moved-alike (a .drawn) (a′ .drawn) (b .drawn) (b′ .drawn) nothing (effect finding s j draws) (x .drawn) (y .drawn);
         filled = moved-alike (a .filled) (a′ .filled) (b .filled) (b′ .filled) nothing (effect finding s j fills) (x .filled) (y .filled);
         candidates = λ z t o l k. let u = subst (λ (q : Card). OwnsTransition q s t) (sym e) (own-on t o) in x .own t u l ∙ sym (y .own t u k);
@@ -59,10 +60,10 @@ module _ (s : ℕ) (c d : Card) (a a′ b b′ : Columns) (first : firstTransiti
   alike moving j e x y =
       record {
         markings = moved-alike (a .markings) (a′ .markings) (b .markings) (b′ .markings) (effect moving s j draws) (effect moving s j fills) (x .markings) (y .markings);
-        owed = still (a .owed) (a′ .owed) (b .owed) (b′ .owed) (ap (λ (k : Columns). k .owed) (x .only)) (ap (λ (k : Columns). k .owed) (y .only));
-        due = still (a .due) (a′ .due) (b .due) (b′ .due) (ap (λ (k : Columns). k .due) (x .only)) (ap (λ (k : Columns). k .due) (y .only));
-        drawn = still (a .drawn) (a′ .drawn) (b .drawn) (b′ .drawn) (ap (λ (k : Columns). k .drawn) (x .only)) (ap (λ (k : Columns). k .drawn) (y .only));
-        filled = still (a .filled) (a′ .filled) (b .filled) (b′ .filled) (ap (λ (k : Columns). k .filled) (x .only)) (ap (λ (k : Columns). k .filled) (y .only));
+        owed = kept (λ k. k .owed) _ _ (x .only) (y .only) refl refl;
+        due = kept (λ k. k .due) _ _ (x .only) (y .only) refl refl;
+        drawn = kept (λ k. k .drawn) _ _ (x .only) (y .only) refl refl;
+        filled = kept (λ k. k .filled) _ _ (x .only) (y .only) refl refl;
         candidates = λ z t o l k. absurd (let g : _≡_ {A = ℕ} 0 1 = cc in omega arith);
         transfers = λ z t o l k. let u = subst (λ (q : Card). OwnsTransition q s t) (sym e) (own-on t o) in x .own t u l ∙ sym (y .own t u k);
       }

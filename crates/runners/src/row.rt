@@ -1,5 +1,5 @@
-// A row on a card's own tables, subnet by subnet: the tests in front of the step, and the step. Nothing here, nor in what it calls, knows of a
-// flat card. The functions ask that the tables are a loaded card's, so none is an entry point.
+// A row on a card's own tables, subnet by subnet: the tests in front of the step, and the step. Nothing here, nor in what it calls, makes or
+// reads a flat card. The functions ask that the tables are a loaded card's, so none is an entry point.
 use crate::Refusal;
 use crate::Reply;
 use crate::RowAnswer;

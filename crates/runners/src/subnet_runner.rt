@@ -1,4 +1,5 @@
-// The subnet runner: it visits the card's own subnets, in the order that is lent. Neither this module nor what it calls knows of a flat card.
+// The subnet runner: it visits the card's own subnets, in the order that is lent. Neither this module nor what it calls makes
+// or reads a flat card.
 use crate::Refusal;
 use crate::RowAnswer;
 use crate::Sizes;
