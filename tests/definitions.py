@@ -11,6 +11,7 @@ import shutil
 import subprocess
 import sys
 import tempfile
+from itertools import chain
 
 root = pathlib.Path(__file__).resolve().parent.parent
 sys.path.insert(0, str(root / "tests" / "second"))
@@ -73,17 +74,9 @@ def lent(s, counts):
             + " ".join(f"{name} = {count};" for name, count in names.items()) + " }")
 
 
-def rows_of(rows, names):
-    return listed("record { " + " ".join(f"{name} = {value};" for name, value in zip(names, row)) + " }"
-                  for row in rows)
-
-
-def tables(card):
-    return (f"record {{ version = {card.version}; signals = {card.signals};"
-            f" subnets = {rows_of(card.subnets, net.Subnet._fields)};"
-            f" places = {rows_of(card.places, net.Place._fields)};"
-            f" transitions = {rows_of(card.transitions, net.Transition._fields)};"
-            f" arcs = {rows_of(card.arcs, net.Arc._fields)} }}")
+def slices(card):
+    rows = (card.subnets, card.places, card.transitions, card.arcs)
+    return f"{card.version} {card.signals} " + " ".join(bytes_(chain(*table)) for table in rows)
 
 
 def programs(data, rows):
@@ -171,7 +164,7 @@ def write_case(rng):
     else:
         key, value = (24, answer[1]) if answer[0] == "short" else answer[1:]
         outcome = f"checks.WriteOutcome.refused {key} {value}"
-    return key, [f"write ({tables(card)}) {bytes_(buffer)} ≡ ({outcome}, {bytes_(after)})"]
+    return key, [f"writeRows {slices(card)} {bytes_(buffer)} ≡ ({outcome}, {bytes_(after)})"]
 
 
 def sample(rng, make, wanted):
@@ -202,16 +195,18 @@ def theorems(statements):
 use mathlib.Core.List.{List, [], _∷_}
 use mathlib.Core.Option.{Option, none, some}
 use Rattle.card.specs.Writing.{allFit, counted, readTables}
+use Rattle.card.specs.Rows.{tablesIn, wholeRows, readRows}
 use Rattle.card.specs.Spelling.{putInto}
 use Rattle.hierarchy.specs.Numbers as checks
-use Rattle.hierarchy.specs.Judgement.{answer, judgeTables}
-use Rattle.hierarchy.specs.Output.{write}
+use Rattle.hierarchy.specs.Judgement.{answer}
+use Rattle.hierarchy.specs.Output.{writeRows}
 use Rattle.runners.specs.Numbers as replies
 use Rattle.programs.specs.Programs.{flattenProgram}
 use Rattle.runners.specs.Calls.{slot, consistent, valid, eachOnce, flatCall, subnetCall}
 use Rattle.runners.specs.declared.Transfer.the-variants.{Idle, Carrying}""", uses]
     text = "\n".join(dict.fromkeys("\n".join(parts).split("\n"))) + "\n"
-    more = "allFit counted readTables putInto judgeTables write flattenProgram consistent valid eachOnce flatCall subnetCall"
+    more = ("allFit counted readTables tablesIn wholeRows readRows putInto writeRows"
+            " flattenProgram consistent valid eachOnce flatCall subnetCall")
     for number, statement in enumerate(statements, start=1):
         text += f"\ncase-{number} : {statement}\nunfolding {names} {more}\ncase-{number} = refl\n"
     return text

@@ -2,6 +2,7 @@
 // counts of 16 bits; or bit 47, then 7 bits for the fault and 40 for its position.
 mod rows;
 
+use card::TABLE;
 use card::reader::ReadAnswer;
 use card::reader::read;
 use hierarchy::Answer;
@@ -41,7 +42,7 @@ fn topped(n: u16, answer: u64) -> u64 {
 pub extern "C" fn read_field(card: &[u8], i: usize) -> u64 {
     let r = read(card);
     let a = r.answer;
-    if i < 33026 {
+    if i < TABLE {
         return topped(r.numbers[i], read_answer(a));
     }
     read_answer(a)

@@ -1,4 +1,4 @@
--- Bits and fields of bytes, and the window of three bytes in which a field lies. Assumes nothing.
+-- Bits and fields of bytes, and the span of three bytes in which a field lies. Assumes nothing.
 use Prim.Native.Nat.{ℕ, zero, suc, _+_, _-_, _*_, _/_, _%_, _^_, _≤_, _<_}
 use mathlib.Core.Path.{_≡_, refl, ap, sym, _∙_}
 use mathlib.Core.Bool.{Bool, true, false}
@@ -12,7 +12,7 @@ use lib.Seq.{ext-getD}
 use lib.Pow.{pow-pos, field, high, mod-mod-pow, shr-shr}
 use borrow.Author.Tests.{ltb-true, ltb-false}
 use Rattle.card.specs.Bits.{bit, bitField}
-use Rattle.card.specs.Fields.{window, Window}
+use Rattle.card.specs.inner.Spans.{span, Span}
 
 pub lt-or-ge : (a b : ℕ) → (a < b) ⊎ (b ≤ a)
 lt-or-ge a b = go (ltb a b) refl
@@ -82,29 +82,29 @@ three-bit bytes k a b c hb hc j h is-a is-b is-c = split (lt-or-ge j 8) (lt-or-g
         rw (i, e, bit-at, is-c m) (sym (low-bit (a * 2 ^ 8 + b) c 8 (7 - (j - 16)) (omega arith)))
 
 module _ (bytes : List ℕ) (k : ℕ) (h1 : getD bytes (k + 1) 0 < 256) (h2 : getD bytes (k + 2) 0 < 256) where
-  -- bit j of the window is bit 23 - j of its number
-  pub window-bit : (j : ℕ) → j < 24 → bit bytes (8 * k + j) ≡ window bytes k / 2 ^ (23 - j) % 2
-  unfolding window
-  window-bit j h = three-bit bytes k (getD bytes k 0) (getD bytes (k + 1) 0) (getD bytes (k + 2) 0) h1 h2 j h (λ l. refl) (λ g l. refl) (λ g. refl)
+  -- bit j of the span is bit 23 - j of its number
+  pub span-bit : (j : ℕ) → j < 24 → bit bytes (8 * k + j) ≡ span bytes k / 2 ^ (23 - j) % 2
+  unfolding span
+  span-bit j h = three-bit bytes k (getD bytes k 0) (getD bytes (k + 1) 0) (getD bytes (k + 2) 0) h1 h2 j h (λ l. refl) (λ g l. refl) (λ g. refl)
 
-  -- the field of w bits from bit o of the window on
-  pub window-field : (o w : ℕ) → o + w ≤ 24 → bitField (bit bytes) (8 * k + o) w ≡ window bytes k / 2 ^ (24 - (o + w)) % 2 ^ w
-  window-field o w h =
-      field-is (bit bytes) (8 * k + o) w (window bytes k / 2 ^ s % 2 ^ w) (mod-lt (window bytes k / 2 ^ s) (pow-pos w))
+  -- the field of w bits from bit o of the span on
+  pub span-field : (o w : ℕ) → o + w ≤ 24 → bitField (bit bytes) (8 * k + o) w ≡ span bytes k / 2 ^ (24 - (o + w)) % 2 ^ w
+  span-field o w h =
+      field-is (bit bytes) (8 * k + o) w (span bytes k / 2 ^ s % 2 ^ w) (mod-lt (span bytes k / 2 ^ s) (pow-pos w))
       (λ m l.
       let i : 8 * k + o + m ≡ 8 * k + (o + m) = omega arith in
       let e : s + (w - 1 - m) ≡ 23 - (o + m) = omega arith in
-      rw (i, low-digit (window bytes k / 2 ^ s) w (w - 1 - m) (omega arith), shr-shr (window bytes k) s (w - 1 - m), e) (window-bit (o + m) (omega arith)))
+      rw (i, low-digit (span bytes k / 2 ^ s) w (w - 1 - m) (omega arith), shr-shr (span bytes k) s (w - 1 - m), e) (span-bit (o + m) (omega arith)))
     where
       s : ℕ
       s = 24 - (o + w)
 
 -- a field as the code reads it: p and q are its powers of two
-pub field-read : (bytes : List ℕ) (at w x p q : ℕ) → Window bytes (at / 8) x → p ≡ 2 ^ (24 - (at % 8 + w)) → q ≡ 2 ^ w → w ≤ 16
+pub field-read : (bytes : List ℕ) (at w x p q : ℕ) → Span bytes (at / 8) x → p ≡ 2 ^ (24 - (at % 8 + w)) → q ≡ 2 ^ w → w ≤ 16
     → x / p % q ≡ bitField (bit bytes) at w
 field-read bytes at w x p q h ep eq hw =
     let e : 8 * (at / 8) + at % 8 ≡ at = omega arith in
-    rw (ep, eq, h .is) (sym (rw e at (window-field bytes (at / 8) (h .middle) (h .last) (at % 8) w (omega arith))))
+    rw (ep, eq, h .is) (sym (rw e at (span-field bytes (at / 8) (h .middle) (h .last) (at % 8) w (omega arith))))
 
 -- a field looks at its own bits alone
 pub field-local : (f g : ℕ → ℕ) (at w : ℕ) → ((i : ℕ) → at ≤ i → i < at + w → f i ≡ g i) → bitField f at w ≡ bitField g at w
@@ -138,10 +138,10 @@ field-bits f g hf hg at (suc w) e i l u = go (lt-or-ge i (at + w)) (field-bits f
 
 -- a byte is the field of its eight bits
 pub byte-field : (bytes : List ℕ) → ((k : ℕ) → getD bytes k 0 < 256) → (k : ℕ) → getD bytes k 0 ≡ bitField (bit bytes) (8 * k) 8
-unfolding window
+unfolding span
 byte-field bytes h k =
     let e : 8 * k + 0 ≡ 8 * k = omega arith in
-    let f : bitField (bit bytes) (8 * k) 8 ≡ window bytes k / 65536 % 256 = rw e at (window-field bytes k (h (k + 1)) (h (k + 2)) 0 8 (omega arith)) in
+    let f : bitField (bit bytes) (8 * k) 8 ≡ span bytes k / 65536 % 256 = rw e at (span-field bytes k (h (k + 1)) (h (k + 2)) 0 8 (omega arith)) in
     omega (arith, f, h k, h (k + 1), h (k + 2))
 
 -- bytes, as many and with the same bits, are equal

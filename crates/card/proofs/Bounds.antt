@@ -8,7 +8,7 @@ use lib.Dec.{ltb}
 use borrow.Author.Tests.{ltb-true}
 use Rattle.card.specs.Format.{Format, done, get}
 use Rattle.card.specs.Grammar.{maxCount, header, subnet, place, transition, arc}
-use Rattle.card.specs.Layout.{faultAt, startOf, pick, moveAt, orBad, stepOf, headed, Sane}
+use Rattle.card.specs.inner.Layout.{faultAt, startOf, pick, moveAt, orBad, stepOf, headed, Sane}
 use Rattle.card.specs.declared.FormatFault.{FormatFault}
 use Rattle.card.specs.declared.layout.Phase.{Phase}
 use Rattle.card.specs.declared.layout.Phase.the-variants.{Version, SubnetCount, SignalCount, Parent, SubnetType, PlaceCount, TransitionCount, Kind, Capacity, Tokens, Signal, ArcCount, Direction, ArcSubnet, ArcPlace, Weight}

@@ -4,6 +4,7 @@ use mathlib.Core.Path.{_≡_, refl, ap, _∙_}
 use mathlib.Core.List.{List, [], _∷_, _++_}
 use native.Mathlib.Omega.{arith}
 use lib.ListN.{length, getD, set, take, drop, length-set}
+use lib.Seq.{take-at}
 use borrow.Author.Tests.{le-leb, lt-leb}
 use Rattle.card.specs.Spelling.{putInto}
 
@@ -57,3 +58,11 @@ module _ (bytes buffer out : List ℕ) (i : ℕ) (c : Copying bytes buffer out i
 pub copy-none : (bytes buffer : List ℕ) → length buffer < length bytes → buffer ≡ putInto bytes buffer
 unfolding putInto
 copy-none bytes buffer h = rw (lt-leb (length bytes) (length buffer) h)
+
+-- bytes that have room
+pub put-is : (bytes buffer : List ℕ) → length bytes ≤ length buffer → putInto bytes buffer ≡ bytes ++ drop (length bytes) buffer
+unfolding putInto
+put-is bytes buffer l = rw (le-leb (length bytes) (length buffer) l)
+
+pub put-front : (bytes buffer out : List ℕ) → length bytes ≤ length buffer → out ≡ putInto bytes buffer → take (length bytes) out ≡ bytes
+put-front bytes buffer out l e = ap (take (length bytes)) (e ∙ put-is bytes buffer l) ∙ take-at bytes (drop (length bytes) buffer) (length bytes) refl

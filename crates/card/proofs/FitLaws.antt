@@ -11,7 +11,7 @@ use Rattle.card.specs.Card.{Card, headerOf, subnetAt, placeAt, transitio
 use Rattle.card.specs.Grammar.{header, subnet, place, transition, arc, card}
 use Rattle.card.specs.Writing.{fields, allFit}
 use Rattle.card.specs.Rows.{entry, tablesIn}
-use Rattle.card.specs.Runs.{RowsFit, subnetWidths, placeWidths, transitionWidths, arcWidths, HeaderFits, ValuesFit}
+use Rattle.card.specs.inner.Runs.{RowsFit, subnetWidths, placeWidths, transitionWidths, arcWidths, HeaderFits, ValuesFit}
 use Rattle.card.proofs.Sums.{sum-owner, sum-below}
 use Rattle.card.proofs.Walk.{Every, Fits, fits-all, all-fits}
 use Rattle.card.proofs.Prefix.{Counted, places-below, transitions-below, first-place, first-transition}

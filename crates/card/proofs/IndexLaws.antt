@@ -1,21 +1,26 @@
 -- A turn of the walks that find where the rows of a card begin, over plain values. Assumes nothing.
-use Prim.Native.Nat.{ℕ, suc, _+_, _*_, _≤_, _<_}
+use Prim.Native.Nat.{ℕ, zero, suc, _+_, _-_, _*_, _≤_, _<_}
 use mathlib.Core.Path.{_≡_, refl, sym, ap, subst, _∙_}
+use mathlib.Core.Bool.{cond}
 use mathlib.Core.Logic.{_⊎_, inl, inr}
 use mathlib.Core.List.{List}
 use native.Mathlib.Omega.{arith}
+use native.Mathlib.Nat.{zero-add}
 use native.Mathlib.Numerals.{add-one}
-use lib.ListN.{length, getD, set, replicate, length-set, length-replicate}
-use lib.Seq.{getD-set-same, getD-set-other}
+use lib.Dec.{ltb, leb}
+use lib.ListN.{length, getD, set, replicate, length-set, length-replicate, getD-replicate}
+use lib.Seq.{ext-getD, getD-set-same, getD-set-other}
+use borrow.Author.Tests.{lt-ltb, le-ltb, le-leb, lt-leb}
 use Rattle.card.specs.Finite.{sumTo}
 use Rattle.card.specs.Card.{Card, subnetAt, transitionAt, firstPlace, firstTransition, firstArc}
 use Rattle.card.specs.Format.{count, size}
 use Rattle.card.specs.Grammar.{header, subnet, place, transition, arc}
 use Rattle.card.specs.Writing.{subnetBit, transitionBit}
-use Rattle.card.specs.Index.{subnetRow, transitionRow, Lists, Laid, Indexed}
-use Rattle.card.specs.Indexing.{OnCard, Moved, putSubnet, AtSubnet, Before, TransitionsIndexed}
+use Rattle.card.specs.Index.{subnetRow, transitionRow, Lists, Laid, Indexed, startsSize, subnetStarts, transitionStarts, subnetBitStart, firstPlaceStart, firstTransitionStart, transitionRowStart, transitionBitStart, owner, transitionRowOf, transitionBitOf, upTo, startOf, startsOf}
+use Rattle.card.specs.inner.Indexing.{OnCard, Moved, putSubnet, Column, Listed, AtSubnet, TransitionsIndexed}
 use Rattle.card.specs.Wellformed.{Wellformed}
 use Rattle.card.specs.declared.index.Position.{Position}
+use Rattle.card.proofs.Sums.{table-length, table-at}
 use Rattle.card.proofs.BitLaws.{lt-or-ge}
 use Rattle.card.proofs.Prefix.{places-below, transitions-below}
 use Rattle.card.proofs.Positions.{counted, arcs-few, transition-order}
@@ -58,30 +63,69 @@ all-listed c s = refl
 pub set-long : (old one two : List ℕ) (i v j w : ℕ) → one ≡ set old i v → two ≡ set one j w → length two ≡ length old
 set-long old one two i v j w a b = ap length b ∙ length-set one j w ∙ ap length a ∙ length-set old i v
 
--- the starts of the transitions before t are stored
+-- a subnet's own transitions have it as their owner
+owners : (c : Card) (s t n : ℕ) → Lists c s t → n ≤ s → sumTo n (λ r. cond (leb (firstTransition c (suc r)) t) 1 0) ≡ n
+unfolding sumTo
+owners c s t zero l h = refl
+owners c s t (suc n) l h = rw (owners c s t n l (omega arith), le-leb (firstTransition c (suc n)) t (omega (arith, l .first, transition-order c (suc n) s h))) (omega arith)
+
+owners-past : (c : Card) (s t n : ℕ) → Lists c s t → sumTo (s + n) (λ r. cond (leb (firstTransition c (suc r)) t) 1 0) ≡ s
+unfolding sumTo
+owners-past c s t zero l = rw (let e : s + 0 ≡ s = omega arith in e) (owners c s t s l (omega arith))
+owners-past c s t (suc n) l =
+    let e : s + suc n ≡ suc (s + n) = omega arith in
+    let past = lt-leb (firstTransition c (suc (s + n))) t (omega (arith, l .last, transition-order c (suc s) (suc (s + n)) (omega arith))) in
+    rw (e, owners-past c s t n l, past) (omega arith)
+
+pub owner-is : (c : Card) (s t : ℕ) → Lists c s t → owner c t ≡ s
+unfolding owner
+owner-is c s t l =
+    let e : length (c .subnets) ≡ s + (length (c .subnets) - s) = omega (arith, l .subnet) in
+    rw e (owners-past c s t (length (c .subnets) - s) l)
+
+-- the first values, and the zeros behind them
+up-below : (n : ℕ) (f : ℕ → ℕ) (i : ℕ) → i < n → upTo n f i ≡ f i
+up-below n f i l = rw (lt-ltb i n l)
+
+up-past : (n : ℕ) (f : ℕ → ℕ) (i : ℕ) → n ≤ i → upTo n f i ≡ 0
+up-past n f i l = rw (le-ltb i n l)
+
+-- A column: of zeros, with one value more, and one that is not touched.
+module _ (o n : ℕ) (f : ℕ → ℕ) where
+  column-blank : (size : ℕ) → o + n ≤ size → Column (replicate size 0) o n 0 f
+  column-blank size h i l = getD-replicate size (o + i) 0 0 (omega arith) ∙ sym (up-past 0 f i (omega arith))
+
+  column-more : (starts : List ℕ) (k v : ℕ) → k < n → o + n ≤ length starts → v ≡ f k → Column starts o n k f → Column (set starts (o + k) v) o n (k + 1) f
+  column-more starts k v h long e x i l = go (lt-or-ge i k)
+    where
+      go : (i < k) ⊎ (k ≤ i) → getD (set starts (o + k) v) (o + i) 0 ≡ upTo (k + 1) f i
+      go (inl b) = getD-set-other starts (o + k) (o + i) v 0 (λ q. omega arith) ∙ x i l ∙ up-below k f i b ∙ sym (up-below (k + 1) f i (omega arith))
+      go (inr b) = there (lt-or-ge k i)
+        where
+          there : (k < i) ⊎ (i ≤ k) → getD (set starts (o + k) v) (o + i) 0 ≡ upTo (k + 1) f i
+          there (inl d) = getD-set-other starts (o + k) (o + i) v 0 (λ q. omega arith) ∙ x i l ∙ up-past k f i b ∙ sym (up-past (k + 1) f i (omega arith))
+          there (inr d) =
+              let q : i ≡ k = omega arith in
+              rw q (getD-set-same starts (o + k) v 0 (omega arith) ∙ e ∙ sym (up-below (k + 1) f k (omega arith)))
+
+  column-other : (starts : List ℕ) (k j v : ℕ) → (j < o) ⊎ (o + n ≤ j) → Column starts o n k f → Column (set starts j v) o n k f
+  column-other starts k j v (inl h) x i l = getD-set-other starts j (o + i) v 0 (λ q. omega arith) ∙ x i l
+  column-other starts k j v (inr h) x i l = getD-set-other starts j (o + i) v 0 (λ q. omega arith) ∙ x i l
+
+-- the walk through subnet s's transitions is at transition t
 pub record Listing (c : Card) (s : ℕ) (old starts : List ℕ) (p : Position) (t : ℕ) : Type 0 where
   pub low : firstTransition c s ≤ t
   pub high : t ≤ firstTransition c (suc s)
   pub long : length starts ≡ length old
   pub row : p .row ≡ transitionRow c s t
   pub bit : p .bit ≡ transitionBit c s t
-  pub rows : (u : ℕ) → Lists c s u → u < t → getD starts (132 + u) 0 ≡ transitionRow c s u
-  pub bits : (u : ℕ) → Lists c s u → u < t → getD starts (388 + u) 0 ≡ transitionBit c s u
-  pub kept : (i : ℕ) → Before (firstTransition c s) i → getD starts i 0 ≡ getD old i 0
+  pub listed : Listed c starts t
+  pub kept : (i : ℕ) → i < transitionRowStart 0 → getD starts i 0 ≡ getD old i 0
 
 module _ (c : Card) (s : ℕ) (numbers old : List ℕ) (from : Position) (first n : ℕ) (a : AtSubnet c s numbers old from first n) where
   pub list-start : Listing c s old old from first
   list-start =
-      rw (a .isFirst) (record {
-        low = omega arith;
-        high = omega (arith, all-listed c s);
-        long = refl;
-        row = a .row;
-        bit = a .bit;
-        rows = λ u l h. absurd (omega (arith, l .first));
-        bits = λ u l h. absurd (omega (arith, l .first));
-        kept = λ i b. refl;
-      })
+      rw (a .isFirst) (record { low = omega arith; high = omega (arith, all-listed c s); long = refl; row = a .row; bit = a .bit; listed = a .listed; kept = λ i b. refl })
 
   module _ (starts : List ℕ) (p : Position) (t : ℕ) (x : Listing c s old starts p t) where
     pub list-on : OnCard p
@@ -90,25 +134,34 @@ module _ (c : Card) (s : ℕ) (numbers old : List ℕ) (from : Position) (first 
     pub list-few : first ≤ 1000
     list-few = omega (arith, few c (a .wellformed) s t (a .subnet) (x .high), x .low, a .isFirst)
 
-    pub list-more : t < first + n → (k : ℕ) → k ≡ getD numbers (p .row + 1) 0 → (one two : List ℕ) (q : Position) → one ≡ set starts (132 + t) (p .row) → two ≡ set one (388 + t) (p .bit)
+    pub list-more : t < first + n → (k : ℕ) → k ≡ getD numbers (p .row + 1) 0 → (one two : List ℕ) (q : Position)
+        → one ≡ set starts (transitionRowStart t) (p .row) → two ≡ set one (transitionBitStart t) (p .bit)
         → Moved p q (count (transition 0) + count arc * k) (size (transition 0) + size arc * k) → Listing c s old two q (t + 1)
     list-more h k ek one two q e1 e2 m =
         record {
           low = omega (arith, x .low);
           high = omega (arith, all-listed c s, a .isFirst, a .isCount);
-          long = set-long starts one two (132 + t) (p .row) (388 + t) (p .bit) e1 e2 ∙ x .long;
+          long = set-long starts one two (transitionRowStart t) (p .row) (transitionBitStart t) (p .bit) e1 e2 ∙ x .long;
           row = m .row ∙ rw (x .row, arcs, add-one) (sym (next-row c s t));
           bit = m .bit ∙ rw (x .bit, arcs, add-one) (sym (next-bit c s t));
-          rows = λ u l g. at-two (132 + u) (omega (arith, room)) ∙ at-row u l g (lt-or-ge u t);
-          bits = λ u l g. at-bit u l g (lt-or-ge u t);
-          kept = λ i b. rest i b;
+          listed = rw (e2, e1) (record {
+            rows = column-other 132 256 (transitionRowOf c) (set starts (132 + t) (p .row)) (t + 1) (388 + t) (p .bit) (inr (omega arith))
+                (column-more 132 256 (transitionRowOf c) starts t (p .row) room (omega (arith, size-of)) (x .row ∙ ap (λ (r : ℕ). transitionRow c r t) (sym is)) (x .listed .rows));
+            bits = column-more 388 256 (transitionBitOf c) (set starts (132 + t) (p .row)) t (p .bit) room (omega (arith, size-of, length-set starts (132 + t) (p .row)))
+                (x .bit ∙ ap (λ (r : ℕ). transitionBit c r t) (sym is))
+                (column-other 388 256 (transitionBitOf c) starts t (132 + t) (p .row) (inl (omega (arith, room))) (x .listed .bits));
+          });
+          kept = λ i b. rw (e2, e1) (getD-set-other (set starts (132 + t) (p .row)) (388 + t) i (p .bit) 0 (λ g. omega arith) ∙ getD-set-other starts (132 + t) i (p .row) 0 (λ g. omega arith)) ∙ x .kept i b;
         }
       where
         listed : Lists c s t
         listed = record { subnet = a .subnet; first = x .low; last = omega (arith, a .isFirst, a .isCount, all-listed c s) }
 
-        room : t ≤ 255
-        room = few c (a .wellformed) s t (a .subnet) (x .high) .1
+        is : owner c t ≡ s
+        is = owner-is c s t listed
+
+        room : t < 256
+        room = omega (arith, few c (a .wellformed) s t (a .subnet) (x .high) .1)
 
         size-of : length starts ≡ 644
         size-of = x .long ∙ a .long
@@ -116,37 +169,12 @@ module _ (c : Card) (s : ℕ) (numbers old : List ℕ) (from : Position) (first 
         arcs : k ≡ (transitionAt c t) .arcs
         arcs = ek ∙ rw (x .row) ((a .laid) .transition s t listed .arcs)
 
-        at-two : (i : ℕ) → i < 388 → getD two i 0 ≡ getD one i 0
-        at-two i l = rw e2 (getD-set-other one (388 + t) i (p .bit) 0 (λ e. omega arith))
-
-        at-one : (i : ℕ) → 388 ≤ i → getD one i 0 ≡ getD starts i 0
-        at-one i l = rw e1 (getD-set-other starts (132 + t) i (p .row) 0 (λ e. omega (arith, room)))
-
-        at-row : (u : ℕ) → Lists c s u → u < t + 1 → (u < t) ⊎ (t ≤ u) → getD one (132 + u) 0 ≡ transitionRow c s u
-        at-row u l g (inl b) = rw e1 (getD-set-other starts (132 + t) (132 + u) (p .row) 0 (λ e. omega arith)) ∙ x .rows u l b
-        at-row u l g (inr b) =
-            let e : u ≡ t = omega arith in
-            rw (e, e1) (getD-set-same starts (132 + t) (p .row) 0 (omega (arith, size-of, room)) ∙ x .row)
-
-        at-bit : (u : ℕ) → Lists c s u → u < t + 1 → (u < t) ⊎ (t ≤ u) → getD two (388 + u) 0 ≡ transitionBit c s u
-        at-bit u l g (inl b) = rw e2 (getD-set-other one (388 + t) (388 + u) (p .bit) 0 (λ e. omega arith)) ∙ at-one (388 + u) (omega arith) ∙ x .bits u l b
-        at-bit u l g (inr b) =
-            let e : u ≡ t = omega arith in
-            rw (e, e2) (getD-set-same one (388 + t) (p .bit) 0 (rw e1 (omega (arith, length-set starts (132 + t) (p .row), size-of, room))) ∙ x .bit)
-
-        rest : (i : ℕ) → Before (firstTransition c s) i → getD two i 0 ≡ getD old i 0
-        rest i (inl b) =
-            at-two i (omega (arith, room, x .low)) ∙ rw e1 (getD-set-other starts (132 + t) i (p .row) 0 (λ e. omega (arith, x .low))) ∙ x .kept i (inl b)
-        rest i (inr b) =
-            rw e2 (getD-set-other one (388 + t) i (p .bit) 0 (λ e. omega (arith, b .1, x .low))) ∙ at-one i (b .0) ∙ x .kept i (inr b)
-
     pub list-done : first + n ≤ t → TransitionsIndexed c s old starts p
     list-done h =
         let e : t ≡ firstTransition c (suc s) = omega (arith, a .isFirst, a .isCount, all-listed c s, x .high) in
         record {
           long = x .long;
-          rows = λ u l. x .rows u l (omega (arith, l .last));
-          bits = λ u l. x .bits u l (omega (arith, l .last));
+          listed = subst (Listed c starts) e (x .listed);
           kept = x .kept;
           row = x .row ∙ rw e (end-row c s);
           bit = x .bit ∙ rw e (end-bit c s);
@@ -165,8 +193,22 @@ put-same starts s row bit place transition =
     set-long (set (set starts s row) (33 + s) bit) (set (set (set starts s row) (33 + s) bit) (66 + s) place) (putSubnet starts s row bit place transition) (66 + s) place (99 + s) transition refl refl
     ∙ set-long starts (set starts s row) (set (set starts s row) (33 + s) bit) s row (33 + s) bit refl refl
 
--- the four entries of a subnet, and all others
-module _ (starts : List ℕ) (s row bit place transition : ℕ) (long : length starts ≡ 644) (small : s ≤ 32) where
+-- the starts of the subnets before s are stored
+pub record Begun (c : Card) (starts : List ℕ) (s : ℕ) : Type 0 where
+  pub rows : Column starts 0 subnetStarts s (subnetRow c)
+  pub bits : Column starts (subnetBitStart 0) subnetStarts s (subnetBit c)
+  pub places : Column starts (firstPlaceStart 0) subnetStarts s (firstPlace c)
+  pub transitions : Column starts (firstTransitionStart 0) subnetStarts s (firstTransition c)
+
+-- a column behind the subnets' is not touched by the starts of a subnet
+put-behind : (starts : List ℕ) (s row bit place transition o n k : ℕ) (f : ℕ → ℕ) → s < 33 → 132 ≤ o → Column starts o n k f → Column (putSubnet starts s row bit place transition) o n k f
+put-behind starts s row bit place transition o n k f small far x =
+    column-other o n f (set (set (set starts s row) (33 + s) bit) (66 + s) place) k (99 + s) transition (inl (omega arith))
+    (column-other o n f (set (set starts s row) (33 + s) bit) k (66 + s) place (inl (omega arith))
+    (column-other o n f (set starts s row) k (33 + s) bit (inl (omega arith)) (column-other o n f starts k s row (inl (omega arith)) x)))
+
+-- the starts of subnet s are stored too
+module _ (c : Card) (starts : List ℕ) (s row bit place transition : ℕ) (long : length starts ≡ 644) (small : s < 33) where
   abbrev a₁ : List ℕ
   a₁ = set starts s row
 
@@ -176,93 +218,47 @@ module _ (starts : List ℕ) (s row bit place transition : ℕ) (long : length s
   abbrev a₃ : List ℕ
   a₃ = set a₂ (66 + s) place
 
-  abbrev put : List ℕ
-  put = putSubnet starts s row bit place transition
-
   long₁ : length a₁ ≡ 644
   long₁ = length-set starts s row ∙ long
 
+  long₂ : length a₂ ≡ 644
+  long₂ = length-set a₁ (33 + s) bit ∙ long₁
+
   long₃ : length a₃ ≡ 644
-  long₃ = set-long a₁ a₂ a₃ (33 + s) bit (66 + s) place refl refl ∙ long₁
+  long₃ = length-set a₂ (66 + s) place ∙ long₂
 
-  put-long : length put ≡ 644
-  put-long = put-same starts s row bit place transition ∙ long
+  put-long : length (putSubnet starts s row bit place transition) ≡ 644
+  put-long = length-set a₃ (99 + s) transition ∙ long₃
 
-  put-other : (i : ℕ) → (i ≡ s → ⊥) → (i ≡ 33 + s → ⊥) → (i ≡ 66 + s → ⊥) → (i ≡ 99 + s → ⊥) → getD put i 0 ≡ getD starts i 0
-  put-other i a b d e = getD-set-other a₃ (99 + s) i transition 0 e ∙ getD-set-other a₂ (66 + s) i place 0 d ∙ getD-set-other a₁ (33 + s) i bit 0 b ∙ getD-set-other starts s i row 0 a
+  begun-more : row ≡ subnetRow c s → bit ≡ subnetBit c s → place ≡ firstPlace c s → transition ≡ firstTransition c s → Begun c starts s
+      → Begun c (putSubnet starts s row bit place transition) (s + 1)
+  begun-more er eb ep et x =
+      record {
+        rows = column-other 0 33 (subnetRow c) a₃ (s + 1) (99 + s) transition (inr (omega arith))
+            (column-other 0 33 (subnetRow c) a₂ (s + 1) (66 + s) place (inr (omega arith))
+            (column-other 0 33 (subnetRow c) a₁ (s + 1) (33 + s) bit (inr (omega arith)) (subst (λ (j : ℕ). Column (set starts j row) 0 33 (s + 1) (subnetRow c)) (zero-add s)
+            (column-more 0 33 (subnetRow c) starts s row small (omega (arith, long)) er (x .rows)))));
+        bits = column-other 33 33 (subnetBit c) a₃ (s + 1) (99 + s) transition (inr (omega arith))
+            (column-other 33 33 (subnetBit c) a₂ (s + 1) (66 + s) place (inr (omega arith))
+            (column-more 33 33 (subnetBit c) a₁ s bit small (omega (arith, long₁)) eb (column-other 33 33 (subnetBit c) starts s s row (inl (omega arith)) (x .bits))));
+        places = column-other 66 33 (firstPlace c) a₃ (s + 1) (99 + s) transition (inr (omega arith))
+            (column-more 66 33 (firstPlace c) a₂ s place small (omega (arith, long₂)) ep
+            (column-other 66 33 (firstPlace c) a₁ s (33 + s) bit (inl (omega arith)) (column-other 66 33 (firstPlace c) starts s s row (inl (omega arith)) (x .places))));
+        transitions = column-more 99 33 (firstTransition c) a₃ s transition small (omega (arith, long₃)) et
+            (column-other 99 33 (firstTransition c) a₂ s (66 + s) place (inl (omega arith))
+            (column-other 99 33 (firstTransition c) a₁ s (33 + s) bit (inl (omega arith)) (column-other 99 33 (firstTransition c) starts s s row (inl (omega arith)) (x .transitions))));
+      }
 
-  put-row : getD put s 0 ≡ row
-  put-row =
-      getD-set-other a₃ (99 + s) s transition 0 (λ x. omega arith) ∙ getD-set-other a₂ (66 + s) s place 0 (λ x. omega arith) ∙ getD-set-other a₁ (33 + s) s bit 0 (λ x. omega arith)
-      ∙ getD-set-same starts s row 0 (omega (arith, long))
-
-  put-bit : getD put (33 + s) 0 ≡ bit
-  put-bit =
-      getD-set-other a₃ (99 + s) (33 + s) transition 0 (λ x. omega arith) ∙ getD-set-other a₂ (66 + s) (33 + s) place 0 (λ x. omega arith) ∙ getD-set-same a₁ (33 + s) bit 0 (omega (arith, long₁))
-
-  put-place : getD put (66 + s) 0 ≡ place
-  put-place = getD-set-other a₃ (99 + s) (66 + s) transition 0 (λ x. omega arith) ∙ getD-set-same a₂ (66 + s) place 0 (omega (arith, long₁, length-set a₁ (33 + s) bit))
-
-  put-transition : getD put (99 + s) 0 ≡ transition
-  put-transition = getD-set-same a₃ (99 + s) transition 0 (omega (arith, long₃))
-
--- the starts of the subnets before s, and of their transitions, are stored
+-- the walk is at subnet s
 pub record Indexing (c : Card) (starts : List ℕ) (p : Position) (place transition s : ℕ) : Type 0 where
   pub inside : s ≤ length (c .subnets)
-  pub long : length starts ≡ 644
+  pub long : length starts ≡ startsSize
   pub row : p .row ≡ subnetRow c s
   pub bit : p .bit ≡ subnetBit c s
   pub isPlace : place ≡ firstPlace c s
   pub isTransition : transition ≡ firstTransition c s
-  pub subnetRows : (r : ℕ) → r < s → getD starts r 0 ≡ subnetRow c r
-  pub subnetBits : (r : ℕ) → r < s → getD starts (33 + r) 0 ≡ subnetBit c r
-  pub places : (r : ℕ) → r < s → getD starts (66 + r) 0 ≡ firstPlace c r
-  pub transitions : (r : ℕ) → r < s → getD starts (99 + r) 0 ≡ firstTransition c r
-  pub rows : (r t : ℕ) → r < s → Lists c r t → getD starts (132 + t) 0 ≡ transitionRow c r t
-  pub bits : (r t : ℕ) → r < s → Lists c r t → getD starts (388 + t) 0 ≡ transitionBit c r t
-
--- the starts of subnet s are stored too
-module _ (c : Card) (starts : List ℕ) (p : Position) (place transition s : ℕ) (small : s ≤ 32) (x : Indexing c starts p place transition s) where
-  abbrev one : List ℕ
-  one = putSubnet starts s (p .row) (p .bit) place transition
-
-  pub record Stored : Type 0 where
-    pub subnetRows : (r : ℕ) → r < s + 1 → getD one r 0 ≡ subnetRow c r
-    pub subnetBits : (r : ℕ) → r < s + 1 → getD one (33 + r) 0 ≡ subnetBit c r
-    pub places : (r : ℕ) → r < s + 1 → getD one (66 + r) 0 ≡ firstPlace c r
-    pub transitions : (r : ℕ) → r < s + 1 → getD one (99 + r) 0 ≡ firstTransition c r
-    pub rows : (r t : ℕ) → r < s → Lists c r t → getD one (132 + t) 0 ≡ transitionRow c r t
-    pub bits : (r t : ℕ) → r < s → Lists c r t → getD one (388 + t) 0 ≡ transitionBit c r t
-
-  stored : Stored
-  stored =
-      record {
-        subnetRows = λ r l. at-row r l (lt-or-ge r s);
-        subnetBits = λ r l. at-bit r l (lt-or-ge r s);
-        places = λ r l. at-place r l (lt-or-ge r s);
-        transitions = λ r l. at-transition r l (lt-or-ge r s);
-        rows = λ r t l h. other (132 + t) (λ e. omega arith) (λ e. omega arith) (λ e. omega arith) (λ e. omega arith) ∙ x .rows r t l h;
-        bits = λ r t l h. other (388 + t) (λ e. omega arith) (λ e. omega arith) (λ e. omega arith) (λ e. omega arith) ∙ x .bits r t l h;
-      }
-    where
-      other : (i : ℕ) → (i ≡ s → ⊥) → (i ≡ 33 + s → ⊥) → (i ≡ 66 + s → ⊥) → (i ≡ 99 + s → ⊥) → getD one i 0 ≡ getD starts i 0
-      other = put-other starts s (p .row) (p .bit) place transition (x .long) small
-
-      at-row : (r : ℕ) → r < s + 1 → (r < s) ⊎ (s ≤ r) → getD one r 0 ≡ subnetRow c r
-      at-row r l (inl h) = other r (λ e. omega arith) (λ e. omega arith) (λ e. omega arith) (λ e. omega arith) ∙ x .subnetRows r h
-      at-row r l (inr h) = let e : r ≡ s = omega arith in rw e (put-row starts s (p .row) (p .bit) place transition (x .long) small ∙ x .row)
-
-      at-bit : (r : ℕ) → r < s + 1 → (r < s) ⊎ (s ≤ r) → getD one (33 + r) 0 ≡ subnetBit c r
-      at-bit r l (inl h) = other (33 + r) (λ e. omega arith) (λ e. omega arith) (λ e. omega arith) (λ e. omega arith) ∙ x .subnetBits r h
-      at-bit r l (inr h) = let e : r ≡ s = omega arith in rw e (put-bit starts s (p .row) (p .bit) place transition (x .long) small ∙ x .bit)
-
-      at-place : (r : ℕ) → r < s + 1 → (r < s) ⊎ (s ≤ r) → getD one (66 + r) 0 ≡ firstPlace c r
-      at-place r l (inl h) = other (66 + r) (λ e. omega arith) (λ e. omega arith) (λ e. omega arith) (λ e. omega arith) ∙ x .places r h
-      at-place r l (inr h) = let e : r ≡ s = omega arith in rw e (put-place starts s (p .row) (p .bit) place transition (x .long) small ∙ x .isPlace)
-
-      at-transition : (r : ℕ) → r < s + 1 → (r < s) ⊎ (s ≤ r) → getD one (99 + r) 0 ≡ firstTransition c r
-      at-transition r l (inl h) = other (99 + r) (λ e. omega arith) (λ e. omega arith) (λ e. omega arith) (λ e. omega arith) ∙ x .transitions r h
-      at-transition r l (inr h) = let e : r ≡ s = omega arith in rw e (put-transition starts s (p .row) (p .bit) place transition (x .long) small ∙ x .isTransition)
+  pub begun : Begun c starts s
+  pub listed : Listed c starts (firstTransition c s)
 
 module _ (c : Card) (w : Wellformed c) (numbers : List ℕ) (d : Laid c numbers) where
   pub index-start : (p : Position) → p .row ≡ count header → p .bit ≡ size header → Indexing c (replicate 644 0) p 0 0 0
@@ -275,12 +271,13 @@ module _ (c : Card) (w : Wellformed c) (numbers : List ℕ) (d : Laid c numbers)
         bit = eb;
         isPlace = refl;
         isTransition = refl;
-        subnetRows = λ r l. absurd (omega arith);
-        subnetBits = λ r l. absurd (omega arith);
-        places = λ r l. absurd (omega arith);
-        transitions = λ r l. absurd (omega arith);
-        rows = λ r t l h. absurd (omega arith);
-        bits = λ r t l h. absurd (omega arith);
+        begun = record {
+          rows = column-blank 0 33 (subnetRow c) 644 (omega arith);
+          bits = column-blank 33 33 (subnetBit c) 644 (omega arith);
+          places = column-blank 66 33 (firstPlace c) 644 (omega arith);
+          transitions = column-blank 99 33 (firstTransition c) 644 (omega arith);
+        };
+        listed = record { rows = column-blank 132 256 (transitionRowOf c) 644 (omega arith); bits = column-blank 388 256 (transitionBitOf c) 644 (omega arith) };
       }
 
   module _ (starts : List ℕ) (p : Position) (place transition s : ℕ) (x : Indexing c starts p place transition s) where
@@ -292,66 +289,152 @@ module _ (c : Card) (w : Wellformed c) (numbers : List ℕ) (d : Laid c numbers)
           bit = omega (arith, x .bit, first-bit c s, few-bits c w s (firstTransition c s) l (omega (arith, t)));
         }
 
+    small : s < 33
+    small = omega (arith, x .inside, w .fewSubnets)
+
+    abbrev one : List ℕ
+    one = putSubnet starts s (p .row) (p .bit) place transition
+
+    one-long : length one ≡ 644
+    one-long = put-long c starts s (p .row) (p .bit) place transition (x .long) small
+
+    one-begun : Begun c one (s + 1)
+    one-begun = begun-more c starts s (p .row) (p .bit) place transition (x .long) small (x .row) (x .bit) (x .isPlace) (x .isTransition) (x .begun)
+
+    one-listed : Listed c one (firstTransition c s)
+    one-listed =
+        record {
+          rows = put-behind starts s (p .row) (p .bit) place transition 132 256 (firstTransition c s) (transitionRowOf c) small (omega arith) (x .listed .rows);
+          bits = put-behind starts s (p .row) (p .bit) place transition 388 256 (firstTransition c s) (transitionBitOf c) small (omega arith) (x .listed .bits);
+        }
+
     module _ (l : s < length (c .subnets)) (n k : ℕ) (en : n ≡ getD numbers (p .row + 2) 0) (ek : k ≡ getD numbers (p .row + 3) 0) (q : Position)
         (m : Moved p q (count (subnet 0 0 0) + count (Rattle.card.specs.Grammar.place 0) * n) (size (subnet 0 0 0) + size (Rattle.card.specs.Grammar.place 0) * n)) where
-      small : s ≤ 32
-      small = omega (arith, w .fewSubnets)
-
       places-is : n ≡ (subnetAt c s) .places
       places-is = en ∙ rw (x .row) (d .subnet s l .places)
 
       transitions-is : k ≡ (subnetAt c s) .transitions
       transitions-is = ek ∙ rw (x .row) (d .subnet s l .transitions)
 
-      pub index-at : AtSubnet c s numbers (putSubnet starts s (p .row) (p .bit) place transition) q transition k
+      pub index-at : AtSubnet c s numbers one q transition k
       index-at =
           record {
             wellformed = w;
             laid = d;
             subnet = l;
-            long = put-long starts s (p .row) (p .bit) place transition (x .long) small;
+            long = one-long;
             row = m .row ∙ rw (x .row, places-is) (sym (first-row c s));
             bit = m .bit ∙ rw (x .bit, places-is) (sym (first-bit c s));
             isFirst = x .isTransition;
             isCount = transitions-is;
+            listed = one-listed;
           }
 
-      pub index-more : (two : List ℕ) (v : Position) → TransitionsIndexed c s (putSubnet starts s (p .row) (p .bit) place transition) two v → Indexing c two v (place + n) (transition + k) (s + 1)
+      pub index-more : (two : List ℕ) (v : Position) → TransitionsIndexed c s one two v → Indexing c two v (place + n) (transition + k) (s + 1)
       index-more two v g =
           record {
             inside = omega arith;
-            long = g .long ∙ put-long starts s (p .row) (p .bit) place transition (x .long) small;
+            long = g .long ∙ one-long;
             row = rw (add-one s) (g .row);
             bit = rw (add-one s) (g .bit);
             isPlace = rw (add-one s) (unfold firstPlace sumTo in rw (x .isPlace, places-is));
             isTransition = rw (add-one s) (unfold firstTransition sumTo in rw (x .isTransition, transitions-is));
-            subnetRows = λ r h. g .kept r (inl (omega arith)) ∙ o .subnetRows r h;
-            subnetBits = λ r h. g .kept (33 + r) (inl (omega arith)) ∙ o .subnetBits r h;
-            places = λ r h. g .kept (66 + r) (inl (omega arith)) ∙ o .places r h;
-            transitions = λ r h. g .kept (99 + r) (inl (omega arith)) ∙ o .transitions r h;
-            rows = λ r t h b. at-row r t h b (lt-or-ge r s);
-            bits = λ r t h b. at-bit r t h b (lt-or-ge r s);
+            begun = record {
+              rows = λ i h. g .kept (0 + i) (omega arith) ∙ one-begun .rows i h;
+              bits = λ i h. g .kept (33 + i) (omega arith) ∙ one-begun .bits i h;
+              places = λ i h. g .kept (66 + i) (omega arith) ∙ one-begun .places i h;
+              transitions = λ i h. g .kept (99 + i) (omega arith) ∙ one-begun .transitions i h;
+            };
+            listed = rw (add-one s) (g .listed);
           }
-        where
-          o : Stored c starts p place transition s small x
-          o = stored c starts p place transition s small x
 
-          at-row : (r t : ℕ) → r < s + 1 → Lists c r t → (r < s) ⊎ (s ≤ r) → getD two (132 + t) 0 ≡ transitionRow c r t
-          at-row r t h b (inl i) = g .kept (132 + t) (inl (omega (arith, b .last, transition-order c (suc r) s i))) ∙ o .rows r t i b
-          at-row r t h b (inr i) = let e : s ≡ r = omega arith in subst (λ (j : ℕ). getD two (132 + t) 0 ≡ transitionRow c j t) e (g .rows t (subst (λ (j : ℕ). Lists c j t) (sym e) b))
+    pub index-done : length (c .subnets) ≤ s → one ≡ startsOf c
+    unfolding startsOf
+    index-done h = ext-getD 0 one _ (one-long ∙ sym (table-length 0 644 (startOf c))) (λ i l. at i (omega (arith, one-long)) ∙ sym (table-at 644 (startOf c) 0 i (omega (arith, one-long))))
+      where
+        ended : s + 1 ≡ suc (length (c .subnets))
+        ended = omega (arith, x .inside)
 
-          at-bit : (r t : ℕ) → r < s + 1 → Lists c r t → (r < s) ⊎ (s ≤ r) → getD two (388 + t) 0 ≡ transitionBit c r t
-          at-bit r t h b (inl i) = g .kept (388 + t) (inr (omega arith, omega (arith, b .last, transition-order c (suc r) s i))) ∙ o .bits r t i b
-          at-bit r t h b (inr i) = let e : s ≡ r = omega arith in subst (λ (j : ℕ). getD two (388 + t) 0 ≡ transitionBit c j t) e (g .bits t (subst (λ (j : ℕ). Lists c j t) (sym e) b))
+        all : firstTransition c s ≡ length (c .transitions)
+        all = ap (firstTransition c) (let e : s ≡ length (c .subnets) = omega (arith, x .inside) in e) ∙ sym (counted c w .transitions)
 
-    pub index-done : length (c .subnets) ≤ s → Indexed c (putSubnet starts s (p .row) (p .bit) place transition)
-    index-done h =
-        let o = stored c starts p place transition s (omega (arith, w .fewSubnets, x .inside)) x in
-        record {
-          subnetRow = λ r l. o .subnetRows r (omega arith);
-          subnetBit = λ r l. o .subnetBits r (omega arith);
-          firstPlace = λ r l. o .places r (omega arith);
-          firstTransition = λ r l. o .transitions r (omega arith);
-          transitionRow = λ r t b. o .rows r t (omega (arith, b .subnet)) b;
-          transitionBit = λ r t b. o .bits r t (omega (arith, b .subnet)) b;
-        }
+        pick : (i a v y z : ℕ) → (i < a → v ≡ y) → (a ≤ i → v ≡ z) → v ≡ cond (ltb i a) y z
+        pick i a v y z f g = go (lt-or-ge i a)
+          where
+            go : (i < a) ⊎ (a ≤ i) → v ≡ cond (ltb i a) y z
+            go (inl b) = rw (lt-ltb i a b) (f b)
+            go (inr b) = rw (le-ltb i a b) (g b)
+
+        column : (o n k j : ℕ) (f : ℕ → ℕ) → Column one o n k f → k ≡ j → (i : ℕ) → o ≤ i → i < o + n → getD one i 0 ≡ upTo j f (i - o)
+        column o n k j f y e i a b = subst (λ (r : ℕ). getD one r 0 ≡ upTo j f (i - o)) (omega arith) (y (i - o) (omega arith) ∙ ap (λ (r : ℕ). upTo r f (i - o)) e)
+
+        at : (i : ℕ) → i < 644 → getD one i 0 ≡ startOf c i
+        at i l =
+            pick i 33 _ _ _ (λ b. column 0 33 (s + 1) (suc (length (c .subnets))) (subnetRow c) (one-begun .rows) ended i (omega arith) b ∙ ap (upTo (suc (length (c .subnets))) (subnetRow c)) (let e : i - 0 ≡ i = omega arith in e))
+            (λ b. pick i 66 _ _ _ (λ b₂. column 33 33 (s + 1) (suc (length (c .subnets))) (subnetBit c) (one-begun .bits) ended i b b₂)
+            (λ b₂. pick i 99 _ _ _ (λ b₃. column 66 33 (s + 1) (suc (length (c .subnets))) (firstPlace c) (one-begun .places) ended i b₂ b₃)
+            (λ b₃. pick i 132 _ _ _ (λ b₄. column 99 33 (s + 1) (suc (length (c .subnets))) (firstTransition c) (one-begun .transitions) ended i b₃ b₄)
+            (λ b₄. pick i 388 _ _ _ (λ b₅. column 132 256 (firstTransition c s) (length (c .transitions)) (transitionRowOf c) (one-listed .rows) all i b₄ b₅)
+            (λ b₅. column 388 256 (firstTransition c s) (length (c .transitions)) (transitionBitOf c) (one-listed .bits) all i b₅ l)))))
+
+-- `starts-indexed`: THE SECOND TABLE HOLDS WHERE A CARD'S ROWS BEGIN
+module _ (c : Card) (w : Wellformed c) where
+  abbrev ends : ℕ
+  ends = suc (length (c .subnets))
+
+  start-at : (i x : ℕ) → i < 644 → startOf c i ≡ x → getD (startsOf c) i 0 ≡ x
+  unfolding startsOf
+  start-at i x l e = table-at 644 (startOf c) 0 i l ∙ e
+
+  of-subnet : (s : ℕ) → s ≤ length (c .subnets) → s < 33
+  of-subnet s l = omega (arith, w .fewSubnets)
+
+  of-transition : (s t : ℕ) → Lists c s t → (t < length (c .transitions)) × (t < 256)
+  of-transition s t l =
+      let below = transitions-below c (counted c w) (suc s) (omega (arith, l .subnet)) in
+      (omega (arith, l .last, below), omega (arith, l .last, below, w .rows .fewTransitions))
+
+  bit-at : (s : ℕ) → s < 33 → startOf c (33 + s) ≡ upTo ends (subnetBit c) s
+  bit-at s l = rw (le-ltb (33 + s) 33 (omega arith), lt-ltb (33 + s) 66 (omega arith), (let e : 33 + s - 33 ≡ s = omega arith in e))
+
+  place-at : (s : ℕ) → s < 33 → startOf c (66 + s) ≡ upTo ends (firstPlace c) s
+  place-at s l = rw (le-ltb (66 + s) 33 (omega arith), le-ltb (66 + s) 66 (omega arith), lt-ltb (66 + s) 99 (omega arith), (let e : 66 + s - 66 ≡ s = omega arith in e))
+
+  transition-at : (s : ℕ) → s < 33 → startOf c (99 + s) ≡ upTo ends (firstTransition c) s
+  transition-at s l =
+      rw (le-ltb (99 + s) 33 (omega arith), le-ltb (99 + s) 66 (omega arith), le-ltb (99 + s) 99 (omega arith), lt-ltb (99 + s) 132 (omega arith), (let e : 99 + s - 99 ≡ s = omega arith in e))
+
+  row-of : (t : ℕ) → t < 256 → startOf c (132 + t) ≡ upTo (length (c .transitions)) (transitionRowOf c) t
+  row-of t l =
+      rw (
+        le-ltb (132 + t) 33 (omega arith),
+        le-ltb (132 + t) 66 (omega arith),
+        le-ltb (132 + t) 99 (omega arith),
+        le-ltb (132 + t) 132 (omega arith),
+        lt-ltb (132 + t) 388 (omega arith),
+        (let e : 132 + t - 132 ≡ t = omega arith in e),
+      )
+
+  bit-of : (t : ℕ) → t < 256 → startOf c (388 + t) ≡ upTo (length (c .transitions)) (transitionBitOf c) t
+  bit-of t l =
+      rw (
+        le-ltb (388 + t) 33 (omega arith),
+        le-ltb (388 + t) 66 (omega arith),
+        le-ltb (388 + t) 99 (omega arith),
+        le-ltb (388 + t) 132 (omega arith),
+        le-ltb (388 + t) 388 (omega arith),
+        (let e : 388 + t - 388 ≡ t = omega arith in e),
+      )
+
+  pub starts-indexed : Indexed c (startsOf c)
+  starts-indexed =
+      record {
+        subnetRow = λ s l. start-at s _ (omega (arith, of-subnet s (omega arith))) (rw (lt-ltb s 33 (of-subnet s (omega arith))) (up-below ends (subnetRow c) s (omega arith)));
+        subnetBit = λ s l. start-at (33 + s) _ (omega (arith, of-subnet s (omega arith))) (bit-at s (of-subnet s (omega arith)) ∙ up-below ends (subnetBit c) s (omega arith));
+        firstPlace = λ s l. start-at (66 + s) _ (omega (arith, of-subnet s l)) (place-at s (of-subnet s l) ∙ up-below ends (firstPlace c) s (omega arith));
+        firstTransition = λ s l. start-at (99 + s) _ (omega (arith, of-subnet s l)) (transition-at s (of-subnet s l) ∙ up-below ends (firstTransition c) s (omega arith));
+        transitionRow = λ s t l. start-at (132 + t) _ (omega (arith, of-transition s t l))
+            (row-of t (of-transition s t l .1) ∙ up-below (length (c .transitions)) (transitionRowOf c) t (of-transition s t l .0) ∙ ap (λ (r : ℕ). transitionRow c r t) (owner-is c s t l));
+        transitionBit = λ s t l. start-at (388 + t) _ (omega (arith, of-transition s t l))
+            (bit-of t (of-transition s t l .1) ∙ up-below (length (c .transitions)) (transitionBitOf c) t (of-transition s t l .0) ∙ ap (λ (r : ℕ). transitionBit c r t) (owner-is c s t l));
+      }

@@ -32,3 +32,4 @@ pub mod TableLaws
 pub mod FitLaws
 pub mod NumberLaws
 pub mod TableSpell
+pub mod SliceLaws

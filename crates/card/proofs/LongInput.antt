@@ -15,7 +15,7 @@ use Rattle.card.specs.Bits.{bit, bitField, bytesFor}
 use Rattle.card.specs.Card.{Card}
 use Rattle.card.specs.Format.{Format, done, get}
 use Rattle.card.specs.Grammar.{card}
-use Rattle.card.specs.Reading.{Reading, refused, whole, read, unlessFault, excess, closed, ended, readCard}
+use Rattle.card.specs.Parsing.{Parsing, refused, whole, read, unlessFault, excess, closed, ended, readCard}
 use Rattle.card.specs.declared.FormatFault.{FormatFault}
 use Rattle.card.specs.declared.FormatFault.the-variants.{Truncated}
 use Rattle.card.specs.declared.Counts.{Counts}
@@ -38,7 +38,7 @@ module _ {U A B : Type 0} (f : A → B) (a b : List ℕ) where
       (go (fault v) (read a (next v) (at + w)) (read b (next v) (at + w)) refl
       (λ e. read-agrees (next v) k (at + w) (h v (field-small (bit b) (bit-small b) at w) e) (n .1 v) (omega (arith, n .0)) (omega (arith, n .0)) (λ i l. s i (omega (arith, n .0)))))
     where
-      go : (x : Option FormatFault) (p q : Reading A) → fault (bitField (bit b) at w) ≡ x → (fault (bitField (bit b) at w) ≡ none → p ≡ q) → unlessFault x at p ≡ unlessFault x at q
+      go : (x : Option FormatFault) (p q : Parsing A) → fault (bitField (bit b) at w) ≡ x → (fault (bitField (bit b) at w) ≡ none → p ≡ q) → unlessFault x at p ≡ unlessFault x at q
       go none p q e r = r e
       go (some y) p q e r = refl
 
@@ -51,7 +51,7 @@ module _ {U A B : Type 0} (f : A → B) (a b : List ℕ) where
       let v = bitField (bit a) at w in
       go (ltb (8 * length a) (at + w)) (fault v) (read a (next v) (at + w)) refl (λ p q. read-ends (next v) k (at + w) (h v (field-small (bit a) (bit-small a) at w) p) (n .1 v) x end q) e
     where
-      go : (b : Bool) (y : Option FormatFault) (r : Reading A) → fault (bitField (bit a) at w) ≡ y → (fault (bitField (bit a) at w) ≡ none → r ≡ whole x end → end ≤ at + w + 8 * k)
+      go : (b : Bool) (y : Option FormatFault) (r : Parsing A) → fault (bitField (bit a) at w) ≡ y → (fault (bitField (bit a) at w) ≡ none → r ≡ whole x end → end ≤ at + w + 8 * k)
           → cond b (refused (number Truncated) at) (unlessFault y at r) ≡ whole x end → end ≤ at + 8 * suc k
       go true y r p ih q = absurd (not-whole _ _ _ _ q)
       go false (some g) r p ih q = absurd (not-whole _ _ _ _ q)
@@ -88,6 +88,6 @@ long-input bytes l = rw (read-agrees countsOf a bytes card 33026 0 budget narrow
         rw (lt-ltb (bytesFor end) (length a) (omega (arith, long)), lt-ltb (bytesFor end) (length bytes) (omega arith))
         (ap (λ x. x otherwise someIf true (8 * bytesFor end)) (first-same end (8 * bytesFor end - end) _ _ (λ i x y. ap (λ (b : ℕ). someIf (eqb b 1) i) (same i (omega arith)))))
 
-    go : (x : Reading Card) → read bytes card 0 ≡ x → ended a x ≡ ended bytes x
+    go : (x : Parsing Card) → read bytes card 0 ≡ x → ended a x ≡ ended bytes x
     go (refused n at) e = refl
     go (whole c end) e = ap (λ (y : Option ℕ). closed y c end) (fills end (read-ends countsOf bytes bytes card 33026 0 budget narrow-card c end e))

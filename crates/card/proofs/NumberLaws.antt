@@ -10,7 +10,7 @@ use Rattle.card.specs.Finite.{table}
 use Rattle.card.specs.Card.{Subnet, Transition, Card, subnetAt, placeAt, transitionAt, firstPlace, firstTransition, firstArc}
 use Rattle.card.specs.Tables.{numbersOf}
 use Rattle.card.specs.Rows.{entry, tablesIn}
-use Rattle.card.specs.Runs.{arcsBefore, placesBefore, transitionsBefore, transitionRun, subnetRun, runs}
+use Rattle.card.specs.inner.Runs.{arcsBefore, placesBefore, transitionsBefore, transitionRun, subnetRun, runs}
 use Rattle.card.proofs.Prefix.{Counted, table-part, table-shift, places-below, transitions-below, first-place, first-transition, arcs-below}
 use Rattle.card.proofs.RowNumbers.{runs-same, runs-shift, placeNumbers, arcNumbers, transitionNumbers, subnetNumbers, numbers-rows}
 use Rattle.card.proofs.TableLaws.{subnet-row, place-row, transition-row, arc-row, subnet-count, place-count, transition-count, arc-count, place-sum, transition-sum, arc-sum}
@@ -19,7 +19,7 @@ use Rattle.card.proofs.TableLaws.{subnet-row, place-row, transition-row
 row-part : (xs : List ℕ) (w s : ℕ) → w * s + w ≤ length xs → table 0 w (entry xs w s) ≡ take w (drop (w * s) xs)
 row-part xs w s h = table-shift 0 w (w * s) (λ i. getD xs i 0) ∙ ap (λ (i : ℕ). table i w (λ j. getD xs j 0)) (add-zero (w * s)) ∙ table-part xs 0 (w * s) w h
 
-rows-part : (xs : List ℕ) (w p n : ℕ) → w * p + w * n ≤ length xs → runs p n (λ i. table 0 w (entry xs w i)) ≡ take (w * n) (drop (w * p) xs)
+pub rows-part : (xs : List ℕ) (w p n : ℕ) → w * p + w * n ≤ length xs → runs p n (λ i. table 0 w (entry xs w i)) ≡ take (w * n) (drop (w * p) xs)
 unfolding runs table flatten
 rows-part xs w p zero h = ap (λ (k : ℕ). take k (drop (w * p) xs)) (sym (mul-zero w))
 rows-part xs w p (suc n) h =

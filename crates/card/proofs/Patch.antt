@@ -1,4 +1,4 @@
--- A field written: its window with the field replaced, and the three bytes stored back. Assumes nothing.
+-- A field written: its span with the field replaced, and the three bytes stored back. Assumes nothing.
 use Prim.Native.Nat.{ℕ, zero, suc, _+_, _-_, _*_, _/_, _%_, _^_, _≤_, _<_}
 use mathlib.Core.Path.{_≡_, ap, sym, _∙_}
 use mathlib.Core.List.{List, [], _∷_}
@@ -10,10 +10,10 @@ use lib.Seq.{getD-set-same, getD-set-other}
 use lib.Arith.{digits-lt}
 use lib.Pow.{pow-add, pow-pos, shr-shr, shr-lt}
 use Rattle.card.specs.Bits.{bit, bitField}
-use Rattle.card.specs.Fields.{Window, patch, Put}
-use Rattle.card.proofs.BitLaws.{lt-or-ge, low-digit, low-bit, high-bit, three-bit, window-bit, field-is}
+use Rattle.card.specs.inner.Spans.{Span, patch, Put}
+use Rattle.card.proofs.BitLaws.{lt-or-ge, low-digit, low-bit, high-bit, three-bit, span-bit, field-is}
 
--- a patched window has 24 bits, and each step to it fits 32: p and q are the code's powers of two
+-- a patched span has 24 bits, and each step to it fits 32: p and q are the code's powers of two
 module _ (x low w v p q : ℕ) (ep : p ≡ 2 ^ low) (eq : q ≡ 2 ^ w) (hx : x < 2 ^ 24) (hs : low + w ≤ 24) (hv : v < 2 ^ w) where
   pub patch-fits : (x / p / q * q + v) * p + x % p < 2 ^ 24
   patch-fits =
@@ -41,7 +41,7 @@ module _ (x low w v p q : ℕ) (ep : p ≡ 2 ^ low) (eq : q ≡ 2 ^ w) (hx : x <
   pub high-fits : x / p / q * q < 2 ^ 32
   high-fits = omega (arith, plus-fits)
 
--- the bits of a patched window: below the field, in it, and above it
+-- the bits of a patched span: below the field, in it, and above it
 module _ (x low w v : ℕ) where
   patch-low : (t : ℕ) → t < low → patch x low w v / 2 ^ t % 2 ≡ x / 2 ^ t % 2
   unfolding patch
@@ -106,8 +106,8 @@ set-small (x ∷ xs) zero a h l (suc k) = h (suc k)
 set-small (x ∷ xs) (suc i) a h l zero = h 0
 set-small (x ∷ xs) (suc i) a h l (suc k) = set-small xs i a (λ j. h (suc j)) l k
 
--- the three bytes of the patched window, stored, write the field
-module _ (old : List ℕ) (at w v x y : ℕ) (h : Window old (at / 8) x) (ey : y ≡ patch x (24 - (at % 8 + w)) w v)
+-- the three bytes of the patched span, stored, write the field
+module _ (old : List ℕ) (at w v x y : ℕ) (h : Span old (at / 8) x) (ey : y ≡ patch x (24 - (at % 8 + w)) w v)
     (hv : v < 2 ^ w) (hw : w ≤ 16) (fits : at + w ≤ 8 * length old) (hy : y < 2 ^ 24) where
   stored-value : bitField (bit (stored old (at / 8) y)) at w ≡ v
   stored-value =
@@ -126,7 +126,7 @@ module _ (old : List ℕ) (at w v x y : ℕ) (h : Window old (at / 8) x) (ey : y
   stored-outside : (i : ℕ) → (i < at) ⊎ (at + w ≤ i) → bit (stored old (at / 8) y) i ≡ bit old i
   stored-outside i o =
       stored-same old (at / 8) y i
-      (λ j e l b. rw e (stored-bit old (at / 8) y j l (omega arith) ∙ kept j l (rw e at o) ∙ rw (h .is) (sym (window-bit old (at / 8) (h .middle) (h .last) j l))))
+      (λ j e l b. rw e (stored-bit old (at / 8) y j l (omega arith) ∙ kept j l (rw e at o) ∙ rw (h .is) (sym (span-bit old (at / 8) (h .middle) (h .last) j l))))
 
   pub field-put : (first second new : List ℕ) → first ≡ set old (at / 8) (y / 65536) → second ≡ set first (at / 8 + 1) (y / 256 % 256)
       → new ≡ set second (at / 8 + 2) (y % 256) → Put old at w v new

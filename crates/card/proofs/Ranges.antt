@@ -13,7 +13,7 @@ use Rattle.card.specs.Finite.{sumTo, All}
 use Rattle.card.specs.Card.{Header, Subnet, Place, Transition, Arc, Card, normal, headerOf, subnetAt, placeAt, transitionAt, arcAt, firstPlace, firstTransition, firstArc}
 use Rattle.card.specs.Format.{of, each, grow}
 use Rattle.card.specs.Grammar.{maxCount, header, subnet, place, transition, arc, wholeTransition, with, wholeSubnet, card}
-use Rattle.card.specs.Reading.{Reading, refused, whole, read, excess, closed, ended, readCard}
+use Rattle.card.specs.Parsing.{Parsing, refused, whole, read, excess, closed, ended, readCard}
 use Rattle.card.specs.Wellformed.{SubnetRow, PlaceRow, TransitionRow, ArcRow, Rows, Wellformed}
 use Rattle.card.proofs.Decides.{eq-is, lt-is, le-is, and-is, implies-is, cond-is, someUnless-is}
 use Rattle.card.proofs.Sums.{sum-same, sum-mono, sum-list, total, total-append, map-length, all-append, all-map, all-more, all-at}
@@ -299,6 +299,6 @@ read-wellformed bytes c end e = go (read bytes card 0) refl e
     here d at none p q = yields-read bytes card Wellformed card-yields 0 at c (cc)
     here d at (some i) p q = absurd (not-whole _ _ _ _ q)
 
-    go : (x : Reading Card) → read bytes card 0 ≡ x → ended bytes x ≡ whole c end → Wellformed c
+    go : (x : Parsing Card) → read bytes card 0 ≡ x → ended bytes x ≡ whole c end → Wellformed c
     go (refused n at) p q = absurd (not-whole _ _ _ _ q)
     go (whole d at) p q = here d at (excess bytes at) p q

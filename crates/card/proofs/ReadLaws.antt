@@ -17,9 +17,10 @@ use Rattle.card.specs.Bits.{bit, bitField, bytesFor}
 use Rattle.card.specs.Card.{Card}
 use Rattle.card.specs.Format.{Format, done, get}
 use Rattle.card.specs.Grammar.{card}
-use Rattle.card.specs.Reading.{Reading, refused, whole, read, excess, readCard}
+use Rattle.card.specs.Parsing.{Parsing, refused, whole, read, excess, readCard}
 use Rattle.card.specs.Writing.{fields}
-use Rattle.card.specs.Tables.{tableSize, numbersOf, readOutcome, IsRead, IsRefused, IsWhole, IsEnded}
+use Rattle.card.specs.Tables.{numbersOf, numbersTable, readOutcome, IsRead}
+use Rattle.card.specs.inner.Reader.{IsRefused, IsWhole, IsEnded}
 use Rattle.card.specs.declared.FormatFault.{FormatFault}
 use Rattle.card.specs.declared.FormatFault.the-variants.{BadFill}
 use Rattle.card.specs.declared.Counts.{Counts}
@@ -27,9 +28,11 @@ use Rattle.card.specs.declared.reader.CardRead.{CardRead}
 use Rattle.card.proofs.Sums.{table-length, table-at}
 use Rattle.card.proofs.Yields.{bit-small, field-small, not-whole}
 use Rattle.card.proofs.BitLaws.{lt-or-ge, field-join}
-use Rattle.card.specs.Index.{Laid, Loaded}
+use Rattle.card.specs.Index.{Laid, Loaded, startsOf}
+use Rattle.card.specs.Wellformed.{Wellformed}
 use Rattle.card.proofs.Ranges.{read-wellformed}
 use Rattle.card.proofs.Positions.{laid}
+use Rattle.card.proofs.IndexLaws.{starts-indexed}
 use Rattle.card.proofs.Walk.{Spelt}
 use Rattle.card.proofs.Tied.{tied-card}
 use Rattle.card.proofs.Shape.{numbersIn, part, cardS, countsOf, read-shape, numbers-shape}
@@ -53,16 +56,16 @@ head-parts bytes at v w p q ev ew ep eq =
     rw (ep, eq) (omega (arith, a, b, e, small (at + 1) 5, small (at + 1 + 5) 8), omega (arith, a, b, e, small (at + 1) 5, small (at + 1 + 5) 8), omega (arith, a, b, e, small (at + 1) 5, small (at + 1 + 5) 8))
 
 -- the shape is refused where the card is
-part-refused : {A B : Type 0} (f : A → B) (x : Reading A) (n at : ℕ) → part f x ≡ refused n at → x ≡ refused n at
+part-refused : {A B : Type 0} (f : A → B) (x : Parsing A) (n at : ℕ) → part f x ≡ refused n at → x ≡ refused n at
 part-refused f (refused m i) n at e = let p : m ≡ n = cc in let q : i ≡ at = cc in rw (p, q)
 part-refused f (whole a end) n at e = absurd (not-whole _ _ _ _ (sym e))
 
-pub record Found {A B : Type 0} (f : A → B) (x : Reading A) (b : B) (end : ℕ) : Type 0 where
+pub record Found {A B : Type 0} (f : A → B) (x : Parsing A) (b : B) (end : ℕ) : Type 0 where
   pub value : A
   pub is : x ≡ whole value end
   pub maps : f value ≡ b
 
-part-whole : {A B : Type 0} (f : A → B) (x : Reading A) (b : B) (end : ℕ) → part f x ≡ whole b end → Found f x b end
+part-whole : {A B : Type 0} (f : A → B) (x : Parsing A) (b : B) (end : ℕ) → part f x ≡ whole b end → Found f x b end
 part-whole f (refused m i) b end e = absurd (not-whole _ _ _ _ e)
 part-whole f (whole a i) b end e = let q : i ≡ end = cc in record { value = a; is = ap (whole a) q; maps = cc }
 
@@ -85,7 +88,8 @@ module _ (bytes : List ℕ) where
       rw (f .is, x) (record { answer = rw (h .answer); numbers = h .numbers; starts = h .starts })
 
   -- the table is that of the card's numbers
-  table-is : (t : List ℕ) (n : ℕ) (c : Card) → length t ≡ 33026 → ((i : ℕ) → n ≤ i → getD t i 0 ≡ 0) → take n t ≡ numbersOf c → t ≡ table 0 tableSize (λ i. getD (numbersOf c) i 0)
+  table-is : (t : List ℕ) (n : ℕ) (c : Card) → length t ≡ 33026 → ((i : ℕ) → n ≤ i → getD t i 0 ≡ 0) → take n t ≡ numbersOf c → t ≡ numbersTable c
+  unfolding numbersTable
   table-is t n c long zeros e =
       ext-getD 0 t _ (long ∙ sym (table-length 0 33026 _)) (λ i l. at i (omega (arith, long)) (lt-or-ge i n) ∙ sym (table-at 33026 (λ j. getD (numbersOf c) j 0) 0 i (omega (arith, long))))
     where
@@ -103,7 +107,7 @@ module _ (bytes : List ℕ) where
   whole-is k end n t r e x long zeros v h =
       let f = found k end e in
       let numbers : take n t ≡ numbersOf (f .value) = v ∙ numbers-shape bytes ∙ numbers-are (f .value) end (f .is) in
-      let is : t ≡ table 0 tableSize (λ i. getD (numbersOf (f .value)) i 0) = table-is t n (f .value) long zeros numbers in
+      let is : t ≡ numbersTable (f .value) = table-is t n (f .value) long zeros numbers in
       let w = read-wellformed bytes (f .value) end (rw (f .is, x)) in
       let same : k .subnets ≡ length (f .value .subnets) = sym (ap (λ (y : Counts). y .subnets) (f .maps)) in
       rw (f .is, x) (record {
@@ -120,11 +124,14 @@ module _ (bytes : List ℕ) where
       go none q h = whole-is k end n t r e q long zeros v h
       go (some i) q h = excess-is k end i r e q h
 
--- `read-loaded`: WHAT WAS READ WHOLE IS IN THE TWO TABLES
+-- `tables-loaded`: THE TWO TABLES OF A CARD HOLD ITS ROWS
+pub tables-loaded : (c : Card) → Wellformed c → Loaded c (numbersTable c) (startsOf c)
+tables-loaded c w = record { laid = laid c w; indexed = starts-indexed c w }
+
 pub read-loaded : (bytes : List ℕ) (c : Card) (end : ℕ) (r : CardRead) → readCard bytes ≡ whole c end → IsRead (readCard bytes) r → Loaded c (r .numbers) (r .starts)
 read-loaded bytes c end r e h =
-    let g : IsRead (whole c end) r = subst (λ (x : Reading Card). IsRead x r) e h in
-    record { laid = subst (Laid c) (sym (g .numbers)) (laid c (read-wellformed bytes c end e)); indexed = g .starts }
+    let g : IsRead (whole c end) r = subst (λ (x : Parsing Card). IsRead x r) e h in
+    rw (g .numbers, g .starts) (tables-loaded c (read-wellformed bytes c end e))
 
 zeros-table : (from n : ℕ) → replicate {A = ℕ} n 0 ≡ table from n (λ i. 0)
 unfolding table

@@ -14,7 +14,7 @@ use Rattle.card.specs.Bits.{bit, bitField, bytesFor}
 use Rattle.card.specs.Card.{Card, firstPlace, firstTransition, firstArc}
 use Rattle.card.specs.Format.{Format, done, get}
 use Rattle.card.specs.Grammar.{card}
-use Rattle.card.specs.Reading.{Reading, refused, whole, read, excess, closed, ended, readCard}
+use Rattle.card.specs.Parsing.{Parsing, refused, whole, read, excess, closed, ended, readCard}
 use Rattle.card.specs.Writing.{Field, fields, encode, allFit, counted, readTables}
 use Rattle.card.specs.Wellformed.{Wellformed}
 use Rattle.card.specs.declared.FormatFault.the-variants.{BadTable}
@@ -59,7 +59,7 @@ read-encode c a = rw (read-spelt (encode c) card c 0 (spell-spelt (fields card c
         let q : end ≡ 0 + bits (fields card c) = cc in
         filled-is (encode c) end .1 (record { zeros = λ i l m. spell-fill (fields card c) i (omega arith); last = omega (arith, spell-length (fields card c)) })
 
-    go : (x : Reading Card) → walk card c 0 ≡ x → ended (encode c) x ≡ x
+    go : (x : Parsing Card) → walk card c 0 ≡ x → ended (encode c) x ≡ x
     go (refused n at) e = refl
     go (whole d end) e = rw (close d end e)
 
@@ -147,6 +147,6 @@ write-read bytes small c end e = go (read bytes card 0) refl e
     here d at (some i) p q r = absurd (not-whole _ _ _ _ r)
     here d at none p q r = let i : d ≡ c = cc in subst (λ (k : Card). encode k ≡ bytes) i (same d at p (filled-is bytes at .0 q))
 
-    go : (x : Reading Card) → read bytes card 0 ≡ x → ended bytes x ≡ whole c end → encode c ≡ bytes
+    go : (x : Parsing Card) → read bytes card 0 ≡ x → ended bytes x ≡ whole c end → encode c ≡ bytes
     go (refused n at) p q = absurd (not-whole _ _ _ _ q)
     go (whole d at) p q = here d at (excess bytes at) p refl q

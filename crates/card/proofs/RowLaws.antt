@@ -11,7 +11,7 @@ use lib.Dec.{eqb}
 use borrow.Author.Tests.{eq-eqb, ne-eqb, eqb-true, eqb-false}
 use Rattle.card.specs.Finite.{sumTo, All}
 use Rattle.card.specs.Rows.{entry}
-use Rattle.card.specs.Runs.{columnSum, RowsFit}
+use Rattle.card.specs.inner.Runs.{columnSum, RowsFit}
 use Rattle.card.proofs.Sums.{sum-mono}
 
 -- an entry of a whole row lies within the slice

@@ -10,7 +10,7 @@ use Rattle.card.specs.Format.{Format, done, get, of, each, grow, _>>=_}
 use Rattle.card.specs.Grammar.{header, subnet, place, transition, arc, wholeTransition, wholeSubnet, card}
 use Rattle.card.specs.Writing.{fields}
 use Rattle.card.specs.Tables.{numbersOf}
-use Rattle.card.specs.Runs.{runs}
+use Rattle.card.specs.inner.Runs.{runs}
 use Rattle.card.proofs.Walk.{built, built-of}
 use Rattle.card.proofs.Prefix.{Counted, prefix, table-shift, built-header, built-subnet, built-transition, prefix-none, prefix-subnets, prefix-places, prefix-transitions, built-more}
 

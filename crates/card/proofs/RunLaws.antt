@@ -8,7 +8,7 @@ use native.Mathlib.Numerals.{add-one}
 use lib.ListN.{length, take, drop}
 use Rattle.card.specs.Finite.{sumTo, table}
 use Rattle.card.specs.Rows.{entry}
-use Rattle.card.specs.Runs.{Holds, arcsBefore, transitionRun, runs, RunsInside, placesBefore, transitionsBefore, subnetRun, TablesInside}
+use Rattle.card.specs.inner.Runs.{Leads, arcsBefore, transitionRun, runs, RunsInside, placesBefore, transitionsBefore, subnetRun, TablesInside}
 use Rattle.card.proofs.Sums.{sum-mono}
 
 pub runs-suc : (from n : ℕ) (run : ℕ → List ℕ) → runs from (suc n) run ≡ runs from n run ++ run (from + n)
@@ -29,13 +29,13 @@ module _ (transitions arcs old : List ℕ) (n first count arc : ℕ) (r : RunsIn
     pub high : t ≤ first + count
     pub is : b ≡ arcsBefore transitions t
     pub long : length numbers ≡ length old
-    pub holds : (xs : List ℕ) → Holds xs old n → Holds (xs ++ runs first (t - first) run) numbers m
+    pub leads : (xs : List ℕ) → Leads xs old n → Leads (xs ++ runs first (t - first) run) numbers m
 
   pub place-start : Placing old n arc first
   unfolding runs table flatten
   place-start =
       let e : first - first ≡ 0 = omega arith in
-      record { low = omega arith; high = omega arith; is = r .begins; long = refl; holds = λ xs h. rw (e, append-nil xs) h }
+      record { low = omega arith; high = omega arith; is = r .begins; long = refl; leads = λ xs h. rw (e, append-nil xs) h }
 
   module _ (numbers : List ℕ) (m b t : ℕ) (x : Placing numbers m b t) where
     -- what the next transition takes lies within the slices
@@ -48,7 +48,7 @@ module _ (transitions arcs old : List ℕ) (n first count arc : ℕ) (r : RunsIn
         omega (arith, x .is, q, r .ends, sum-mono (suc t) (first + count) (λ u. entry transitions 2 u 1) l)
 
     pub place-more : t < first + count → (one two s1 s2 : List ℕ) (m1 m2 k : ℕ) → k ≡ entry transitions 2 t 1 → s1 ≡ take 2 (drop (2 * t) transitions) → s2 ≡ take (4 * k) (drop (4 * b) arcs)
-        → length one ≡ length numbers → length two ≡ length one → ((ys : List ℕ) → Holds ys numbers m → Holds (ys ++ s1) one m1) → ((ys : List ℕ) → Holds ys one m1 → Holds (ys ++ s2) two m2)
+        → length one ≡ length numbers → length two ≡ length one → ((ys : List ℕ) → Leads ys numbers m → Leads (ys ++ s1) one m1) → ((ys : List ℕ) → Leads ys one m1 → Leads (ys ++ s2) two m2)
         → Placing two m2 (b + k) (t + 1)
     unfolding transitionRun
     place-more l one two s1 s2 m1 m2 k ek e1 e2 l1 l2 f g =
@@ -62,18 +62,18 @@ module _ (transitions arcs old : List ℕ) (n first count arc : ℕ) (r : RunsIn
           high = omega arith;
           is = rw z (omega (arith, x .is, ek, q));
           long = l2 ∙ l1 ∙ x .long;
-          holds = λ xs h.
+          leads = λ xs h.
               let p : ((xs ++ runs first (t - first) run) ++ s1) ++ s2 ≡ xs ++ runs first (t + 1 - first) run =
               append-assoc (xs ++ runs first (t - first) run) s1 s2
               ∙ append-assoc xs (runs first (t - first) run) (s1 ++ s2)
               ∙ ap (λ ys. xs ++ ys) (ap (λ ys. runs first (t - first) run ++ ys) (sym s ∙ ap run (sym w)) ∙ sym (runs-suc first (t - first) run) ∙ ap (λ (i : ℕ). runs first i run) (sym d)) in
-              subst (λ ys. Holds ys two m2) p (g _ (f _ (x .holds xs h)));
+              subst (λ ys. Leads ys two m2) p (g _ (f _ (x .leads xs h)));
         }
 
-    pub place-done : first + count ≤ t → (t ≡ first + count) × ((xs : List ℕ) → Holds xs old n → Holds (xs ++ runs first count run) numbers m)
+    pub place-done : first + count ≤ t → (t ≡ first + count) × ((xs : List ℕ) → Leads xs old n → Leads (xs ++ runs first count run) numbers m)
     place-done l =
         let e : t - first ≡ count = omega (arith, x .high) in
-        (omega (arith, x .high), λ xs h. rw e at (x .holds xs h))
+        (omega (arith, x .high), λ xs h. rw e at (x .leads xs h))
 
 module _ (subnets places transitions arcs old : List ℕ) (n : ℕ) (r : TablesInside subnets places transitions arcs) where
   abbrev netRun : ℕ → List ℕ
@@ -85,11 +85,11 @@ module _ (subnets places transitions arcs old : List ℕ) (n : ℕ) (r : TablesI
     pub isTransition : transition ≡ transitionsBefore subnets s
     pub isArc : arc ≡ arcsBefore transitions transition
     pub long : length numbers ≡ length old
-    pub holds : (xs : List ℕ) → Holds xs old n → Holds (xs ++ runs 0 s netRun) numbers m
+    pub leads : (xs : List ℕ) → Leads xs old n → Leads (xs ++ runs 0 s netRun) numbers m
 
   pub lay-start : Laying old n 0 0 0 0
   unfolding runs table flatten sumTo
-  lay-start = record { inside = omega arith; isPlace = refl; isTransition = refl; isArc = refl; long = refl; holds = λ xs h. rw (append-nil xs) h }
+  lay-start = record { inside = omega arith; isPlace = refl; isTransition = refl; isArc = refl; long = refl; leads = λ xs h. rw (append-nil xs) h }
 
   module _ (numbers : List ℕ) (m place transition arc s : ℕ) (x : Laying numbers m place transition arc s) where
     pub lay-rows : s < length subnets / 4 → 4 * s + 4 ≤ length subnets
@@ -113,8 +113,8 @@ module _ (subnets places transitions arcs old : List ℕ) (n : ℕ) (r : TablesI
     pub lay-more : s < length subnets / 4 → (one two three s1 s2 : List ℕ) (m1 m2 m3 p k end : ℕ) → p ≡ entry subnets 4 s 2 → k ≡ entry subnets 4 s 3 → s1 ≡ take 4 (drop (4 * s) subnets)
         → s2 ≡ take (3 * p) (drop (3 * place) places) → end ≡ arcsBefore transitions (transition + k)
         → length one ≡ length numbers → length two ≡ length one → length three ≡ length two
-        → ((ys : List ℕ) → Holds ys numbers m → Holds (ys ++ s1) one m1) → ((ys : List ℕ) → Holds ys one m1 → Holds (ys ++ s2) two m2)
-        → ((ys : List ℕ) → Holds ys two m2 → Holds (ys ++ runs transition k (transitionRun transitions arcs)) three m3) → Laying three m3 (place + p) (transition + k) end (s + 1)
+        → ((ys : List ℕ) → Leads ys numbers m → Leads (ys ++ s1) one m1) → ((ys : List ℕ) → Leads ys one m1 → Leads (ys ++ s2) two m2)
+        → ((ys : List ℕ) → Leads ys two m2 → Leads (ys ++ runs transition k (transitionRun transitions arcs)) three m3) → Laying three m3 (place + p) (transition + k) end (s + 1)
     unfolding subnetRun
     lay-more l one two three s1 s2 m1 m2 m3 p k end ep ek e1 e2 ee l1 l2 l3 f g h =
         let q : sumTo (suc s) (λ u. entry subnets 4 u 2) ≡ placesBefore subnets s + entry subnets 4 s 2 = unfold sumTo in refl in
@@ -127,14 +127,14 @@ module _ (subnets places transitions arcs old : List ℕ) (n : ℕ) (r : TablesI
           isTransition = rw z (omega (arith, x .isTransition, ek, t));
           isArc = ee;
           long = l3 ∙ l2 ∙ l1 ∙ x .long;
-          holds = λ xs a.
+          leads = λ xs a.
               let v : (((xs ++ runs 0 s netRun) ++ s1) ++ s2) ++ runs transition k (transitionRun transitions arcs) ≡ xs ++ runs 0 (s + 1) netRun =
               append-assoc ((xs ++ runs 0 s netRun) ++ s1) s2 _
               ∙ append-assoc (xs ++ runs 0 s netRun) s1 _
               ∙ append-assoc xs (runs 0 s netRun) _
               ∙ ap (λ ys. xs ++ ys) (ap (λ ys. runs 0 s netRun ++ ys) (sym w ∙ ap netRun (sym (zero-add s))) ∙ sym (runs-suc 0 s netRun) ∙ ap (λ (i : ℕ). runs 0 i netRun) (sym z)) in
-              subst (λ ys. Holds ys three m3) v (h _ (g _ (f _ (x .holds xs a))));
+              subst (λ ys. Leads ys three m3) v (h _ (g _ (f _ (x .leads xs a))));
         }
 
-    pub lay-done : length subnets / 4 ≤ s → (xs : List ℕ) → Holds xs old n → Holds (xs ++ runs 0 (length subnets / 4) netRun) numbers m
-    lay-done l xs h = let e : s ≡ length subnets / 4 = omega (arith, x .inside) in rw e at (x .holds xs h)
+    pub lay-done : length subnets / 4 ≤ s → (xs : List ℕ) → Leads xs old n → Leads (xs ++ runs 0 (length subnets / 4) netRun) numbers m
+    lay-done l xs h = let e : s ≡ length subnets / 4 = omega (arith, x .inside) in rw e at (x .leads xs h)

@@ -12,7 +12,7 @@ use Rattle.card.specs.Bits.{bit, bitField}
 use Rattle.card.specs.Card.{Header, Subnet, Place, Transition, Arc, Card, headerOf, subnetAt, placeAt, transitionAt, arcAt}
 use Rattle.card.specs.Format.{Format, done, get, of, each, grow, _>>=_}
 use Rattle.card.specs.Grammar.{header, subnet, place, transition, arc, wholeTransition, with, wholeSubnet, card}
-use Rattle.card.specs.Reading.{Reading, refused, whole, read, unlessFault}
+use Rattle.card.specs.Parsing.{Parsing, refused, whole, read, unlessFault}
 use Rattle.card.specs.declared.FormatFault.{FormatFault}
 use Rattle.card.specs.declared.FormatFault.the-variants.{Truncated}
 use Rattle.card.specs.declared.Counts.{Counts}
@@ -34,7 +34,7 @@ abbrev pub numbersIn : {U A : Type 0} → (bytes : List ℕ) → Format U A → 
 numbersIn bytes (done a) at = []
 numbersIn bytes (get w value fault next) at = bitField (bit bytes) at w ∷ numbersIn bytes (next (bitField (bit bytes) at w)) (at + w)
 
-abbrev pub part : {A B : Type 0} → (A → B) → Reading A → Reading B
+abbrev pub part : {A B : Type 0} → (A → B) → Parsing A → Parsing B
 part f (refused n at) = refused n at
 part f (whole a end) = whole (f a) end
 
@@ -48,7 +48,7 @@ module _ {U A B : Type 0} (f : A → B) where
       v : ℕ
       v = bitField (bit bytes) at w
 
-      go : (short : Bool) (x : Option FormatFault) (r : Reading A)
+      go : (short : Bool) (x : Option FormatFault) (r : Parsing A)
           → cond short (refused (number Truncated) at) (unlessFault x at (part f r)) ≡ part f (cond short (refused (number Truncated) at) (unlessFault x at r))
       go true x r = refl
       go false none r = refl

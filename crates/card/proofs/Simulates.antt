@@ -10,7 +10,7 @@ use lib.Dec.{ltb}
 use borrow.Author.Tests.{ltb-true, ltb-false}
 use Rattle.card.specs.Format.{Format, done, get, _>>=_}
 use Rattle.card.specs.Grammar.{maxCount, header, subnet, place, transition, arc}
-use Rattle.card.specs.Layout.{fed, widthAt, faultAt, startOf, layoutAt, pick, moveAt}
+use Rattle.card.specs.inner.Layout.{fed, widthAt, faultAt, startOf, layoutAt, pick, moveAt}
 use Rattle.card.specs.declared.layout.Phase.{Phase}
 use Rattle.card.specs.declared.layout.Phase.the-variants.{Version, SubnetCount, SignalCount, Parent, SubnetType, PlaceCount, TransitionCount, Kind, Capacity, Tokens, Signal, ArcCount, Direction, ArcSubnet, ArcPlace, Weight}
 use Rattle.card.specs.declared.layout.Layout.{Layout}

@@ -10,9 +10,9 @@ use borrow.Author.Tests.{ltb-true, lt-ltb}
 use Rattle.card.specs.Finite.{sumTo}
 use Rattle.card.specs.Card.{Card, Subnet, Transition, subnetAt, placeAt, transitionAt, firstPlace, firstTransition, firstArc}
 use Rattle.card.specs.Writing.{counted}
-use Rattle.card.specs.Rows.{entry, tablesIn}
-use Rattle.card.specs.Runs.{columnSum, Tells, HeaderFits}
-use Rattle.card.specs.Layout.{widthAt}
+use Rattle.card.specs.Rows.{entry, subnetIn, placeIn, transitionIn, arcIn, tablesIn}
+use Rattle.card.specs.inner.Runs.{columnSum, Tells, HeaderFits}
+use Rattle.card.specs.inner.Layout.{widthAt}
 use Rattle.card.specs.declared.layout.Phase.the-variants.{Version, SubnetCount, SignalCount}
 use Rattle.card.proofs.Sums.{table-length, table-at, sum-same}
 
@@ -41,21 +41,19 @@ module _ (v g : ℕ) (subnets places transitions arcs : List ℕ) where
   abbrev c : Card
   c = tablesIn v g subnets places transitions arcs
 
-  pub subnet-row : (s : ℕ) → s < length subnets / 4
-      → subnetAt c s ≡ record { parent = entry subnets 4 s 0; type = entry subnets 4 s 1; places = entry subnets 4 s 2; transitions = entry subnets 4 s 3 }
+  pub subnet-row : (s : ℕ) → s < length subnets / 4 → subnetAt c s ≡ subnetIn subnets s
   unfolding tablesIn
   subnet-row s l = table-at (length subnets / 4) _ _ s l
 
-  pub place-row : (p : ℕ) → p < length places / 3 → placeAt c p ≡ record { kind = entry places 3 p 0; capacity = entry places 3 p 1; tokens = entry places 3 p 2 }
+  pub place-row : (p : ℕ) → p < length places / 3 → placeAt c p ≡ placeIn places p
   unfolding tablesIn
   place-row p l = table-at (length places / 3) _ _ p l
 
-  pub transition-row : (t : ℕ) → t < length transitions / 2 → transitionAt c t ≡ record { signal = entry transitions 2 t 0; arcs = entry transitions 2 t 1 }
+  pub transition-row : (t : ℕ) → t < length transitions / 2 → transitionAt c t ≡ transitionIn transitions t
   unfolding tablesIn
   transition-row t l = table-at (length transitions / 2) _ _ t l
 
-  pub arc-row : (a : ℕ) → a < length arcs / 4
-      → getD (c .arcs) a (record { direction = 0; subnet = 0; place = 0; weight = 0 }) ≡ record { direction = entry arcs 4 a 0; subnet = entry arcs 4 a 1; place = entry arcs 4 a 2; weight = entry arcs 4 a 3 }
+  pub arc-row : (a : ℕ) → a < length arcs / 4 → getD (c .arcs) a (record { direction = 0; subnet = 0; place = 0; weight = 0 }) ≡ arcIn arcs a
   unfolding tablesIn
   arc-row a l = table-at (length arcs / 4) _ _ a l
 

@@ -9,10 +9,10 @@ use lib.ListN.{length, getD}
 use Rattle.card.specs.Numbers.{number}
 use Rattle.card.specs.Card.{Card}
 use Rattle.card.specs.Grammar.{card}
-use Rattle.card.specs.Reading.{readCard}
+use Rattle.card.specs.Parsing.{readCard}
 use Rattle.card.specs.Writing.{fields, encode, allFit, counted, readTables}
 use Rattle.card.specs.Rows.{tablesIn, wholeRows, readRows}
-use Rattle.card.specs.Runs.{Tells, ValuesFit, Holds, TablesInside, Gathered, inOrder}
+use Rattle.card.specs.inner.Runs.{Tells, ValuesFit, Leads, TablesInside, Gathered, inOrder}
 use Rattle.card.specs.Spelling.{Lines, IsSpelt, IsUnspelt}
 use Rattle.card.specs.declared.FormatFault.the-variants.{BadTable}
 use Rattle.card.specs.declared.writer.CardSpelt.{CardSpelt}
@@ -24,15 +24,15 @@ use Rattle.card.proofs.TableLaws.{subnet-count, place-count, transition
 use Rattle.card.proofs.FitLaws.{Whole, fits-fields, fields-fit}
 use Rattle.card.proofs.NumberLaws.{numbers-runs}
 
-pub holds-gathered : (xs numbers : List ℕ) (m : ℕ) → length numbers ≡ 33026 → Holds xs numbers m → Gathered xs numbers
-holds-gathered xs numbers m e h = record { entries = λ i l k. go i l k (lt-or-ge i m) }
+pub leads-gathered : (xs numbers : List ℕ) (m : ℕ) → length numbers ≡ 33026 → Leads xs numbers m → Gathered xs numbers
+leads-gathered xs numbers m e h = record { entries = λ i l k. go i l k (lt-or-ge i m) }
   where
     go : (i : ℕ) → i < 33026 → i < length xs → (i < m) ⊎ (m ≤ i) → getD numbers i 0 ≡ getD xs i 0
     go i l k (inl a) = h .same i a
     go i l k (inr a) = absurd (omega (arith, h .all (omega arith)))
 
-pub holds-none : (numbers : List ℕ) → Holds [] numbers 0
-holds-none numbers = record { same = λ i l. absurd (omega arith); inside = omega arith; all = λ l. refl }
+pub leads-none : (numbers : List ℕ) → Leads [] numbers 0
+leads-none numbers = record { same = λ i l. absurd (omega arith); inside = omega arith; all = λ l. refl }
 
 module _ (v g : ℕ) (subnets places transitions arcs : List ℕ) where
   abbrev c : Card
@@ -68,7 +68,7 @@ module _ (v g : ℕ) (subnets places transitions arcs : List ℕ) where
     unfolding readRows readTables
     rows-unfit e k b t q = go (allFit (fields card c)) refl
       where
-        go : (x : Bool) → allFit (fields card c) ≡ x → IsSpelt (cond (wholeRows subnets places transitions arcs) (cond (counted c && allFit (fields card c)) (readCard (encode c)) (Rattle.card.specs.Reading.refused (number BadTable) 0)) (Rattle.card.specs.Reading.refused (number BadTable) 0)) r
+        go : (x : Bool) → allFit (fields card c) ≡ x → IsSpelt (cond (wholeRows subnets places transitions arcs) (cond (counted c && allFit (fields card c)) (readCard (encode c)) (Rattle.card.specs.Parsing.refused (number BadTable) 0)) (Rattle.card.specs.Parsing.refused (number BadTable) 0)) r
         go false p = rw (e, k, p) (record { answer = rw (u .answer); bytes = u .bytes })
         go true p = absurd (let z = sym q ∙ t .1 (fields-fit v g subnets places transitions arcs (counted-is c .0 k) (whole-is e) p) in let y : _≡_ {A = ℕ} 0 1 = cc in omega arith)
 

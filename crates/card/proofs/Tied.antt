@@ -15,7 +15,7 @@ use Rattle.card.specs.Card.{Header, Subnet, Place, Transition, Arc, Card
 use Rattle.card.specs.Format.{Format, done, get, of, each, grow, _>>=_}
 use Rattle.card.specs.Grammar.{header, subnet, place, transition, arc, wholeTransition, with, wholeSubnet, card}
 use Rattle.card.specs.Wellformed.{Wellformed}
-use Rattle.card.specs.Reading.{refused, whole, read, unlessFault}
+use Rattle.card.specs.Parsing.{refused, whole, read, unlessFault}
 use Rattle.card.specs.Writing.{Field, fields}
 use Rattle.card.specs.declared.FormatFault.{FormatFault}
 use Rattle.card.specs.declared.FormatFault.the-variants.{Truncated}

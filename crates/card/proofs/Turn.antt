@@ -15,8 +15,8 @@ use Rattle.card.specs.Numbers.{number}
 use Rattle.card.specs.Bits.{bit, bitField}
 use Rattle.card.specs.Format.{Format, done, get}
 use Rattle.card.specs.Grammar.{arc}
-use Rattle.card.specs.Reading.{Reading, refused, whole, read}
-use Rattle.card.specs.Layout.{widthAt, widthOf, faultAt, startOf, to, pick, moveAt, orBad, stepAt, stepOf, Sane}
+use Rattle.card.specs.Parsing.{Parsing, refused, whole, read}
+use Rattle.card.specs.inner.Layout.{widthAt, widthOf, faultAt, startOf, to, pick, moveAt, orBad, stepAt, stepOf, Sane}
 use Rattle.card.specs.declared.FormatFault.{FormatFault}
 use Rattle.card.specs.declared.FormatFault.the-variants.{Truncated}
 use Rattle.card.specs.declared.layout.Phase.{Phase}
@@ -25,7 +25,7 @@ use Rattle.card.specs.declared.layout.Layout.{Layout}
 use Rattle.card.specs.declared.Counts.{Counts}
 use Rattle.card.specs.declared.layout.Move.{Move}
 use Rattle.card.specs.declared.layout.Move.the-variants.{More, Done, Bad}
-use Rattle.card.specs.Tables.{arcHeadWidth, IsArcHead}
+use Rattle.card.specs.inner.Reader.{arcHeadWidth, IsArcHead}
 use Rattle.card.specs.declared.reader.ArcHead.{ArcHead}
 use Rattle.card.proofs.Yields.{bit-small, field-small}
 use Rattle.card.proofs.Shape.{One, numbersIn, cardS}
@@ -134,7 +134,7 @@ module _ (bytes : List ℕ) where
     left-ends g = sym waiting ∙ rw (lt-ltb (8 * length bytes) (at + w) g)
 
     module _ (v : ℕ) (r : Move) (g : at + w ≤ 8 * length bytes) (ev : v ≡ bitField (bit bytes) at w) (er : r ≡ stepOf l v) where
-      on : (x : Option FormatFault) → faultAt (l .phase) l v ≡ x → read bytes (get w (λ u. 0) (faultAt (l .phase) l) (nextOf (denote l))) at ≡ Rattle.card.specs.Reading.unlessFault x at (read bytes (nextOf (denote l) v) (at + w))
+      on : (x : Option FormatFault) → faultAt (l .phase) l v ≡ x → read bytes (get w (λ u. 0) (faultAt (l .phase) l) (nextOf (denote l))) at ≡ Rattle.card.specs.Parsing.unlessFault x at (read bytes (nextOf (denote l) v) (at + w))
       unfolding read
       on x e = rw (le-ltb (8 * length bytes) (at + w) g, ← ev, e)
 

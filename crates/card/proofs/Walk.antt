@@ -12,7 +12,7 @@ use borrow.Author.Tests.{lt-ltb, le-ltb, eqb-true, eqb-false}
 use Rattle.card.specs.Finite.{table}
 use Rattle.card.specs.Bits.{bit, bitField}
 use Rattle.card.specs.Format.{Format, done, get, of, each, _>>=_}
-use Rattle.card.specs.Reading.{Reading, whole, read, unlessFault}
+use Rattle.card.specs.Parsing.{Parsing, whole, read, unlessFault}
 use Rattle.card.specs.Writing.{Field, fields, allFit}
 use Rattle.card.specs.declared.FormatFault.{FormatFault}
 use Rattle.card.proofs.Decides.{and-is, lt-is}
@@ -29,7 +29,7 @@ built (done a) u = a
 built (get w value fault next) u = built (next (value u)) u
 
 -- what reading says, if the fields hold the numbers of u
-abbrev pub walk : {U A : Type 0} → Format U A → U → (at : ℕ) → Reading A
+abbrev pub walk : {U A : Type 0} → Format U A → U → (at : ℕ) → Parsing A
 walk (done a) u at = whole a at
 walk (get w value fault next) u at = unlessFault (fault (value u)) at (walk (next (value u)) u (at + w))
 

@@ -14,16 +14,16 @@ use borrow.Author.Tests.{ltb-true}
 use Rattle.card.specs.Numbers.{number}
 use Rattle.card.specs.Finite.{table}
 use Rattle.card.specs.Bits.{bit, bitField}
-use Rattle.card.specs.Fields.{Put}
+use Rattle.card.specs.inner.Spans.{Put}
 use Rattle.card.specs.Card.{Card}
 use Rattle.card.specs.Format.{Format, done, get}
 use Rattle.card.specs.Grammar.{card}
-use Rattle.card.specs.Reading.{refused, whole, readCard}
+use Rattle.card.specs.Parsing.{refused, whole, readCard}
 use Rattle.card.specs.Writing.{Field, fields, encode, allFit, counted}
 use Rattle.card.specs.Tables.{numbersOf}
 use Rattle.card.specs.Spelling.{Lines, IsSpelt, IsUnspelt}
 use Rattle.card.specs.Spelling
-use Rattle.card.specs.Layout.{widthOf, faultAt, startOf, stepOf, Sane}
+use Rattle.card.specs.inner.Layout.{widthOf, faultAt, startOf, stepOf, Sane}
 use Rattle.card.specs.declared.FormatFault.{FormatFault}
 use Rattle.card.specs.declared.layout.Layout.{Layout}
 use Rattle.card.specs.declared.Counts.{Counts}

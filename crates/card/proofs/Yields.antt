@@ -12,7 +12,7 @@ use Rattle.card.specs.Finite.{All}
 use Rattle.card.specs.Numbers.{number}
 use Rattle.card.specs.Bits.{bit, bitField}
 use Rattle.card.specs.Format.{Format, done, get, of, each, grow, _>>=_}
-use Rattle.card.specs.Reading.{Reading, refused, whole, read, unlessFault}
+use Rattle.card.specs.Parsing.{Parsing, refused, whole, read, unlessFault}
 use Rattle.card.specs.declared.FormatFault.{FormatFault}
 use Rattle.card.specs.declared.FormatFault.the-variants.{Truncated}
 
@@ -30,7 +30,7 @@ unfolding bitField
 field-small bits h at zero = omega arith
 field-small bits h at (suc w) = rw pow-suc (omega (arith, field-small bits h at w, h (at + w)))
 
-pub not-whole : {A : Type 0} (n at end : ℕ) (a : A) → _≡_ {A = Reading A} (refused n at) (whole a end) → ⊥
+pub not-whole : {A : Type 0} (n at end : ℕ) (a : A) → _≡_ {A = Parsing A} (refused n at) (whole a end) → ⊥
 not-whole n at end a e = let z : _≡_ {A = ℕ} 0 1 = cc in omega arith
 
 module _ {U A : Type 0} where

@@ -4,6 +4,11 @@ use mathlib.Core.Bool.{Bool, true, false, _&&_, _||_, cond}
 use mathlib.Core.List.{List, [], _∷_}
 use mathlib.Core.Option.{Option, none, some}
 
+-- for counting
+abbrev pub one : Bool → ℕ
+one true = 1
+one false = 0
+
 -- f 0 + f 1 + .. + f (n - 1)
 unfoldable pub sumTo : ℕ → (ℕ → ℕ) → ℕ
 sumTo zero f = 0

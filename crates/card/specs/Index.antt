@@ -1,12 +1,16 @@
 -- A card's numbers, field after field, and where its rows stand among them: what the layers above take of a card that was read.
-use Prim.Native.Nat.{ℕ, suc, _+_, _*_, _≤_, _<_}
+use Prim.Native.Nat.{ℕ, suc, _+_, _-_, _*_, _≤_, _<_}
 use mathlib.Core.Path.{_≡_}
+use mathlib.Core.Bool.{cond}
 use mathlib.Core.List.{List}
 use lib.ListN.{length, getD}
+use lib.Dec.{leb, ltb}
+use Rattle.card.specs.Finite.{sumTo, table}
 use Rattle.card.specs.Card.{Subnet, Place, Transition, Arc, Card, subnetAt, placeAt, transitionAt, arcAt, firstPlace, firstTransition, firstArc}
 use Rattle.card.specs.Format.{count}
 use Rattle.card.specs.Grammar.{header, subnet, place, transition, arc}
 use Rattle.card.specs.Writing.{subnetBit, transitionBit}
+use Rattle.card.specs.declared.tables.Arc as declared
 
 -- the fields in front of so many subnets, places, transitions and arcs
 abbrev pub fieldsBefore : (subnets places transitions arcs : ℕ) → ℕ
@@ -48,11 +52,20 @@ pub record ArcThere (numbers : List ℕ) (row j : ℕ) (a : Arc) : Type 0 where
   pub place : getD numbers (arcField row j 2) 0 ≡ a .place
   pub weight : getD numbers (arcField row j 3) 0 ≡ a .weight
 
+-- an arc that the code holds, as one of a card
+abbrev pub arcOf : declared.Arc → Arc
+arcOf a = record { direction = a .direction; subnet = a .subnet; place = a .place; weight = a .weight }
+
 -- transition t is one of subnet s
 pub record Lists (c : Card) (s t : ℕ) : Type 0 where
   pub subnet : s < length (c .subnets)
   pub first : firstTransition c s ≤ t
   pub last : t < firstTransition c (suc s)
+
+-- transition t, which is one of subnet i, begins at this row
+pub record Begins (c : Card) (row i t : ℕ) : Type 0 where
+  pub lists : Lists c i t
+  pub at : row ≡ transitionRow c i t
 
 -- a table holds the rows of a card
 pub record Laid (c : Card) (numbers : List ℕ) : Type 0 where
@@ -63,25 +76,59 @@ pub record Laid (c : Card) (numbers : List ℕ) : Type 0 where
   pub transition : (s t : ℕ) → Lists c s t → TransitionThere numbers (transitionRow c s t) (transitionAt c t)
   pub arc : (s t j : ℕ) → Lists c s t → j < (transitionAt c t) .arcs → ArcThere numbers (transitionRow c s t) j (arcAt c t j)
 
--- where in a second table the starts stand: of subnets (33 of each, one past the last), then of transitions
+-- A second table has six columns of starts: four with an entry for each subnet and one for the end of the last, two with one for each transition.
+abbrev pub subnetStarts : ℕ
+subnetStarts = 33
+
+abbrev pub transitionStarts : ℕ
+transitionStarts = 256
+
 abbrev pub startsSize : ℕ
-startsSize = 644
+startsSize = 4 * subnetStarts + 2 * transitionStarts
 
 abbrev pub subnetBitStart : ℕ → ℕ
-subnetBitStart s = 33 + s
+subnetBitStart s = subnetStarts + s
 
 abbrev pub firstPlaceStart : ℕ → ℕ
-firstPlaceStart s = 66 + s
+firstPlaceStart s = 2 * subnetStarts + s
 
 abbrev pub firstTransitionStart : ℕ → ℕ
-firstTransitionStart s = 99 + s
+firstTransitionStart s = 3 * subnetStarts + s
 
 abbrev pub transitionRowStart : ℕ → ℕ
-transitionRowStart t = 132 + t
+transitionRowStart t = 4 * subnetStarts + t
 
 abbrev pub transitionBitStart : ℕ → ℕ
-transitionBitStart t = 388 + t
+transitionBitStart t = 4 * subnetStarts + transitionStarts + t
 
+-- the subnet that lists transition t: as many subnets end in front of it
+unfoldable pub owner : Card → (t : ℕ) → ℕ
+owner c t = sumTo (length (c .subnets)) (λ s. cond (leb (firstTransition c (suc s)) t) 1 0)
+
+abbrev pub transitionRowOf : Card → (t : ℕ) → ℕ
+transitionRowOf c t = transitionRow c (owner c t) t
+
+abbrev pub transitionBitOf : Card → (t : ℕ) → ℕ
+transitionBitOf c t = transitionBit c (owner c t) t
+
+-- the first n values, then zeros
+abbrev pub upTo : (n : ℕ) → (ℕ → ℕ) → (i : ℕ) → ℕ
+upTo n f i = cond (ltb i n) (f i) 0
+
+-- entry i of the second table
+abbrev pub startOf : Card → (i : ℕ) → ℕ
+startOf c i =
+    cond (ltb i (subnetBitStart 0)) (upTo (suc (length (c .subnets))) (subnetRow c) i)
+    (cond (ltb i (firstPlaceStart 0)) (upTo (suc (length (c .subnets))) (subnetBit c) (i - subnetBitStart 0))
+    (cond (ltb i (firstTransitionStart 0)) (upTo (suc (length (c .subnets))) (firstPlace c) (i - firstPlaceStart 0))
+    (cond (ltb i (transitionRowStart 0)) (upTo (suc (length (c .subnets))) (firstTransition c) (i - firstTransitionStart 0))
+    (cond (ltb i (transitionBitStart 0)) (upTo (length (c .transitions)) (transitionRowOf c) (i - transitionRowStart 0))
+    (upTo (length (c .transitions)) (transitionBitOf c) (i - transitionBitStart 0))))))
+
+unfoldable pub startsOf : Card → List ℕ
+startsOf c = table 0 startsSize (startOf c)
+
+-- what stands there of a card's rows
 pub record Indexed (c : Card) (starts : List ℕ) : Type 0 where
   pub subnetRow : (s : ℕ) → s < length (c .subnets) → getD starts s 0 ≡ subnetRow c s
   pub subnetBit : (s : ℕ) → s < length (c .subnets) → getD starts (subnetBitStart s) 0 ≡ subnetBit c s
@@ -90,7 +137,7 @@ pub record Indexed (c : Card) (starts : List ℕ) : Type 0 where
   pub transitionRow : (s t : ℕ) → Lists c s t → getD starts (transitionRowStart t) 0 ≡ transitionRow c s t
   pub transitionBit : (s t : ℕ) → Lists c s t → getD starts (transitionBitStart t) 0 ≡ transitionBit c s t
 
--- both tables of a card
+-- a card's rows are in both tables
 pub record Loaded (c : Card) (numbers starts : List ℕ) : Type 0 where
   pub laid : Laid c numbers
   pub indexed : Indexed c starts

@@ -5,13 +5,11 @@ pub mod Fields
 pub mod Card
 pub mod Format
 pub mod Grammar
-pub mod Layout
-pub mod Reading
+pub mod Parsing
 pub mod Writing
 pub mod Wellformed
 pub mod Index
-pub mod Indexing
 pub mod Tables
 pub mod Spelling
 pub mod Rows
-pub mod Runs
+pub mod inner

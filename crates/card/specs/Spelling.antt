@@ -9,8 +9,8 @@ use Rattle.card.specs.Finite.{table}
 use Rattle.card.specs.Numbers.{number}
 use Rattle.card.specs.Card.{Card}
 use Rattle.card.specs.Grammar.{card}
-use Rattle.card.specs.Reading.{Reading}
-use Rattle.card.specs.Reading
+use Rattle.card.specs.Parsing.{Parsing}
+use Rattle.card.specs.Parsing
 use Rattle.card.specs.Writing.{fields, encode, allFit, counted}
 use Rattle.card.specs.Tables.{tableSize, numbersOf}
 use Rattle.card.specs.declared.FormatFault.{FormatFault}
@@ -27,16 +27,16 @@ abbrev pub spellOutcome : SpellAnswer → SpellOutcome
 spellOutcome (Whole n) = whole n
 spellOutcome (Refused f at) = refused (number f) at
 
-abbrev pub outcomeOf : Reading Card → SpellOutcome
-outcomeOf (Reading.whole c end) = whole (length (encode c))
-outcomeOf (Reading.refused n at) = refused n at
+abbrev pub outcomeOf : Parsing Card → SpellOutcome
+outcomeOf (Parsing.whole c end) = whole (length (encode c))
+outcomeOf (Parsing.refused n at) = refused n at
 
 -- the card's bytes, then zeros; of a refused one, zeros
-abbrev pub bytesOf : Reading Card → List ℕ
-bytesOf (Reading.whole c end) = table 0 tableSize (λ k. getD (encode c) k 0)
-bytesOf (Reading.refused n at) = table 0 tableSize (λ k. 0)
+abbrev pub bytesOf : Parsing Card → List ℕ
+bytesOf (Parsing.whole c end) = table 0 tableSize (λ k. getD (encode c) k 0)
+bytesOf (Parsing.refused n at) = table 0 tableSize (λ k. 0)
 
-pub record IsSpelt (x : Reading Card) (r : CardSpelt) : Type 0 where
+pub record IsSpelt (x : Parsing Card) (r : CardSpelt) : Type 0 where
   pub answer : spellOutcome (r .answer) ≡ outcomeOf x
   pub bytes : r .bytes ≡ bytesOf x
 

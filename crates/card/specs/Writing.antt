@@ -9,7 +9,7 @@ use Rattle.card.specs.Bits.{bitsOf, pack}
 use Rattle.card.specs.Card.{Card, firstPlace, firstTransition, firstArc}
 use Rattle.card.specs.Format.{Format, done, get, size}
 use Rattle.card.specs.Grammar.{header, subnet, place, transition, arc, card}
-use Rattle.card.specs.Reading.{Reading, refused, readCard}
+use Rattle.card.specs.Parsing.{Parsing, refused, readCard}
 use Rattle.card.specs.declared.FormatFault.the-variants.{BadTable}
 
 pub record Field : Type 0 where
@@ -44,19 +44,19 @@ counted c =
 
 -- 17, writer only, first, position 0: a table value that doesn't fit its field, or more or fewer entries than the counts say. Then pass one
 -- of the card that the tables would make.
-unfoldable pub readTables : (tables : Card) → Reading Card
+unfoldable pub readTables : (tables : Card) → Parsing Card
 readTables c = cond (counted c && allFit (fields card c)) (readCard (encode c)) (refused (number BadTable) 0)
 
 -- the bits in front of so many subnets, places, transitions and arcs
-abbrev pub after : (subnets places transitions arcs : ℕ) → ℕ
-after s p t a = size header + size (subnet 0 0 0) * s + size (place 0) * p + size (transition 0) * t + size arc * a
+abbrev pub bitsBefore : (subnets places transitions arcs : ℕ) → ℕ
+bitsBefore s p t a = size header + size (subnet 0 0 0) * s + size (place 0) * p + size (transition 0) * t + size arc * a
 
 -- the first bit of subnet s; of transition t, which is one of subnet s; of its arc j
 unfoldable pub subnetBit : Card → (s : ℕ) → ℕ
-subnetBit c s = after s (firstPlace c s) (firstTransition c s) (firstArc c (firstTransition c s))
+subnetBit c s = bitsBefore s (firstPlace c s) (firstTransition c s) (firstArc c (firstTransition c s))
 
 unfoldable pub transitionBit : Card → (s t : ℕ) → ℕ
-transitionBit c s t = after (suc s) (firstPlace c (suc s)) t (firstArc c t)
+transitionBit c s t = bitsBefore (suc s) (firstPlace c (suc s)) t (firstArc c t)
 
 unfoldable pub arcBit : Card → (s t j : ℕ) → ℕ
 arcBit c s t j = transitionBit c s t + size (transition 0) + size arc * j

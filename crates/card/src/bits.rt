@@ -4,7 +4,7 @@ ghost use Prim.Native.Nat.{_+_, _*_, _^_, _<_, _≤_};
 ghost use lib.ListN.{length, getD, set};
 ghost use lib.Dec.{leb};
 ghost use Rattle.card.specs.Bits.{bit, bitField};
-ghost use Rattle.card.specs.Fields.{Window, patch, Put};
+ghost use Rattle.card.specs.inner.Spans.{Span, patch, Put};
 
 fn byte(card: &[u8], k: usize) -> u32
     requires { ⌜ k < length (now card) ⌝ }
@@ -36,9 +36,9 @@ pub fn too_wide(value: u16, width: usize) -> bool
 }
 
 // The three bytes from byte k on as one number. Nearly always they are all there, and then one test is enough.
-fn window_at(card: &[u8], k: usize) -> u32
+fn span_at(card: &[u8], k: usize) -> u32
     requires { ⌜ k ≤ length (now card) ⌝ }
-    ensures { λ r. ⌜ Window (now (card .entry)) k r ⌝ }
+    ensures { λ r. ⌜ Span (now (card .entry)) k r ⌝ }
 {
     if k + 2 < card.len() {
         return 65536 * byte(card, k) + (256 * byte(card, k + 1) + byte(card, k + 2));
@@ -52,7 +52,7 @@ pub fn bit_field(card: &[u8], at: usize, width: usize) -> u16
     requires { ⌜ width ≤ 16 ⌝ }
     ensures { λ r. ⌜ (r ≡ bitField (bit (now (card .entry))) at width) × (r < 2 ^ width) ⌝ }
 {
-    let x = window_at(card, at / 8);
+    let x = span_at(card, at / 8);
     (x / pow2(24 - (at % 8 + width)) % pow2(width)) as u16
 }
 
@@ -66,7 +66,7 @@ fn put_byte(out: &mut [u8], k: usize, b: u32)
     }
 }
 
-// The window x with the width bits above its low bits replaced by value.
+// The span x with the width bits above its low bits replaced by value.
 fn patched(x: u32, low: usize, width: usize, value: u16) -> u32
     requires { ⌜ (x < 2 ^ 24) × (low + width ≤ 24) × (value < 2 ^ width) ⌝ }
     ensures { λ r. ⌜ (r ≡ patch x low width value) × (r < 2 ^ 24) ⌝ }
@@ -83,7 +83,7 @@ pub fn put_field(out: &mut [u8], at: usize, width: usize, value: u16)
     ensures { λ r. ⌜ Put (now (out .entry)) at width value (now (out .exit)) ⌝ }
 {
     let k = at / 8;
-    let y = patched(window_at(out, k), 24 - (at % 8 + width), width, value);
+    let y = patched(span_at(out, k), 24 - (at % 8 + width), width, value);
     put_byte(out, k, y / 65536);
     put_byte(out, k + 1, y / 256 % 256);
     put_byte(out, k + 2, y % 256);

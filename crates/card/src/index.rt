@@ -1,4 +1,10 @@
 // Where the rows of a card stand: among its numbers, and on the card.
+use crate::FIRST_PLACES;
+use crate::FIRST_TRANSITIONS;
+use crate::STARTS;
+use crate::SUBNET_BITS;
+use crate::TRANSITION_BITS;
+use crate::TRANSITION_ROWS;
 use crate::layout::arc_fields;
 use crate::layout::arc_width;
 use crate::layout::header_fields;
@@ -19,9 +25,9 @@ ghost use Rattle.card.specs.Card.{Card};
 ghost use Rattle.card.specs.Format.{count, size};
 ghost use Rattle.card.specs.Grammar.{subnet, place, transition, arc};
 ghost use Rattle.card.specs.Wellformed.{Wellformed};
-ghost use Rattle.card.specs.Index.{Laid, Indexed};
-ghost use Rattle.card.specs.Indexing.{Moved, OnCard, putSubnet, AtSubnet, TransitionsIndexed};
-ghost use Rattle.card.specs.Runs.{Tells};
+ghost use Rattle.card.specs.Index.{Laid, startsOf};
+ghost use Rattle.card.specs.inner.Indexing.{Moved, OnCard, putSubnet, AtSubnet, TransitionsIndexed};
+ghost use Rattle.card.specs.inner.Runs.{Tells};
 
 // Where a row begins: at which number, and at which bit.
 pub struct Position {
@@ -76,9 +82,9 @@ fn put_subnet(starts: &mut [u32], s: u16, p: Position, place: u32, transition: u
 {
     let i = s as usize;
     put_start(starts, i, p.row);
-    put_start(starts, 33 + i, p.bit);
-    put_start(starts, 66 + i, place);
-    put_start(starts, 99 + i, transition);
+    put_start(starts, SUBNET_BITS + i, p.bit);
+    put_start(starts, FIRST_PLACES + i, place);
+    put_start(starts, FIRST_TRANSITIONS + i, transition);
 }
 
 // Stores where transitions begin, from transition first on, and says where the last one ends.
@@ -102,8 +108,8 @@ fn index_transitions(
         if !on_card(p) {
             return p;
         }
-        put_start(starts, 132 + t as usize, p.row);
-        put_start(starts, 388 + t as usize, p.bit);
+        put_start(starts, TRANSITION_ROWS + t as usize, p.row);
+        put_start(starts, TRANSITION_BITS + t as usize, p.bit);
         p = after_transition(p, arc_count(numbers, p.row));
         t += 1;
     }
@@ -111,10 +117,10 @@ fn index_transitions(
 }
 
 // Where the rows of a card begin whose numbers the table holds. The table of starts is that of specs/Index.antt.
-pub fn index(numbers: &[u16], subnets: u16) -> [u32; 644]
-    ensures { λ r. ⌜ ((c : Card) → Wellformed c → Laid c (now (numbers .entry)) → subnets ≡ length (c .subnets) → Indexed c r) ⌝ }
+pub fn index(numbers: &[u16], subnets: u16) -> [u32; STARTS]
+    ensures { λ r. ⌜ ((c : Card) → Wellformed c → Laid c (now (numbers .entry)) → subnets ≡ length (c .subnets) → r ≡ startsOf c) ⌝ }
 {
-    let mut starts = [0; 644];
+    let mut starts = [0; STARTS];
     let mut p = Position {
         row: header_fields(),
         bit: header_width(),

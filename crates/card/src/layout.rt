@@ -6,7 +6,7 @@ ghost use mathlib.Core.Bool.{true};
 ghost use Prim.Native.Nat.{ℕ, _+_, _<_, _≤_};
 ghost use Rattle.card.specs.Format.{count, size};
 ghost use Rattle.card.specs.Grammar.{header, subnet, place, transition, arc};
-ghost use Rattle.card.specs.Layout.{startOf, widthAt, widthOf, to, stepAt, stepOf, Sane};
+ghost use Rattle.card.specs.inner.Layout.{startOf, widthAt, widthOf, to, stepAt, stepOf, Sane};
 ghost use Rattle.card.specs.declared.layout.Move.the-variants.{More};
 ghost use Rattle.card.specs.declared.layout.Phase.the-variants.{Version, SubnetCount, SignalCount, Parent, SubnetType, PlaceCount, TransitionCount, Kind, Capacity, Tokens, Signal, ArcCount, Direction, ArcSubnet, ArcPlace, Weight};
 

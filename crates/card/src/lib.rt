@@ -12,6 +12,36 @@ pub mod writer;
 ghost use mathlib.Core.Path.{_≡_};
 ghost use Rattle.card.specs.Numbers.{number};
 
+// The most subnets, places, transitions and signals of a card, and the most arcs of a transition.
+pub const MOST_SUBNETS: usize = 32;
+
+pub const MOST_PLACES: usize = 255;
+
+pub const MOST_TRANSITIONS: usize = 255;
+
+pub const MOST_SIGNALS: usize = 63;
+
+pub const MOST_ARCS: usize = 31;
+
+// The most numbers of a card; and the most bytes, since no field is wider than one.
+pub const TABLE: usize = 3
+    + 4 * MOST_SUBNETS
+    + 3 * MOST_PLACES
+    + (2 + 4 * MOST_ARCS) * MOST_TRANSITIONS;
+
+// The second table, column by column (specs/Index.antt): where each begins behind the rows of subnets, and where the last one ends.
+pub const SUBNET_BITS: usize = MOST_SUBNETS + 1;
+
+pub const FIRST_PLACES: usize = 2 * SUBNET_BITS;
+
+pub const FIRST_TRANSITIONS: usize = 3 * SUBNET_BITS;
+
+pub const TRANSITION_ROWS: usize = 4 * SUBNET_BITS;
+
+pub const TRANSITION_BITS: usize = TRANSITION_ROWS + MOST_TRANSITIONS + 1;
+
+pub const STARTS: usize = TRANSITION_BITS + MOST_TRANSITIONS + 1;
+
 // How many subnets, places and transitions a card lists.
 pub struct Counts {
     pub subnets: u16,

@@ -1,6 +1,8 @@
 // Reading a card: pass one, into a table of its numbers.
 use crate::Counts;
 use crate::FormatFault;
+use crate::STARTS;
+use crate::TABLE;
 use crate::bits::bit_field;
 use crate::bits::pow2;
 use crate::index::index;
@@ -20,8 +22,9 @@ ghost use mathlib.Core.Path.{_≡_};
 ghost use mathlib.Core.Bool.{true};
 ghost use Prim.Native.Nat.{_+_, _*_, _≤_};
 ghost use lib.ListN.{length};
-ghost use Rattle.card.specs.Reading.{readCard, excess};
-ghost use Rattle.card.specs.Tables.{IsRead, IsRefused, excessOf, arcHeadWidth, IsArcHead, IsEnded};
+ghost use Rattle.card.specs.Parsing.{readCard, excess};
+ghost use Rattle.card.specs.Tables.{IsRead};
+ghost use Rattle.card.specs.inner.Reader.{IsRefused, excessOf, arcHeadWidth, IsArcHead, IsEnded};
 ghost use Rattle.card.specs.declared.layout.Phase.the-variants.{Direction};
 
 // Whole: how many subnets, places and transitions. Refused: why, and at which bit.
@@ -33,8 +36,8 @@ pub enum ReadAnswer {
 // The answer; the card's numbers field after field, with zeros behind them; and where its rows begin (see tables.rt).
 pub struct CardRead {
     pub answer: ReadAnswer,
-    pub numbers: [u16; 33026],
-    pub starts: [u32; 644],
+    pub numbers: [u16; TABLE],
+    pub starts: [u32; STARTS],
 }
 
 pub enum Excess {
@@ -99,13 +102,13 @@ fn refused(f: FormatFault, at: usize) -> CardRead
 {
     CardRead {
         answer: ReadAnswer::Refused(f, at),
-        numbers: [0; 33026],
-        starts: [0; 644],
+        numbers: [0; TABLE],
+        starts: [0; STARTS],
     }
 }
 
 // The answer once the last field, which ends before bit end, is read.
-fn ended(card: &[u8], end: usize, k: Counts, numbers: [u16; 33026]) -> CardRead
+fn ended(card: &[u8], end: usize, k: Counts, numbers: [u16; TABLE]) -> CardRead
     requires { ⌜ (end ≤ 8 * length (now card)) × (end ≤ 1000000) ⌝ }
     ensures { λ r. ⌜ IsEnded (excess (now (card .entry)) end) k numbers r ⌝ }
 {
@@ -124,7 +127,7 @@ fn ended(card: &[u8], end: usize, k: Counts, numbers: [u16; 33026]) -> CardRead
 pub fn read(card: &[u8]) -> CardRead
     ensures { λ r. ⌜ IsRead (readCard (now (card .entry))) r ⌝ }
 {
-    let mut numbers = [0; 33026];
+    let mut numbers = [0; TABLE];
     let mut l = start();
     let mut at = 0;
     let mut n = 0;

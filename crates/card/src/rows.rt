@@ -1,4 +1,5 @@
 // A card's tables in lent slices, and what 17 asks of them.
+use crate::TABLE;
 use crate::bits::pow2;
 use crate::bits::too_wide;
 use crate::layout::Phase;
@@ -9,7 +10,7 @@ ghost use mathlib.Core.List.{List, _++_};
 ghost use lib.ListN.{length, getD};
 ghost use lib.Dec.{eqb};
 ghost use Rattle.card.specs.Rows.{tablesIn, wholeRows};
-ghost use Rattle.card.specs.Runs.{columnSum, RowsFit, Tells, subnetWidths, placeWidths, transitionWidths, arcWidths, HeaderFits, ValuesFit, Holds, arcsBefore, transitionRun, runs, RunsInside, subnetRun, TablesInside, Gathered, inOrder};
+ghost use Rattle.card.specs.inner.Runs.{columnSum, RowsFit, Tells, subnetWidths, placeWidths, transitionWidths, arcWidths, HeaderFits, ValuesFit, Leads, arcsBefore, transitionRun, runs, RunsInside, subnetRun, TablesInside, Gathered, inOrder};
 ghost use Rattle.card.specs.Writing.{counted};
 
 fn wide(v: u16) -> usize
@@ -164,7 +165,7 @@ pub fn values_fit(
 // Puts a run of numbers behind the n that a table holds, as far as there is room, and says how many it holds then.
 fn push(numbers: &mut [u16], n: usize, run: &[u16]) -> usize
     ensures { λ r. ⌜ length (now (numbers .exit)) ≡ length (now (numbers .entry)) ⌝ }
-    ensures { λ r. ⌜ ((xs : List ℕ) → Holds xs (now (numbers .entry)) n → Holds (xs ++ now (run .entry)) (now (numbers .exit)) r) ⌝ }
+    ensures { λ r. ⌜ ((xs : List ℕ) → Leads xs (now (numbers .entry)) n → Leads (xs ++ now (run .entry)) (now (numbers .exit)) r) ⌝ }
 {
     let mut k = n;
     let mut i = 0;
@@ -198,7 +199,7 @@ fn push_transitions(
     requires { ⌜ RunsInside (now transitions) (now arcs) first count arc ⌝ }
     ensures { λ r. ⌜ length (now (numbers .exit)) ≡ length (now (numbers .entry)) ⌝ }
     ensures { λ r. ⌜ r .arc ≡ arcsBefore (now (transitions .entry)) (first + count) ⌝ }
-    ensures { λ r. ⌜ ((xs : List ℕ) → Holds xs (now (numbers .entry)) n → Holds (xs ++ runs first count (transitionRun (now (transitions .entry)) (now (arcs .entry)))) (now (numbers .exit)) (r .n)) ⌝ }
+    ensures { λ r. ⌜ ((xs : List ℕ) → Leads xs (now (numbers .entry)) n → Leads (xs ++ runs first count (transitionRun (now (transitions .entry)) (now (arcs .entry)))) (now (numbers .exit)) (r .n)) ⌝ }
 {
     let end = first + count;
     let mut m = n;
@@ -228,7 +229,7 @@ fn push_subnets(
 ) -> usize
     requires { ⌜ TablesInside (now subnets) (now places) (now transitions) (now arcs) ⌝ }
     ensures { λ r. ⌜ length (now (numbers .exit)) ≡ length (now (numbers .entry)) ⌝ }
-    ensures { λ r. ⌜ ((xs : List ℕ) → Holds xs (now (numbers .entry)) n → Holds (xs ++ runs 0 (length (now (subnets .entry)) / 4) (subnetRun (now (subnets .entry)) (now (places .entry)) (now (transitions .entry)) (now (arcs .entry)))) (now (numbers .exit)) r) ⌝ }
+    ensures { λ r. ⌜ ((xs : List ℕ) → Leads xs (now (numbers .entry)) n → Leads (xs ++ runs 0 (length (now (subnets .entry)) / 4) (subnetRun (now (subnets .entry)) (now (places .entry)) (now (transitions .entry)) (now (arcs .entry)))) (now (numbers .exit)) r) ⌝ }
 {
     let end = subnets.len() / 4;
     let mut m = n;
@@ -262,12 +263,12 @@ pub fn gather(
     places: &[u16],
     transitions: &[u16],
     arcs: &[u16],
-) -> [u16; 33026]
+) -> [u16; TABLE]
     requires { ⌜ TablesInside (now subnets) (now places) (now transitions) (now arcs) ⌝ }
     requires { ⌜ length (now subnets) / 4 < 65536 ⌝ }
     ensures { λ r. ⌜ Gathered (inOrder version signals (now (subnets .entry)) (now (places .entry)) (now (transitions .entry)) (now (arcs .entry))) r ⌝ }
 {
-    let mut numbers = [0; 33026];
+    let mut numbers = [0; TABLE];
     let head = [version, (subnets.len() / 4) as u16, signals];
     let n = push(&mut numbers, 0, &head);
     let _m = push_subnets(&mut numbers, n, subnets, places, transitions, arcs);

@@ -1,5 +1,10 @@
 // A card's rows, out of the table of its numbers and the table of where they start. Each function takes any tables and any row: where there
 // is no such entry, it gives 0.
+use crate::FIRST_PLACES;
+use crate::FIRST_TRANSITIONS;
+use crate::SUBNET_BITS;
+use crate::TRANSITION_BITS;
+use crate::TRANSITION_ROWS;
 use crate::layout::arc_fields;
 use crate::layout::arc_width;
 use crate::layout::place_fields;
@@ -9,7 +14,7 @@ use crate::layout::transition_width;
 ghost use mathlib.Core.Path.{_≡_};
 ghost use Prim.Native.Nat.{_+_, _*_, _≤_, _<_};
 ghost use lib.ListN.{getD};
-ghost use Rattle.card.specs.Index.{placeField, arcField, subnetBitStart, firstPlaceStart, firstTransitionStart, transitionRowStart, transitionBitStart};
+ghost use Rattle.card.specs.Index.{ArcThere, arcOf, placeField, arcField, subnetBitStart, firstPlaceStart, firstTransitionStart, transitionRowStart, transitionBitStart};
 ghost use Rattle.card.specs.Format.{size};
 ghost use Rattle.card.specs.Grammar.{transition, arc};
 
@@ -154,6 +159,35 @@ pub fn arc_weight(numbers: &[u16], row: u32, j: u16) -> u16
     arc_number(numbers, row, j, 3)
 }
 
+// A whole arc.
+pub struct Arc {
+    pub direction: u16,
+    pub subnet: u16,
+    pub place: u16,
+    pub weight: u16,
+}
+
+// Arc j of the transition whose row begins at row. Where its four numbers are there, one test is enough.
+pub fn arc_at(numbers: &[u16], row: u32, j: u16) -> Arc
+    ensures { λ r. ⌜ ArcThere (now (numbers .entry)) row j (arcOf r) ⌝ }
+{
+    let i = arc_start(row, j);
+    if i + 3 < numbers.len() {
+        return Arc {
+            direction: numbers[i],
+            subnet: numbers[i + 1],
+            place: numbers[i + 2],
+            weight: numbers[i + 3],
+        };
+    }
+    Arc {
+        direction: arc_direction(numbers, row, j),
+        subnet: arc_subnet(numbers, row, j),
+        place: arc_place(numbers, row, j),
+        weight: arc_weight(numbers, row, j),
+    }
+}
+
 // Where subnet s begins: its row among the numbers, and its first bit on the card.
 pub fn subnet_row(starts: &[u32], s: u16) -> u32
     ensures { λ r. ⌜ r ≡ getD (now (starts .entry)) s 0 ⌝ }
@@ -164,33 +198,33 @@ pub fn subnet_row(starts: &[u32], s: u16) -> u32
 pub fn subnet_bit(starts: &[u32], s: u16) -> u32
     ensures { λ r. ⌜ r ≡ getD (now (starts .entry)) (subnetBitStart s) 0 ⌝ }
 {
-    start_at(starts, 33 + s as usize)
+    start_at(starts, SUBNET_BITS + s as usize)
 }
 
 // The flat number of subnet s's first place, and of its first transition.
 pub fn first_place(starts: &[u32], s: u16) -> u32
     ensures { λ r. ⌜ r ≡ getD (now (starts .entry)) (firstPlaceStart s) 0 ⌝ }
 {
-    start_at(starts, 66 + s as usize)
+    start_at(starts, FIRST_PLACES + s as usize)
 }
 
 pub fn first_transition(starts: &[u32], s: u16) -> u32
     ensures { λ r. ⌜ r ≡ getD (now (starts .entry)) (firstTransitionStart s) 0 ⌝ }
 {
-    start_at(starts, 99 + s as usize)
+    start_at(starts, FIRST_TRANSITIONS + s as usize)
 }
 
 // Where transition t begins, and the first bit of its arc j.
 pub fn transition_row(starts: &[u32], t: u32) -> u32
     ensures { λ r. ⌜ r ≡ getD (now (starts .entry)) (transitionRowStart t) 0 ⌝ }
 {
-    start_at(starts, 132 + t as usize)
+    start_at(starts, TRANSITION_ROWS + t as usize)
 }
 
 pub fn transition_bit(starts: &[u32], t: u32) -> u32
     ensures { λ r. ⌜ r ≡ getD (now (starts .entry)) (transitionBitStart t) 0 ⌝ }
 {
-    start_at(starts, 388 + t as usize)
+    start_at(starts, TRANSITION_BITS + t as usize)
 }
 
 pub fn arc_bit(starts: &[u32], t: u32, j: u16) -> usize

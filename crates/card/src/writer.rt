@@ -1,5 +1,6 @@
 // Spelling a card: its numbers, checked as the reader checks them, into bytes.
 use crate::FormatFault;
+use crate::TABLE;
 use crate::bits::put_field;
 use crate::bits::too_wide;
 use crate::layout::Move;
@@ -14,7 +15,7 @@ ghost use mathlib.Core.Path.{_≡_};
 ghost use lib.ListN.{length};
 ghost use lib.Dec.{leb};
 ghost use Rattle.card.specs.Card.{Card};
-ghost use Rattle.card.specs.Reading.{readCard};
+ghost use Rattle.card.specs.Parsing.{readCard};
 ghost use Rattle.card.specs.Writing.{encode};
 ghost use Rattle.card.specs.Rows.{readRows};
 ghost use Rattle.card.specs.Spelling.{IsSpelt, Lines, IsUnspelt, putInto};
@@ -28,7 +29,7 @@ pub enum SpellAnswer {
 // The answer, and the card's bytes with zeros behind them.
 pub struct CardSpelt {
     pub answer: SpellAnswer,
-    pub bytes: [u8; 33026],
+    pub bytes: [u8; TABLE],
 }
 
 fn unspelt(f: FormatFault, at: usize) -> CardSpelt
@@ -36,16 +37,16 @@ fn unspelt(f: FormatFault, at: usize) -> CardSpelt
 {
     CardSpelt {
         answer: SpellAnswer::Refused(f, at),
-        bytes: [0; 33026],
+        bytes: [0; TABLE],
     }
 }
 
 // Spells the numbers of a card, field after field. A number that does not fit its field is not one of a card's (see Lines). Two wrong
 // writers that this rules out: one that counts a byte too many, and one that refuses at the number of a field instead of its bit.
-fn spell_numbers(numbers: &[u16; 33026]) -> CardSpelt
+fn spell_numbers(numbers: &[u16; TABLE]) -> CardSpelt
     ensures { λ r. ⌜ ((c : Card) → Lines c (now (numbers .entry)) → IsSpelt (readCard (encode c)) r) ⌝ }
 {
-    let mut bytes = [0; 33026];
+    let mut bytes = [0; TABLE];
     let mut l = start();
     let mut at = 0;
     let mut n = 0;

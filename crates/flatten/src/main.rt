@@ -1,5 +1,6 @@
 // Reads a card from standard input and writes the flat card's bytes; of a refused card, one line: no, number, position. Of a longer input
 // the first 33,027 bytes decide (long-input in card/proofs/LongInput.antt), so no more are read.
+use card::TABLE;
 use flattening::flatten;
 use hierarchy::Written;
 use hierarchy::fault_number;
@@ -21,7 +22,7 @@ fn put_bytes(bytes: &[u8], n: usize) {
 }
 
 fn put_flat(card: &[u8]) {
-    let mut flat = [0; 33026];
+    let mut flat = [0; TABLE];
     match flatten(card, &mut flat) {
         Written::Wrote(n) => put_bytes(&flat, n),
         Written::Refused(f, at) => put_refusal(fault_number(f), at),

@@ -14,14 +14,14 @@ use Rattle.card.proofs.Sums.{table-length, table-at, map-length}
 use Rattle.hierarchy.specs.Conditions.{Meets}
 use Rattle.card.specs.Index.{Loaded}
 use Rattle.hierarchy.specs.Numbers.{number, checkOutcome}
-use Rattle.hierarchy.specs.Judgement.{Judgement, accepted, refused, judged, judge, judgeTables, outcomeOf, Tables, IsChecked}
+use Rattle.hierarchy.specs.Judgement.{Judgement, accepted, refused, judged, judge, judgeTables, outcomeOf, IsChecked}
 use Rattle.hierarchy.specs.Output.{delivered, writeRows, IsWritten}
 use Rattle.hierarchy.specs.declared.Written.{Written}
 use Rattle.hierarchy.specs.declared.Written.the-variants.{Refused as NotWritten}
 use Rattle.hierarchy.specs.declared.Answer.the-variants.{Accepted, Refused}
 use Rattle.hierarchy.specs.declared.CardFault.{CardFault}
 use Rattle.hierarchy.specs.declared.check.CheckedCard.{CheckedCard}
-use Rattle.hierarchy.proofs.Accepted.{accepted-meets, meets-written}
+use Rattle.hierarchy.proofs.Accepted.{accepted-meets, accepted-loaded, meets-written}
 use Rattle.flattening.specs.Flattening.{flatPlaceRow, flatArc, flatten, flattenCall}
 use Rattle.flattening.specs.inner.FlatRows.{Sizes, PlacesTo, TransitionsTo, ArcsTo}
 use Rattle.flattening.proofs.FlatLaws.{flat-meets}
@@ -126,9 +126,9 @@ module _ (bytes buffer : List ℕ) (k : CheckedCard) (h : IsChecked (judge bytes
       → ((c : Card) → Meets c → Loaded c (k .numbers) (k .starts) → Sizes c s′ p′ t′ → IsWritten (delivered (accepted c) (λ d. encode (flatten d)) buffer) r out)
       → IsWritten (flattenCall bytes buffer) r out
   unfolding flattenCall
-  flatten-accepted s p t s′ p′ t′ e es ep et out r g = go (judge bytes) refl (sym (ap checkOutcome e) ∙ h .answer) (h .tables)
+  flatten-accepted s p t s′ p′ t′ e es ep et out r g = go (judge bytes) refl (sym (ap checkOutcome e) ∙ h .answer) h
     where
-      go : (x : Judgement) → judge bytes ≡ x → checkOutcome (Accepted s p t) ≡ outcomeOf x → Tables x (k .numbers) (k .starts) → IsWritten (delivered x (λ d. encode (flatten d)) buffer) r out
+      go : (x : Judgement) → judge bytes ≡ x → checkOutcome (Accepted s p t) ≡ outcomeOf x → IsChecked x k → IsWritten (delivered x (λ d. encode (flatten d)) buffer) r out
       go (refused n i) j q l = absurd (let z : _≡_ {A = ℕ} 0 1 = cc in omega arith)
       go (accepted c) j q l =
           let m = accepted-meets bytes c j in
@@ -136,7 +136,7 @@ module _ (bytes buffer : List ℕ) (k : CheckedCard) (h : IsChecked (judge bytes
           let b : p ≡ length (c .places) = cc in
           let d : t ≡ length (c .transitions) = cc in
           let w = m .wellformed in
-          g c m l (record {
+          g c m (accepted-loaded c m k l) (record {
             subnets = es (omega (arith, a, w .fewSubnets)) ∙ a;
             places = ep (omega (arith, b, w .rows .fewPlaces)) ∙ b;
             transitions = et (omega (arith, d, w .rows .fewTransitions)) ∙ d;

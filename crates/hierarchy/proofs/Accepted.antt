@@ -7,45 +7,48 @@ use mathlib.Core.Logic.{_↔_}
 use native.Mathlib.Omega.{arith}
 use lib.ListN.{getD}
 use Rattle.card.specs.Card.{Card}
-use Rattle.card.specs.Reading.{Reading, readCard}
-use Rattle.card.specs.Reading
+use Rattle.card.specs.Index.{Loaded}
+use Rattle.card.specs.Parsing.{Parsing, readCard}
+use Rattle.card.specs.Parsing
 use Rattle.card.specs.Writing.{encode, readTables}
 use Rattle.card.proofs.Ranges.{read-wellformed}
+use Rattle.card.proofs.ReadLaws.{tables-loaded}
 use Rattle.card.proofs.RoundTrip.{read-write, write-read, wellformed-reads, wellformed-tables}
 use Rattle.hierarchy.specs.Conditions.{Meets}
 use Rattle.hierarchy.specs.Check.{Found, check}
-use Rattle.hierarchy.specs.Judgement.{accepted, refused, checked, judged, judge, judgeTables}
+use Rattle.hierarchy.specs.Judgement.{accepted, refused, checked, judged, judge, judgeTables, IsChecked}
+use Rattle.hierarchy.specs.declared.check.CheckedCard.{CheckedCard}
 use Rattle.hierarchy.proofs.Agree.{check-is}
 
-not-accepted : (n at : ℕ) (c : Card) → refused n at ≡ accepted c → ⊥
+pub not-accepted : (n at : ℕ) (c : Card) → refused n at ≡ accepted c → ⊥
 not-accepted n at c e = let z : _≡_ {A = ℕ} 0 1 = cc in omega arith
 
 pub accepted-meets : (bytes : List ℕ) (c : Card) → judge bytes ≡ accepted c → Meets c
 unfolding judge
 accepted-meets bytes c e = go (readCard bytes) refl e
   where
-    found : (d : Card) (end : ℕ) (x : Option Found) → readCard bytes ≡ Reading.whole d end → check d ≡ x → checked x d ≡ accepted c → Meets c
+    found : (d : Card) (end : ℕ) (x : Option Found) → readCard bytes ≡ Parsing.whole d end → check d ≡ x → checked x d ≡ accepted c → Meets c
     found d end (some f) p q r = absurd (not-accepted _ _ _ r)
     found d end none p q r =
         let s : d ≡ c = cc in
         subst Meets s (record { wellformed = read-wellformed bytes d end p; conditions = check-is d .0 q })
 
-    go : (x : Reading Card) → readCard bytes ≡ x → judged x ≡ accepted c → Meets c
-    go (Reading.refused n at) p q = absurd (not-accepted _ _ _ q)
-    go (Reading.whole d end) p q = found d end (check d) p refl q
+    go : (x : Parsing Card) → readCard bytes ≡ x → judged x ≡ accepted c → Meets c
+    go (Parsing.refused n at) p q = absurd (not-accepted _ _ _ q)
+    go (Parsing.whole d end) p q = found d end (check d) p refl q
 
 -- the card's bytes, where they are accepted
 accepted-bytes : (bytes : List ℕ) → ((k : ℕ) → getD bytes k 0 < 256) → (c : Card) → judge bytes ≡ accepted c → encode c ≡ bytes
 unfolding judge
 accepted-bytes bytes small c e = go (readCard bytes) refl e
   where
-    found : (d : Card) (end : ℕ) (x : Option Found) → readCard bytes ≡ Reading.whole d end → checked x d ≡ accepted c → encode c ≡ bytes
+    found : (d : Card) (end : ℕ) (x : Option Found) → readCard bytes ≡ Parsing.whole d end → checked x d ≡ accepted c → encode c ≡ bytes
     found d end (some f) p r = absurd (not-accepted _ _ _ r)
     found d end none p r = let s : d ≡ c = cc in subst (λ (x : Card). encode x ≡ bytes) s (write-read bytes small d end p)
 
-    go : (x : Reading Card) → readCard bytes ≡ x → judged x ≡ accepted c → encode c ≡ bytes
-    go (Reading.refused n at) p q = absurd (not-accepted _ _ _ q)
-    go (Reading.whole d end) p q = found d end (check d) p q
+    go : (x : Parsing Card) → readCard bytes ≡ x → judged x ≡ accepted c → encode c ≡ bytes
+    go (Parsing.refused n at) p q = absurd (not-accepted _ _ _ q)
+    go (Parsing.whole d end) p q = found d end (check d) p q
 
 -- A CARD THAT MEETS ALL THAT IS ASKED IS ACCEPTED, from its bytes and from its tables
 pub meets-accepted : (c : Card) → Meets c → judge (encode c) ≡ accepted c
@@ -70,7 +73,7 @@ pub written-accepted : (c d : Card) → judgeTables c ≡ accepted d → (d ≡ 
 unfolding judge judgeTables
 written-accepted c d e = go (readTables c) refl e
   where
-    found : (x : Card) (end : ℕ) (y : Option Found) → readTables c ≡ Reading.whole x end → check x ≡ y → checked y x ≡ accepted d → (d ≡ c) × (judged (readCard (encode c)) ≡ accepted c)
+    found : (x : Card) (end : ℕ) (y : Option Found) → readTables c ≡ Parsing.whole x end → check x ≡ y → checked y x ≡ accepted d → (d ≡ c) × (judged (readCard (encode c)) ≡ accepted c)
     found x end (some f) p q r = absurd (not-accepted _ _ _ r)
     found x end none p q r =
         let s : x ≡ d = cc in
@@ -78,6 +81,10 @@ written-accepted c d e = go (readTables c) refl e
         let k : check c ≡ none = ap check (sym (w .0)) ∙ q in
         (sym s ∙ w .0, rw (w .1 .reads, k))
 
-    go : (x : Reading Card) → readTables c ≡ x → judged x ≡ accepted d → (d ≡ c) × (judged (readCard (encode c)) ≡ accepted c)
-    go (Reading.refused n at) p q = absurd (not-accepted _ _ _ q)
-    go (Reading.whole x end) p q = found x end (check x) p refl q
+    go : (x : Parsing Card) → readTables c ≡ x → judged x ≡ accepted d → (d ≡ c) × (judged (readCard (encode c)) ≡ accepted c)
+    go (Parsing.refused n at) p q = absurd (not-accepted _ _ _ q)
+    go (Parsing.whole x end) p q = found x end (check x) p refl q
+
+-- `accepted-loaded`: THE TABLES THAT THE CHECK HANDS ON HOLD THE CARD'S ROWS
+pub accepted-loaded : (c : Card) → Meets c → (k : CheckedCard) → IsChecked (accepted c) k → Loaded c (k .numbers) (k .starts)
+accepted-loaded c m k h = rw (h .numbers, h .starts) (tables-loaded c (m .wellformed))

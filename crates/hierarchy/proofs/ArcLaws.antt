@@ -20,7 +20,8 @@ use Rattle.hierarchy.proofs.WalkLaws.{every-none, any-one}
 use Rattle.hierarchy.proofs.LoadedLaws.{parent-of, places-of, kind-of, capacity-of}
 use Rattle.hierarchy.proofs.FirstLaws.{every-more, any-more, none-at, Walked, walk-start, walk-on, walk-found, walk-end}
 use Rattle.hierarchy.specs.Conditions.{IsPlace}
-use Rattle.hierarchy.specs.Arcs.{Begins, PlacesThere}
+use Rattle.card.specs.Index.{Begins}
+use Rattle.hierarchy.specs.inner.Arcs.{PlacesThere}
 use Rattle.hierarchy.specs.Check.{seen, takes, directed, weighted, repeats, single, hasUnit, Found, arcFault, transitionFault, subnetFault}
 use Rattle.hierarchy.specs.declared.CardFault.the-variants.{Unseen, Direction, Weight, Repeated, NoUnit}
 
@@ -173,21 +174,6 @@ arc-there {c} {numbers} {row} {i} {t} l b j m = subst (λ (r : ℕ). ArcThere nu
 
 same-arc : (a b : Arc) → a .direction ≡ b .direction → a .subnet ≡ b .subnet → a .place ≡ b .place → a .weight ≡ b .weight → a ≡ b
 same-arc a b e f g h = rw (e, f, g, h)
-
--- the numbers of an arc, one behind the other
-field-on : (row j i k : ℕ) → i ≡ arcField row j 0 → i + k ≡ arcField row j k
-unfolding arcField
-field-on row j i k e = omega (arith, e)
-
-pub arc-from : (numbers : List ℕ) (row j i : ℕ) → i ≡ arcField row j 0
-    → ArcThere numbers row j (record { direction = getD numbers i 0; subnet = getD numbers (i + 1) 0; place = getD numbers (i + 2) 0; weight = getD numbers (i + 3) 0 })
-arc-from numbers row j i e =
-    record {
-      direction = rw e;
-      subnet = rw (field-on row j i 1 e);
-      place = rw (field-on row j i 2 e);
-      weight = rw (field-on row j i 3 e);
-    }
 
 pub arc-is : {c : Card} {numbers : List ℕ} {row i t j : ℕ} {a : Arc} → Laid c numbers → Begins c row i t → j < (transitionAt c t) .arcs → ArcThere numbers row j a → a ≡ arcAt c t j
 arc-is {c} {t = t} {j = j} {a = a} l b m h =

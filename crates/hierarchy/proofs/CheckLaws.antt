@@ -1,6 +1,6 @@
 -- What the check found is what judging a card says. Assumes nothing.
 use Prim.Native.Nat.{ℕ, _≤_}
-use mathlib.Core.Path.{_≡_, refl, sym, ap, _∙_}
+use mathlib.Core.Path.{_≡_, refl, sym, ap, subst, _∙_}
 use mathlib.Core.List.{List}
 use mathlib.Core.Option.{Option}
 use native.Mathlib.Omega.{arith}
@@ -8,8 +8,8 @@ use lib.ListN.{length}
 use Rattle.card.specs.Finite.{_otherwise_}
 use Rattle.card.specs.Card.{Card}
 use Rattle.card.specs.Index.{Loaded}
-use Rattle.card.specs.Reading.{Reading, readCard}
-use Rattle.card.specs.Reading
+use Rattle.card.specs.Parsing.{Parsing, readCard}
+use Rattle.card.specs.Parsing
 use Rattle.card.specs.Tables.{readOutcome, outcomeOf, IsRead}
 use Rattle.card.specs.Tables
 use Rattle.card.specs.Numbers
@@ -43,7 +43,7 @@ same-counts a b d x y z p q r = rw (p, q, r)
 pub record Read (bytes : List ℕ) (k : Counts) : Type 0 where
   pub card : Card
   pub end : ℕ
-  pub is : readCard bytes ≡ Reading.whole card end
+  pub is : readCard bytes ≡ Parsing.whole card end
   pub subnets : k .subnets ≡ length (card .subnets)
   pub places : k .places ≡ length (card .places)
   pub transitions : k .transitions ≡ length (card .transitions)
@@ -52,20 +52,20 @@ module _ (bytes : List ℕ) (r : CardRead) (h : IsRead (readCard bytes) r) where
   pub read-whole : (k : Counts) → r .answer ≡ Whole k → Read bytes k
   read-whole k e = go (readCard bytes) refl (sym (ap readOutcome e) ∙ h .answer)
     where
-      go : (x : Reading Card) → readCard bytes ≡ x → readOutcome (Whole k) ≡ outcomeOf x → Read bytes k
-      go (Reading.refused n at) p q = absurd (let z : _≡_ {A = ℕ} 0 1 = cc in omega arith)
-      go (Reading.whole c end) p q = record { card = c; end = end; is = p; subnets = cc; places = cc; transitions = cc }
+      go : (x : Parsing Card) → readCard bytes ≡ x → readOutcome (Whole k) ≡ outcomeOf x → Read bytes k
+      go (Parsing.refused n at) p q = absurd (let z : _≡_ {A = ℕ} 0 1 = cc in omega arith)
+      go (Parsing.whole c end) p q = record { card = c; end = end; is = p; subnets = cc; places = cc; transitions = cc }
 
   pub read-refused : (f : FormatFault) (at : ℕ) (c : CheckedCard) → r .answer ≡ NotRead f at → IsTurnedBack (Format f) at c → IsChecked (judge bytes) c
   unfolding judge
   read-refused f at c e t = go (readCard bytes) (sym (ap readOutcome e) ∙ h .answer)
     where
-      go : (x : Reading Card) → readOutcome (NotRead f at) ≡ outcomeOf x → IsChecked (judged x) c
-      go (Reading.refused n i) q =
+      go : (x : Parsing Card) → readOutcome (NotRead f at) ≡ outcomeOf x → IsChecked (judged x) c
+      go (Parsing.refused n i) q =
           let a : Numbers.number f ≡ n = cc in
           let b : at ≡ i = cc in
-          rw (← a, ← b) (record { answer = rw (t .answer); tables = (t .numbers, t .starts) })
-      go (Reading.whole d end) q = absurd (let z : _≡_ {A = ℕ} 0 1 = cc in omega arith)
+          rw (← a, ← b) (record { answer = rw (t .answer); numbers = t .numbers; starts = t .starts })
+      go (Parsing.whole d end) q = absurd (let z : _≡_ {A = ℕ} 0 1 = cc in omega arith)
 
   module _ (k : Counts) (e : r .answer ≡ Whole k) where
     card-tables : Loaded ((read-whole k e) .card) (r .numbers) (r .starts)
@@ -77,7 +77,7 @@ module _ (bytes : List ℕ) (r : CardRead) (h : IsRead (readCard bytes) r) where
     check-refused f at c g t =
         let x = read-whole k e in
         let q = g (x .card) card-tables (x .subnets) ((read-wellformed bytes (x .card) (x .end) (x .is)) .fewSubnets) in
-        rw (x .is, ← q) (record { answer = rw (t .answer); tables = (t .numbers, t .starts) })
+        rw (x .is, ← q) (record { answer = rw (t .answer); numbers = t .numbers; starts = t .starts })
 
     pub check-accepted : ((d : Card) → Loaded d (r .numbers) (r .starts) → k .subnets ≡ length (d .subnets) → length (d .subnets) ≤ 32 → findingOf Nothing ≡ check d)
         → IsChecked (judge bytes) (record { answer = Accepted (k .subnets) (k .places) (k .transitions); numbers = r .numbers; starts = r .starts })
@@ -85,4 +85,5 @@ module _ (bytes : List ℕ) (r : CardRead) (h : IsRead (readCard bytes) r) where
     check-accepted g =
         let x = read-whole k e in
         let q = g (x .card) card-tables (x .subnets) ((read-wellformed bytes (x .card) (x .end) (x .is)) .fewSubnets) in
-        rw (x .is, ← q) (record { answer = same-counts _ _ _ _ _ _ (x .subnets) (x .places) (x .transitions); tables = card-tables })
+        let z : IsRead (Parsing.whole (x .card) (x .end)) r = subst (λ (y : Parsing Card). IsRead y r) (x .is) h in
+        rw (x .is, ← q) (record { answer = same-counts _ _ _ _ _ _ (x .subnets) (x .places) (x .transitions); numbers = z .numbers; starts = z .starts })

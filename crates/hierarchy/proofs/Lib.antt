@@ -10,3 +10,4 @@ pub mod TypeLaws
 pub mod LikeLaws
 pub mod CheckLaws
 pub mod WriteLaws
+pub mod SliceTrip

@@ -10,7 +10,7 @@ use lib.Dec.{ltb, eqb}
 use borrow.Author.Tests.{ltb-true, ltb-false, eqb-true, eqb-false, eq-eqb}
 use Rattle.card.specs.Card.{Card, Arc, subnetAt, transitionAt, arcAt, firstTransition}
 use Rattle.hierarchy.specs.Conditions.{isChild, children, child, SameType, Alike, AlikeArcs, AlikeTransitions}
-use Rattle.hierarchy.specs.Ranks.{rank}
+use Rattle.hierarchy.specs.inner.Ordinals.{ordinal}
 use Rattle.hierarchy.specs.Check.{sameType, alike, likeLower}
 use Rattle.hierarchy.proofs.Agree.{sameType-is, alike-is, likeLower-is}
 use Rattle.hierarchy.proofs.WalkLaws.{Below, every-none, every-all}
@@ -27,8 +27,8 @@ own-no-child c i e =
 not-own : (c : Card) (i k a : ℕ) → k < length (children c i) → a ≡ child c i k → a ≡ i → ⊥
 not-own c i k a l e f = own-no-child c i (subst (λ (j : ℕ). isChild c i j ≡ true) (sym e ∙ f) (child-is c i k l .child))
 
-one-rank : (c : Card) (i k m : ℕ) → k < length (children c i) → m < length (children c i) → child c i k ≡ child c i m → k ≡ m
-one-rank c i k m l n e = sym (child-is c i k l .rank) ∙ (ap (rank c i) e ∙ child-is c i m n .rank)
+one-ordinal : (c : Card) (i k m : ℕ) → k < length (children c i) → m < length (children c i) → child c i k ≡ child c i m → k ≡ m
+one-ordinal c i k m l n e = sym (child-is c i k l .ordinal) ∙ (ap (ordinal c i) e ∙ child-is c i m n .ordinal)
 
 -- what is like q's is like each other
 module _ (c : Card) (q r s : ℕ) (as-many : length (children c q) ≡ length (children c r)) where
@@ -48,7 +48,7 @@ module _ (c : Card) (q r s : ℕ) (as-many : length (children c q) ≡ length (c
       go (inl o) (inr (k, l, p)) = absurd (not-own c q k (a .subnet) l (p .0) (o .0))
       go (inr (k, l, o)) (inl p) = absurd (not-own c q k (a .subnet) l (o .0) (p .0))
       go (inr (k, l, o)) (inr (m, n, p)) =
-          inr (k, omega (arith, as-many, l), (o .1, p .1 ∙ ap (λ (i : ℕ). child c s i) (sym (one-rank c q k m l n (sym (o .0) ∙ p .0)))))
+          inr (k, omega (arith, as-many, l), (o .1, p .1 ∙ ap (λ (i : ℕ). child c s i) (sym (one-ordinal c q k m l n (sym (o .0) ∙ p .0)))))
 
   transitions-between : (t u v : ℕ) → AlikeTransitions c q r t u → AlikeTransitions c q s t v → AlikeTransitions c r s u v
   transitions-between t u v x y =

@@ -12,7 +12,7 @@ use Rattle.card.specs.Card.{Card, Arc, normal, subnetAt, placeAt, firstPlace, f
 use Rattle.card.specs.Index.{Indexed, Lists, firstTransitionStart, transitionRowStart, transitionRow}
 use Rattle.hierarchy.specs.Conditions.{kindOf, children, child}
 use Rattle.hierarchy.specs.Check.{hasInterface, alikeArcs, sameType, alike}
-use Rattle.hierarchy.specs.Likeness.{placeAlike, childAlike, transitionAlike, placesAlike, childrenAlike, transitionsAlike, bothKth}
+use Rattle.hierarchy.specs.inner.Likeness.{placeAlike, childAlike, transitionAlike, placesAlike, childrenAlike, transitionsAlike, bothKth}
 use Rattle.hierarchy.proofs.WalkLaws.{Below, any-one, any-none, and-no, below-start, below-more}
 use Rattle.hierarchy.proofs.ChildLaws.{and-parts}
 

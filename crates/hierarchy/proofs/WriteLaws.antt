@@ -11,8 +11,8 @@ use lib.Seq.{ext-getD, getD-take, length-take-le}
 use Rattle.card.specs.Finite.{table}
 use Rattle.card.specs.Card.{Card}
 use Rattle.card.specs.Numbers
-use Rattle.card.specs.Reading.{Reading, readCard}
-use Rattle.card.specs.Reading
+use Rattle.card.specs.Parsing.{Parsing, readCard}
+use Rattle.card.specs.Parsing
 use Rattle.card.specs.Writing.{encode, readTables}
 use Rattle.card.specs.Tables.{tableSize}
 use Rattle.card.specs.Rows.{tablesIn, wholeRows, readRows}
@@ -41,21 +41,21 @@ module _ (v g : ℕ) (subnets places transitions arcs : List ℕ) where
   pub record Spelt (bytes : List ℕ) (n : ℕ) : Type 0 where
     pub card : Card
     pub end : ℕ
-    pub is : readRows v g subnets places transitions arcs ≡ Reading.whole card end
-    pub reads : readCard (encode card) ≡ Reading.whole card end
+    pub is : readRows v g subnets places transitions arcs ≡ Parsing.whole card end
+    pub reads : readCard (encode card) ≡ Parsing.whole card end
     pub long : n ≡ length (encode card)
     pub few : n ≤ length bytes
     pub cut : n ≡ length (take n bytes)
     pub holds : take n bytes ≡ encode card
 
   -- what is spelt is a card's
-  reads-back : (c : Card) (end : ℕ) → readRows v g subnets places transitions arcs ≡ Reading.whole c end → readCard (encode c) ≡ Reading.whole c end
+  reads-back : (c : Card) (end : ℕ) → readRows v g subnets places transitions arcs ≡ Parsing.whole c end → readCard (encode c) ≡ Parsing.whole c end
   unfolding readRows
   reads-back c end e = go (wholeRows subnets places transitions arcs) refl e
     where
-      go : (b : Bool) → wholeRows subnets places transitions arcs ≡ b → cond b (readTables (tablesIn v g subnets places transitions arcs)) (Reading.refused (Numbers.number BadTable) 0) ≡ Reading.whole c end
-          → readCard (encode c) ≡ Reading.whole c end
-      go true p q = let x = read-write (tablesIn v g subnets places transitions arcs) c end q in subst (λ (d : Card). readCard (encode d) ≡ Reading.whole d end) (sym (x .0)) (x .1 .reads)
+      go : (b : Bool) → wholeRows subnets places transitions arcs ≡ b → cond b (readTables (tablesIn v g subnets places transitions arcs)) (Parsing.refused (Numbers.number BadTable) 0) ≡ Parsing.whole c end
+          → readCard (encode c) ≡ Parsing.whole c end
+      go true p q = let x = read-write (tablesIn v g subnets places transitions arcs) c end q in subst (λ (d : Card). readCard (encode d) ≡ Parsing.whole d end) (sym (x .0)) (x .1 .reads)
       go false p q = absurd (let z : _≡_ {A = ℕ} 0 1 = cc in omega arith)
 
   first-bytes : (c : Card) (bytes : List ℕ) → length (encode c) ≤ 33026 → bytes ≡ table 0 tableSize (λ k. getD (encode c) k 0) → take (length (encode c)) bytes ≡ encode c
@@ -69,9 +69,9 @@ module _ (v g : ℕ) (subnets places transitions arcs : List ℕ) where
     pub spelt-whole : (n : ℕ) → w .answer ≡ Whole n → Spelt (w .bytes) n
     spelt-whole n e = go (readRows v g subnets places transitions arcs) refl (sym (ap spellOutcome e) ∙ h .answer) (h .bytes)
       where
-        go : (x : Reading Card) → readRows v g subnets places transitions arcs ≡ x → spellOutcome (Whole n) ≡ outcomeOf x → w .bytes ≡ Rattle.card.specs.Spelling.bytesOf x → Spelt (w .bytes) n
-        go (Reading.refused m at) p q b = absurd (let z : _≡_ {A = ℕ} 0 1 = cc in omega arith)
-        go (Reading.whole c end) p q b =
+        go : (x : Parsing Card) → readRows v g subnets places transitions arcs ≡ x → spellOutcome (Whole n) ≡ outcomeOf x → w .bytes ≡ Rattle.card.specs.Spelling.bytesOf x → Spelt (w .bytes) n
+        go (Parsing.refused m at) p q b = absurd (let z : _≡_ {A = ℕ} 0 1 = cc in omega arith)
+        go (Parsing.whole c end) p q b =
             let long : n ≡ length (encode c) = cc in
             let reads = reads-back c end p in
             let few = encode-few c (read-wellformed (encode c) c end reads) in
@@ -83,12 +83,12 @@ module _ (v g : ℕ) (subnets places transitions arcs : List ℕ) where
     unfolding writeRows
     spell-turned buffer f at r e t = go (readRows v g subnets places transitions arcs) (sym (ap spellOutcome e) ∙ h .answer)
       where
-        go : (x : Reading Card) → spellOutcome (Unspelt f at) ≡ outcomeOf x → IsWritten (Rattle.hierarchy.specs.Output.delivered (judged x) encode buffer) r buffer
-        go (Reading.refused n i) q =
+        go : (x : Parsing Card) → spellOutcome (Unspelt f at) ≡ outcomeOf x → IsWritten (Rattle.hierarchy.specs.Output.delivered (judged x) encode buffer) r buffer
+        go (Parsing.refused n i) q =
             let a : Numbers.number f ≡ n = cc in
             let b : at ≡ i = cc in
             rw (t, ← a, ← b) (record { answer = refl; bytes = refl })
-        go (Reading.whole d end) q = absurd (let z : _≡_ {A = ℕ} 0 1 = cc in omega arith)
+        go (Parsing.whole d end) q = absurd (let z : _≡_ {A = ℕ} 0 1 = cc in omega arith)
 
   module _ (bytes : List ℕ) (n : ℕ) (s : Spelt bytes n) where
     -- the check of the bytes judges the tables

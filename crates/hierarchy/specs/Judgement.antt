@@ -4,12 +4,11 @@ use mathlib.Core.Path.{_≡_}
 use mathlib.Core.List.{List}
 use mathlib.Core.Option.{Option, none, some}
 use lib.ListN.{length}
-use Rattle.card.specs.Finite.{table}
 use Rattle.card.specs.Card.{Card}
-use Rattle.card.specs.Tables.{tableSize}
-use Rattle.card.specs.Index.{startsSize, Loaded}
-use Rattle.card.specs.Reading.{Reading, readCard}
-use Rattle.card.specs.Reading
+use Rattle.card.specs.Tables.{tableSize, numbersTable, zeros}
+use Rattle.card.specs.Index.{startsSize, startsOf}
+use Rattle.card.specs.Parsing.{Parsing, readCard}
+use Rattle.card.specs.Parsing
 use Rattle.card.specs.Writing.{readTables}
 use Rattle.hierarchy.specs.Numbers.{number, CheckOutcome, checkOutcome}
 use Rattle.hierarchy.specs.Numbers
@@ -19,6 +18,7 @@ use Rattle.card.specs.declared.reader.ReadAnswer.the-variants.{Whole, Refused a
 use Rattle.hierarchy.specs.declared.Answer.the-variants.{Refused}
 use Rattle.hierarchy.specs.declared.CardFault.{CardFault}
 use Rattle.hierarchy.specs.declared.CardFault.the-variants.{Format}
+use Rattle.card.specs.declared.FormatFault.the-variants.{Truncated}
 use Rattle.hierarchy.specs.declared.check.CheckedCard.{CheckedCard}
 
 -- accepted: the card; refused: the paper's number and the bit
@@ -30,9 +30,9 @@ abbrev pub checked : Option Found → Card → Judgement
 checked none c = accepted c
 checked (some f) c = refused (number (f .why)) (f .bit)
 
-abbrev pub judged : Reading Card → Judgement
-judged (Reading.refused n at) = refused n at
-judged (Reading.whole c end) = checked (check c) c
+abbrev pub judged : Parsing Card → Judgement
+judged (Parsing.refused n at) = refused n at
+judged (Parsing.whole c end) = checked (check c) c
 
 unfoldable pub judge : (bytes : List ℕ) → Judgement
 judge bytes = judged (readCard bytes)
@@ -50,21 +50,22 @@ outcomeOf (refused n at) = Numbers.CheckOutcome.refused n at
 abbrev pub answer : (bytes : List ℕ) → CheckOutcome
 answer bytes = outcomeOf (judge bytes)
 
--- the tables of an accepted card, for the layer above; of a refused one, zeros
-abbrev pub Tables : Judgement → (numbers starts : List ℕ) → Type 0
-Tables (accepted c) numbers starts = Loaded c numbers starts
-Tables (refused n at) numbers starts = (numbers ≡ table 0 tableSize (λ i. 0)) × (starts ≡ table 0 startsSize (λ i. 0))
+-- the two tables of an accepted card, for the layer above: its numbers, and where its rows begin; of a refused one, zeros
+abbrev pub tablesOf : Judgement → List ℕ × List ℕ
+tablesOf (accepted c) = (numbersTable c, startsOf c)
+tablesOf (refused n at) = (zeros tableSize, zeros startsSize)
 
 pub record IsChecked (x : Judgement) (r : CheckedCard) : Type 0 where
   pub answer : checkOutcome (r .answer) ≡ outcomeOf x
-  pub tables : Tables x (r .numbers) (r .starts)
+  pub numbers : r .numbers ≡ (tablesOf x) .0
+  pub starts : r .starts ≡ (tablesOf x) .1
 
--- a refusal, with empty tables; and one of the layer below
+-- a refusal, with empty tables; and one of the layer below (a card that was read whole is as one that ends in front of its first field)
 pub record IsTurnedBack (f : CardFault) (at : ℕ) (r : CheckedCard) : Type 0 where
   pub answer : r .answer ≡ Refused f at
-  pub numbers : r .numbers ≡ table 0 tableSize (λ i. 0)
-  pub starts : r .starts ≡ table 0 startsSize (λ i. 0)
+  pub numbers : r .numbers ≡ zeros tableSize
+  pub starts : r .starts ≡ zeros startsSize
 
 abbrev pub HandedOn : ReadAnswer → CheckedCard → Type 0
 HandedOn (NotRead f at) r = IsTurnedBack (Format f) at r
-HandedOn (Whole k) r = Unit {0}
+HandedOn (Whole k) r = IsTurnedBack (Format Truncated) 0 r

@@ -3,6 +3,4 @@ pub mod Numbers
 pub mod Check
 pub mod Judgement
 pub mod Output
-pub mod Arcs
-pub mod Ranks
-pub mod Likeness
+pub mod inner

@@ -12,7 +12,7 @@ use Rattle.card.specs.Rows.{readRows}
 use Rattle.card.specs.Spelling.{putInto}
 use Rattle.hierarchy.specs.Numbers.{WriteOutcome, writeOutcome}
 use Rattle.hierarchy.specs.Numbers
-use Rattle.hierarchy.specs.Judgement.{Judgement, accepted, refused, judged, judgeTables}
+use Rattle.hierarchy.specs.Judgement.{Judgement, accepted, refused, judged}
 use Rattle.hierarchy.specs.declared.Written.{Written}
 use Rattle.hierarchy.specs.declared.Written.the-variants.{Wrote, Refused as NotWritten, Short}
 use Rattle.hierarchy.specs.declared.Answer.{Answer}
@@ -31,10 +31,6 @@ abbrev pub delivered : Judgement → (Card → List ℕ) → (buffer : List ℕ)
 delivered (accepted c) bytes buffer = (fitted (leb (length (bytes c)) (length buffer)) (length (bytes c)), putInto (bytes c) buffer)
 delivered (refused n at) bytes buffer = (Numbers.WriteOutcome.refused n at, buffer)
 
--- the writer
-unfoldable pub write : (tables : Card) → (buffer : List ℕ) → WriteOutcome × List ℕ
-write c buffer = delivered (judgeTables c) encode buffer
-
 -- the writer, with the tables in lent slices, row after row; a slice that ends inside a row is 17 too
 unfoldable pub writeRows : (version signals : ℕ) → (subnets places transitions arcs buffer : List ℕ) → WriteOutcome × List ℕ
 writeRows version signals subnets places transitions arcs buffer = delivered (judged (readRows version signals subnets places transitions arcs)) encode buffer
@@ -44,11 +40,11 @@ pub record IsWritten (x : WriteOutcome × List ℕ) (r : Written) (buffer : List
   pub answer : writeOutcome r ≡ x .0
   pub bytes : buffer ≡ x .1
 
--- refusals of the two halves, handed on
+-- refusals of the two halves, as answers of a call that has written nothing
 abbrev pub SpellRefused : SpellAnswer → Written → Type 0
 SpellRefused (Unspelt f at) r = r ≡ NotWritten (Format f) at
-SpellRefused (Whole n) r = Unit {0}
+SpellRefused (Whole n) r = r ≡ Wrote 0
 
 abbrev pub CheckRefused : Answer → Written → Type 0
 CheckRefused (Refused f at) r = r ≡ NotWritten f at
-CheckRefused (Accepted s p t) r = Unit {0}
+CheckRefused (Accepted s p t) r = r ≡ Wrote 0

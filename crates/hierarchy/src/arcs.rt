@@ -2,13 +2,13 @@
 // what is found says something of a card only where they hold one.
 use crate::CardFault;
 use crate::Finding;
+use card::tables::Arc;
+use card::tables::arc_at;
 use card::tables::arc_bit;
 use card::tables::arc_count;
 use card::tables::arc_direction;
 use card::tables::arc_place;
-use card::tables::arc_start;
 use card::tables::arc_subnet;
-use card::tables::arc_weight;
 use card::tables::capacity;
 use card::tables::first_transition;
 use card::tables::kind;
@@ -22,38 +22,10 @@ ghost use Prim.Native.Nat.{ℕ, suc, _<_};
 ghost use lib.ListN.{length};
 ghost use Rattle.card.specs.Card.{Card, Arc as CardArc, transitionAt, arcAt, firstTransition, placeOf};
 ghost use Rattle.card.specs.Finite.{firstOf};
-ghost use Rattle.card.specs.Index.{ArcThere, Lists, Laid, Loaded};
+ghost use Rattle.card.specs.Index.{ArcThere, Lists, Laid, Loaded, arcOf, Begins};
 ghost use Rattle.hierarchy.specs.Conditions.{IsPlace};
 ghost use Rattle.hierarchy.specs.Check.{seen as isSeen, takes as takesIt, directed as isDirected, weighted as isWeighted, repeats as isRepeat, single as isSingle, hasUnit, findingOf, arcFault, transitionFault, subnetFault};
-ghost use Rattle.hierarchy.specs.Arcs.{arcOf, Begins, PlacesThere};
-
-pub struct Arc {
-    pub direction: u16,
-    pub subnet: u16,
-    pub place: u16,
-    pub weight: u16,
-}
-
-// Arc j of the transition whose row begins at row. Where its four numbers are there, one test is enough.
-pub fn arc_at(numbers: &[u16], row: u32, j: u16) -> Arc
-    ensures { λ r. ⌜ ArcThere (now (numbers .entry)) row j (arcOf r) ⌝ }
-{
-    let i = arc_start(row, j);
-    if i + 3 < numbers.len() {
-        return Arc {
-            direction: numbers[i],
-            subnet: numbers[i + 1],
-            place: numbers[i + 2],
-            weight: numbers[i + 3],
-        };
-    }
-    Arc {
-        direction: arc_direction(numbers, row, j),
-        subnet: arc_subnet(numbers, row, j),
-        place: arc_place(numbers, row, j),
-        weight: arc_weight(numbers, row, j),
-    }
-}
+ghost use Rattle.hierarchy.specs.inner.Arcs.{PlacesThere};
 
 // Whether subnet i sees the place that the arc names.
 fn seen(numbers: &[u16], starts: &[u32], subnets: u16, i: u16, a: Arc) -> bool

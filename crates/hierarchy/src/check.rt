@@ -5,6 +5,8 @@ use crate::Finding;
 use crate::arcs::arcs_fault;
 use crate::interfaces::interfaces_fault;
 use crate::types::types_fault;
+use card::STARTS;
+use card::TABLE;
 use card::reader::ReadAnswer;
 use card::reader::read;
 ghost use mathlib.Core.Path.{_≡_};
@@ -19,8 +21,8 @@ ghost use Rattle.hierarchy.specs.Judgement.{judge, answer, IsChecked, Is
 // The answer, and an accepted card's two tables (see card::tables): its numbers, and where its rows begin.
 pub struct CheckedCard {
     pub answer: Answer,
-    pub numbers: [u16; 33026],
-    pub starts: [u32; 644],
+    pub numbers: [u16; TABLE],
+    pub starts: [u32; STARTS],
 }
 
 // The first fault of pass two.
@@ -43,8 +45,8 @@ fn turned_back(f: CardFault, at: usize) -> CheckedCard
 {
     CheckedCard {
         answer: Answer::Refused(f, at),
-        numbers: [0; 33026],
-        starts: [0; 644],
+        numbers: [0; TABLE],
+        starts: [0; STARTS],
     }
 }
 

@@ -1,4 +1,5 @@
-// The children of a subnet, by their ranks.
+// The children of a subnet, by their ordinals.
+use card::MOST_SUBNETS;
 use card::tables::parent;
 use card::tables::subnet_row;
 ghost use mathlib.Core.Path.{_≡_};
@@ -9,8 +10,9 @@ ghost use lib.Dec.{eqb};
 ghost use Rattle.card.specs.Card.{Card};
 ghost use Rattle.card.specs.Index.{Loaded};
 ghost use Rattle.hierarchy.specs.Conditions.{isChild, children, child};
-ghost use Rattle.hierarchy.specs.Ranks.{one, rank, Ranked};
-ghost use Rattle.hierarchy.specs.Likeness.{bothKth};
+ghost use Rattle.card.specs.Finite.{one};
+ghost use Rattle.hierarchy.specs.inner.Ordinals.{ordinal, AllOrdinals};
+ghost use Rattle.hierarchy.specs.inner.Likeness.{bothKth};
 
 fn one(yes: bool) -> u16
     ensures { λ x. ⌜ x ≡ one yes ⌝ }
@@ -31,8 +33,8 @@ pub fn is_child(numbers: &[u16], starts: &[u32], subnets: u16, i: u16, j: u16) -
 }
 
 // How many children of subnet i are below j.
-pub fn rank(numbers: &[u16], starts: &[u32], subnets: u16, i: u16, j: u16) -> u16
-    ensures { λ x. ⌜ ((c : Card) → Loaded c (now (numbers .entry)) (now (starts .entry)) → subnets ≡ length (c .subnets) → x ≡ rank c i j) ⌝ }
+pub fn ordinal(numbers: &[u16], starts: &[u32], subnets: u16, i: u16, j: u16) -> u16
+    ensures { λ x. ⌜ ((c : Card) → Loaded c (now (numbers .entry)) (now (starts .entry)) → subnets ≡ length (c .subnets) → x ≡ ordinal c i j) ⌝ }
 {
     let mut n = 0;
     let mut h = 0;
@@ -43,29 +45,29 @@ pub fn rank(numbers: &[u16], starts: &[u32], subnets: u16, i: u16, j: u16) -> u1
     n
 }
 
-// The rank of each subnet among the children of its parent, made once, so that comparing two arcs counts no children. A card has at most 32
+// The ordinal of each subnet among the children of its parent, made once, so that comparing two arcs counts no children. A card has at most 32
 // subnets.
-pub fn all_ranks(numbers: &[u16], starts: &[u32], subnets: u16) -> [u16; 32]
-    ensures { λ x. ⌜ ((c : Card) → Loaded c (now (numbers .entry)) (now (starts .entry)) → subnets ≡ length (c .subnets) → length (c .subnets) ≤ 32 → Ranked c x) ⌝ }
+pub fn all_ordinals(numbers: &[u16], starts: &[u32], subnets: u16) -> [u16; MOST_SUBNETS]
+    ensures { λ x. ⌜ ((c : Card) → Loaded c (now (numbers .entry)) (now (starts .entry)) → subnets ≡ length (c .subnets) → length (c .subnets) ≤ 32 → AllOrdinals c x) ⌝ }
 {
-    let mut ranks = [0; 32];
+    let mut ordinals = [0; MOST_SUBNETS];
     let mut j = 0;
     while j < subnets {
         if 32 <= j {
-            return ranks;
+            return ordinals;
         }
         let i = parent(numbers, subnet_row(starts, j));
-        ranks[j as usize] = rank(numbers, starts, subnets, i, j);
+        ordinals[j as usize] = ordinal(numbers, starts, subnets, i, j);
         j += 1;
     }
-    ranks
+    ordinals
 }
 
-fn rank_at(ranks: &[u16], j: u16) -> u16
-    ensures { λ x. ⌜ x ≡ getD (now (ranks .entry)) j 0 ⌝ }
+fn ordinal_at(ordinals: &[u16], j: u16) -> u16
+    ensures { λ x. ⌜ x ≡ getD (now (ordinals .entry)) j 0 ⌝ }
 {
-    if (j as usize) < ranks.len() {
-        return ranks[j as usize];
+    if (j as usize) < ordinals.len() {
+        return ordinals[j as usize];
     }
     0
 }
@@ -75,32 +77,32 @@ fn is_kth(
     numbers: &[u16],
     starts: &[u32],
     subnets: u16,
-    ranks: &[u16],
+    ordinals: &[u16],
     i: u16,
     k: u16,
     j: u16,
 ) -> bool
-    ensures { λ x. ⌜ ((c : Card) → Loaded c (now (numbers .entry)) (now (starts .entry)) → subnets ≡ length (c .subnets) → Ranked c (now (ranks .entry)) → x ≡ isChild c i j && eqb (rank c i j) k) ⌝ }
+    ensures { λ x. ⌜ ((c : Card) → Loaded c (now (numbers .entry)) (now (starts .entry)) → subnets ≡ length (c .subnets) → AllOrdinals c (now (ordinals .entry)) → x ≡ isChild c i j && eqb (ordinal c i j) k) ⌝ }
 {
     if !is_child(numbers, starts, subnets, i, j) {
         return false;
     }
-    rank_at(ranks, j) == k
+    ordinal_at(ordinals, j) == k
 }
 
 pub fn kth_child(
     numbers: &[u16],
     starts: &[u32],
     subnets: u16,
-    ranks: &[u16],
+    ordinals: &[u16],
     i: u16,
     k: u16,
 ) -> u16
-    ensures { λ x. ⌜ ((c : Card) → Loaded c (now (numbers .entry)) (now (starts .entry)) → subnets ≡ length (c .subnets) → Ranked c (now (ranks .entry)) → k < length (children c i) → x ≡ child c i k) ⌝ }
+    ensures { λ x. ⌜ ((c : Card) → Loaded c (now (numbers .entry)) (now (starts .entry)) → subnets ≡ length (c .subnets) → AllOrdinals c (now (ordinals .entry)) → k < length (children c i) → x ≡ child c i k) ⌝ }
 {
     let mut j = 0;
     while j < subnets {
-        if is_kth(numbers, starts, subnets, ranks, i, k, j) {
+        if is_kth(numbers, starts, subnets, ordinals, i, k, j) {
             return j;
         }
         j += 1;
@@ -113,17 +115,17 @@ pub fn both_kth(
     numbers: &[u16],
     starts: &[u32],
     subnets: u16,
-    ranks: &[u16],
+    ordinals: &[u16],
     r: u16,
     s: u16,
     a: u16,
     b: u16,
 ) -> bool
-    ensures { λ x. ⌜ ((c : Card) → Loaded c (now (numbers .entry)) (now (starts .entry)) → subnets ≡ length (c .subnets) → Ranked c (now (ranks .entry)) → length (children c r) ≡ length (children c s) → x ≡ bothKth c r s a b) ⌝ }
+    ensures { λ x. ⌜ ((c : Card) → Loaded c (now (numbers .entry)) (now (starts .entry)) → subnets ≡ length (c .subnets) → AllOrdinals c (now (ordinals .entry)) → length (children c r) ≡ length (children c s) → x ≡ bothKth c r s a b) ⌝ }
 {
     if !is_child(numbers, starts, subnets, r, a) {
         return false;
     }
-    let k = rank_at(ranks, a);
-    is_kth(numbers, starts, subnets, ranks, s, k, b)
+    let k = ordinal_at(ordinals, a);
+    is_kth(numbers, starts, subnets, ordinals, s, k, b)
 }

@@ -1,6 +1,6 @@
 // Layer 2: the conditions on a card's hierarchy. specs/ says what they are, what the check answers and what the writer leaves.
 
-pub mod arcs;
+mod arcs;
 pub mod check;
 mod children;
 mod interfaces;

@@ -1,11 +1,11 @@
 // Fault 16: a subnet that is unlike a lower one of its type.
 use crate::CardFault;
 use crate::Finding;
-use crate::arcs::arc_at;
-use crate::children::all_ranks;
+use crate::children::all_ordinals;
 use crate::children::both_kth;
 use crate::children::kth_child;
-use crate::children::rank;
+use crate::children::ordinal;
+use card::tables::arc_at;
 use card::tables::arc_count;
 use card::tables::capacity;
 use card::tables::first_transition;
@@ -26,9 +26,9 @@ ghost use Rattle.card.specs.Card.{Card, Arc, subnetAt, firstTransition};
 ghost use Rattle.card.specs.Index.{Loaded, Indexed, Lists, ArcThere, transitionRow};
 ghost use Rattle.card.specs.Writing.{subnetBit};
 ghost use Rattle.hierarchy.specs.Conditions.{children};
-ghost use Rattle.hierarchy.specs.Ranks.{Ranked};
+ghost use Rattle.hierarchy.specs.inner.Ordinals.{AllOrdinals};
 ghost use Rattle.hierarchy.specs.Check.{alikeArcs, alikeTransitions, sameType, alike, likeLower, faultUnless, findingOf};
-ghost use Rattle.hierarchy.specs.Likeness.{placesAlike, childrenAlike, transitionsAlike, bothKth};
+ghost use Rattle.hierarchy.specs.inner.Likeness.{placesAlike, childrenAlike, transitionsAlike, bothKth};
 ghost use Rattle.hierarchy.specs.declared.CardFault.the-variants.{Unlike};
 
 fn same_type(numbers: &[u16], starts: &[u32], r: u16, s: u16) -> bool
@@ -70,20 +70,20 @@ fn alike_children(
     numbers: &[u16],
     starts: &[u32],
     subnets: u16,
-    ranks: &[u16],
+    ordinals: &[u16],
     r: u16,
     s: u16,
 ) -> bool
-    ensures { λ x. ⌜ ((c : Card) → Loaded c (now (numbers .entry)) (now (starts .entry)) → subnets ≡ length (c .subnets) → Ranked c (now (ranks .entry)) → x ≡ childrenAlike c r s) ⌝ }
+    ensures { λ x. ⌜ ((c : Card) → Loaded c (now (numbers .entry)) (now (starts .entry)) → subnets ≡ length (c .subnets) → AllOrdinals c (now (ordinals .entry)) → x ≡ childrenAlike c r s) ⌝ }
 {
-    let count = rank(numbers, starts, subnets, r, subnets);
-    if count != rank(numbers, starts, subnets, s, subnets) {
+    let count = ordinal(numbers, starts, subnets, r, subnets);
+    if count != ordinal(numbers, starts, subnets, s, subnets) {
         return false;
     }
     let mut k = 0;
     while k < count {
-        let lower = kth_child(numbers, starts, subnets, ranks, r, k);
-        let upper = kth_child(numbers, starts, subnets, ranks, s, k);
+        let lower = kth_child(numbers, starts, subnets, ordinals, r, k);
+        let upper = kth_child(numbers, starts, subnets, ordinals, s, k);
         if !same_type(numbers, starts, lower, upper) {
             return false;
         }
@@ -97,19 +97,19 @@ fn alike_subnets(
     numbers: &[u16],
     starts: &[u32],
     subnets: u16,
-    ranks: &[u16],
+    ordinals: &[u16],
     r: u16,
     s: u16,
     a: u16,
     b: u16,
 ) -> bool
-    ensures { λ x. ⌜ ((c : Card) → Loaded c (now (numbers .entry)) (now (starts .entry)) → subnets ≡ length (c .subnets) → Ranked c (now (ranks .entry)) → length (children c r) ≡ length (children c s) → x ≡ eqb a r && eqb b s || bothKth c r s a b) ⌝ }
+    ensures { λ x. ⌜ ((c : Card) → Loaded c (now (numbers .entry)) (now (starts .entry)) → subnets ≡ length (c .subnets) → AllOrdinals c (now (ordinals .entry)) → length (children c r) ≡ length (children c s) → x ≡ eqb a r && eqb b s || bothKth c r s a b) ⌝ }
 {
     if a != r {
-        return both_kth(numbers, starts, subnets, ranks, r, s, a, b);
+        return both_kth(numbers, starts, subnets, ordinals, r, s, a, b);
     }
     if b != s {
-        return both_kth(numbers, starts, subnets, ranks, r, s, a, b);
+        return both_kth(numbers, starts, subnets, ordinals, r, s, a, b);
     }
     true
 }
@@ -119,14 +119,14 @@ fn alike_arc(
     numbers: &[u16],
     starts: &[u32],
     subnets: u16,
-    ranks: &[u16],
+    ordinals: &[u16],
     r: u16,
     s: u16,
     t: u32,
     u: u32,
     j: u16,
 ) -> bool
-    ensures { λ x. ⌜ ((c : Card) → Loaded c (now (numbers .entry)) (now (starts .entry)) → subnets ≡ length (c .subnets) → Ranked c (now (ranks .entry)) → length (children c r) ≡ length (children c s) → (a b : Arc) → ArcThere (now (numbers .entry)) t j a → ArcThere (now (numbers .entry)) u j b → x ≡ alikeArcs c r s a b) ⌝ }
+    ensures { λ x. ⌜ ((c : Card) → Loaded c (now (numbers .entry)) (now (starts .entry)) → subnets ≡ length (c .subnets) → AllOrdinals c (now (ordinals .entry)) → length (children c r) ≡ length (children c s) → (a b : Arc) → ArcThere (now (numbers .entry)) t j a → ArcThere (now (numbers .entry)) u j b → x ≡ alikeArcs c r s a b) ⌝ }
 {
     let a = arc_at(numbers, t, j);
     let b = arc_at(numbers, u, j);
@@ -139,7 +139,7 @@ fn alike_arc(
     if a.place != b.place {
         return false;
     }
-    alike_subnets(numbers, starts, subnets, ranks, r, s, a.subnet, b.subnet)
+    alike_subnets(numbers, starts, subnets, ordinals, r, s, a.subnet, b.subnet)
 }
 
 // Where transition k of subnet s begins. Tables that are no card's may start it past all numbers.
@@ -158,13 +158,13 @@ fn alike_arcs(
     numbers: &[u16],
     starts: &[u32],
     subnets: u16,
-    ranks: &[u16],
+    ordinals: &[u16],
     r: u16,
     s: u16,
     t: u32,
     u: u32,
 ) -> bool
-    ensures { λ x. ⌜ ((c : Card) → Loaded c (now (numbers .entry)) (now (starts .entry)) → subnets ≡ length (c .subnets) → Ranked c (now (ranks .entry)) → length (children c r) ≡ length (children c s) → (v w : ℕ) → Lists c r v → Lists c s w → t ≡ transitionRow c r v → u ≡ transitionRow c s w → x ≡ alikeTransitions c r s v w) ⌝ }
+    ensures { λ x. ⌜ ((c : Card) → Loaded c (now (numbers .entry)) (now (starts .entry)) → subnets ≡ length (c .subnets) → AllOrdinals c (now (ordinals .entry)) → length (children c r) ≡ length (children c s) → (v w : ℕ) → Lists c r v → Lists c s w → t ≡ transitionRow c r v → u ≡ transitionRow c s w → x ≡ alikeTransitions c r s v w) ⌝ }
 {
     let arcs = arc_count(numbers, t);
     if arcs != arc_count(numbers, u) {
@@ -172,7 +172,7 @@ fn alike_arcs(
     }
     let mut j = 0;
     while j < arcs {
-        if !alike_arc(numbers, starts, subnets, ranks, r, s, t, u, j) {
+        if !alike_arc(numbers, starts, subnets, ordinals, r, s, t, u, j) {
             return false;
         }
         j += 1;
@@ -185,11 +185,11 @@ fn alike_transitions(
     numbers: &[u16],
     starts: &[u32],
     subnets: u16,
-    ranks: &[u16],
+    ordinals: &[u16],
     r: u16,
     s: u16,
 ) -> bool
-    ensures { λ x. ⌜ ((c : Card) → Loaded c (now (numbers .entry)) (now (starts .entry)) → subnets ≡ length (c .subnets) → Ranked c (now (ranks .entry)) → length (children c r) ≡ length (children c s) → r < length (c .subnets) → s < length (c .subnets) → x ≡ transitionsAlike c r s) ⌝ }
+    ensures { λ x. ⌜ ((c : Card) → Loaded c (now (numbers .entry)) (now (starts .entry)) → subnets ≡ length (c .subnets) → AllOrdinals c (now (ordinals .entry)) → length (children c r) ≡ length (children c s) → r < length (c .subnets) → s < length (c .subnets) → x ≡ transitionsAlike c r s) ⌝ }
 {
     let transitions = transition_count(numbers, subnet_row(starts, r));
     if transitions != transition_count(numbers, subnet_row(starts, s)) {
@@ -199,7 +199,7 @@ fn alike_transitions(
     while k < transitions {
         let t = row_of_transition(starts, r, k);
         let u = row_of_transition(starts, s, k);
-        if !alike_arcs(numbers, starts, subnets, ranks, r, s, t, u) {
+        if !alike_arcs(numbers, starts, subnets, ordinals, r, s, t, u) {
             return false;
         }
         k += 1;
@@ -207,27 +207,27 @@ fn alike_transitions(
     true
 }
 
-fn alike(numbers: &[u16], starts: &[u32], subnets: u16, ranks: &[u16], r: u16, s: u16) -> bool
-    ensures { λ x. ⌜ ((c : Card) → Loaded c (now (numbers .entry)) (now (starts .entry)) → subnets ≡ length (c .subnets) → Ranked c (now (ranks .entry)) → r < length (c .subnets) → s < length (c .subnets) → x ≡ alike c r s) ⌝ }
+fn alike(numbers: &[u16], starts: &[u32], subnets: u16, ordinals: &[u16], r: u16, s: u16) -> bool
+    ensures { λ x. ⌜ ((c : Card) → Loaded c (now (numbers .entry)) (now (starts .entry)) → subnets ≡ length (c .subnets) → AllOrdinals c (now (ordinals .entry)) → r < length (c .subnets) → s < length (c .subnets) → x ≡ alike c r s) ⌝ }
 {
     if !alike_places(numbers, starts, r, s) {
         return false;
     }
-    if !alike_children(numbers, starts, subnets, ranks, r, s) {
+    if !alike_children(numbers, starts, subnets, ordinals, r, s) {
         return false;
     }
-    alike_transitions(numbers, starts, subnets, ranks, r, s)
+    alike_transitions(numbers, starts, subnets, ordinals, r, s)
 }
 
 // Whether subnet s is like each lower one of its type, where each of those is like each one below it: then it is enough to compare s with
 // the lowest of its type.
-fn like_lower(numbers: &[u16], starts: &[u32], subnets: u16, ranks: &[u16], s: u16) -> bool
-    ensures { λ x. ⌜ ((c : Card) → Loaded c (now (numbers .entry)) (now (starts .entry)) → subnets ≡ length (c .subnets) → Ranked c (now (ranks .entry)) → s < length (c .subnets) → ((r : ℕ) → r < s → likeLower c r ≡ true) → x ≡ likeLower c s) ⌝ }
+fn like_lower(numbers: &[u16], starts: &[u32], subnets: u16, ordinals: &[u16], s: u16) -> bool
+    ensures { λ x. ⌜ ((c : Card) → Loaded c (now (numbers .entry)) (now (starts .entry)) → subnets ≡ length (c .subnets) → AllOrdinals c (now (ordinals .entry)) → s < length (c .subnets) → ((r : ℕ) → r < s → likeLower c r ≡ true) → x ≡ likeLower c s) ⌝ }
 {
     let mut r = 0;
     while r < s {
         if same_type(numbers, starts, r, s) {
-            return alike(numbers, starts, subnets, ranks, r, s);
+            return alike(numbers, starts, subnets, ordinals, r, s);
         }
         r += 1;
     }
@@ -238,10 +238,10 @@ fn like_lower(numbers: &[u16], starts: &[u32], subnets: u16, ranks: &[u16], s: u
 pub fn types_fault(numbers: &[u16], starts: &[u32], subnets: u16) -> Finding
     ensures { λ r. ⌜ ((c : Card) → Loaded c (now (numbers .entry)) (now (starts .entry)) → subnets ≡ length (c .subnets) → length (c .subnets) ≤ 32 → findingOf r ≡ firstOf 0 (length (c .subnets)) (λ s. faultUnless (subnetBit c s) (likeLower c s) Unlike)) ⌝ }
 {
-    let ranks = all_ranks(numbers, starts, subnets);
+    let ordinals = all_ordinals(numbers, starts, subnets);
     let mut s = 0;
     while s < subnets {
-        if !like_lower(numbers, starts, subnets, &ranks, s) {
+        if !like_lower(numbers, starts, subnets, &ordinals, s) {
             return Finding::Fault(CardFault::Unlike, subnet_bit(starts, s) as usize);
         }
         s += 1;

@@ -13,17 +13,18 @@ fn spell_refused(a: SpellAnswer) -> Written
 {
     match a {
         SpellAnswer::Refused(f, at) => Written::Refused(CardFault::Format(f), at),
-        SpellAnswer::Whole(n) => Written::Short(n),
+        SpellAnswer::Whole(_n) => Written::Wrote(0),
     }
 }
 
-// A refusal of the check, as one of writing.
+// The check's answer as that of a call that has written nothing: a refusal, or no byte. Two wrong ones that this rules out: one that tells of
+// bytes, and one that tells another fault.
 pub fn check_refused(a: Answer) -> Written
     ensures { λ r. ⌜ CheckRefused a r ⌝ }
 {
     match a {
         Answer::Refused(f, at) => Written::Refused(f, at),
-        Answer::Accepted(_s, _p, t) => Written::Short(t),
+        Answer::Accepted(_s, _p, _t) => Written::Wrote(0),
     }
 }
 

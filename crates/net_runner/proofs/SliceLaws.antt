@@ -3,18 +3,18 @@ use Prim.Native.Nat.{ℕ, zero, suc, _+_, _≤_, _<_}
 use mathlib.Core.Path.{_≡_, refl, sym, ap, subst, _∙_}
 use mathlib.Core.Logic.{_⊎_, inl, inr}
 use mathlib.Core.Bool.{Bool, true, false, _&&_, false≢true}
-use mathlib.Core.List.{List, [], _∷_, _++_, map}
+use mathlib.Core.List.{List, [], _∷_, map}
 use mathlib.Core.Option.{Option, none, some, Option·some-ne-none}
 use native.Mathlib.Omega.{arith}
 use lib.ListN.{length, getD, set, take, drop, replicate, length-append, length-drop, length-replicate, List·getD-map}
-use lib.Seq.{take-at, take-all, length-take-le, getD-take, getD-set-same, getD-set-other, ext-getD}
+use lib.Seq.{take-all, length-take-le, getD-take, getD-set-same, getD-set-other, ext-getD}
 use lib.Dec.{eqb}
-use borrow.Author.Tests.{eqb-true, eqb-false, eq-eqb, ne-eqb, le-leb}
+use borrow.Author.Tests.{eqb-true, eqb-false, eq-eqb, ne-eqb}
 use Rattle.card.specs.Finite.{someUnless, _otherwise_}
 use Rattle.card.specs.Card.{Card}
 use Rattle.card.specs.Spelling.{putInto}
 use Rattle.card.proofs.BitLaws.{lt-or-ge}
-use Rattle.card.proofs.Copy.{Copying, copy-start, copy-more, copy-done}
+use Rattle.card.proofs.Copy.{Copying, copy-start, copy-more, copy-done, put-is, put-front}
 use Rattle.card.proofs.Sums.{map-length}
 use Rattle.hierarchy.specs.Conditions.{Meets}
 use Rattle.hierarchy.specs.Judgement.{Judgement, accepted, refused, judge}
@@ -42,14 +42,6 @@ use Rattle.runners.proofs.TransferLaws.{slot-at}
 use Rattle.net_runner.specs.Told.{rowTold, IsTold}
 use Rattle.net_runner.specs.Slices.{IsCalled, Slices, slices, stateOf, slicesOf, sized, validOn, freshIn, freshOn, calledIn, flatOn, subnetOn}
 use Rattle.net_runner.specs.Copies.{Fits, Lends, takenBack, handedBack, tooLong}
-
--- numbers copied to the front of an array
-put-is : (xs ys : List ℕ) → length xs ≤ length ys → putInto xs ys ≡ xs ++ drop (length xs) ys
-unfolding putInto
-put-is xs ys l = rw (le-leb (length xs) (length ys) l)
-
-pub front : (xs ys m : List ℕ) → length xs ≤ length ys → m ≡ putInto xs ys → take (length xs) m ≡ xs
-front xs ys m l e = ap (take (length xs)) (e ∙ put-is xs ys l) ∙ take-at xs (drop (length xs) ys) (length xs) refl
 
 -- transfers of an array
 abbrev pub SlotsTo : (ts : List ℕ) → (k : ℕ) → List Slot → Type 0
@@ -97,7 +89,7 @@ module _ (want out : List ℕ) (e : length want ≡ length out) where
       let z = ap length (put-is want out (omega arith)) ∙ length-append want (drop (length want) out) in
       copy-done want out now i c (omega arith)
       ∙ sym (take-all (length want) (putInto want out) (omega (arith, z, length-drop (length want) out)))
-      ∙ front want out (putInto want out) (omega arith) refl
+      ∙ put-front want out (putInto want out) (omega arith) refl
 
 -- the lent state that slices make
 pub lends : (ms ts ds m d : List ℕ) (s : List Slot) → Fits (slices ms ts ds) → m ≡ putInto ms (replicate 255 0) → take (length ts) (map (λ x. x .transfer) s) ≡ map transferOf ts → d ≡ putInto ds (replicate 63 0)
@@ -105,7 +97,7 @@ pub lends : (ms ts ds m d : List ℕ) (s : List Slot) → Fits (slices ms ts ds)
 lends ms ts ds m d s f em es ed =
     record {
       state = same (take (length ms) m) (take (length ts) (map (λ (x : Slot). x .transfer) s)) (take (length ds) d)
-          (front ms (replicate 255 0) m (omega (arith, f .markings, length-replicate {A = ℕ} 255 0)) em) es (front ds (replicate 63 0) d (omega (arith, f .degrees, length-replicate {A = ℕ} 63 0)) ed);
+          (put-front ms (replicate 255 0) m (omega (arith, f .markings, length-replicate {A = ℕ} 255 0)) em) es (put-front ds (replicate 63 0) d (omega (arith, f .degrees, length-replicate {A = ℕ} 63 0)) ed);
       places = refl;
       transitions = refl;
       signals = refl;

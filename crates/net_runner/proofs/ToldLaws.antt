@@ -14,7 +14,7 @@ use Rattle.hierarchy.specs.declared.CardFault.{CardFault}
 use Rattle.hierarchy.specs.declared.Answer.{Answer}
 use Rattle.hierarchy.specs.declared.Answer.the-variants.{Accepted, Refused}
 use Rattle.hierarchy.specs.declared.check.CheckedCard.{CheckedCard}
-use Rattle.hierarchy.proofs.Accepted.{accepted-meets}
+use Rattle.hierarchy.proofs.Accepted.{accepted-meets, accepted-loaded}
 use Rattle.flattening.specs.Flattening.{flatten, flatPlaceRow}
 use Rattle.runners.specs.Numbers.{RowOutcome, refusal}
 use Rattle.runners.specs.Calls.{freshLent, freshOf, freshCall}
@@ -58,16 +58,16 @@ counts-refused (refused n b) a f at counts h e = refl
 counts-refused (accepted c) a f at counts h e = no-both _ _ _ _ _ (sym (sym (ap checkOutcome e) ∙ h))
 
 pub counts-accepted : (card : List ℕ) (k : CheckedCard) → IsChecked (judge card) k → (s p t g : ℕ) (counts : List ℕ) → k .answer ≡ Accepted s p t → g ≡ getD (k .numbers) 2 0 → s ∷ p ∷ t ∷ g ∷ [] ≡ countsTold (judge card) counts
-counts-accepted card k h s p t g counts a eg = go (judge card) h
+counts-accepted card k h s p t g counts a eg = go (judge card) refl h
   where
-    go : (j : Judgement) → IsChecked j k → s ∷ p ∷ t ∷ g ∷ [] ≡ countsTold j counts
-    go (refused n b) w = no-both _ _ _ _ _ (sym (ap checkOutcome a) ∙ w .answer)
-    go (accepted c) w =
+    go : (j : Judgement) → judge card ≡ j → IsChecked j k → s ∷ p ∷ t ∷ g ∷ [] ≡ countsTold j counts
+    go (refused n b) i w = no-both _ _ _ _ _ (sym (ap checkOutcome a) ∙ w .answer)
+    go (accepted c) i w =
         let q : CheckOutcome.accepted s p t ≡ CheckOutcome.accepted (length (c .subnets)) (length (c .places)) (length (c .transitions)) = sym (ap checkOutcome a) ∙ w .answer in
         let es : s ≡ length (c .subnets) = cc in
         let ep : p ≡ length (c .places) = cc in
         let et : t ≡ length (c .transitions) = cc in
-        let ez : g ≡ c .signals = eg ∙ w .tables .laid .signals in
+        let ez : g ≡ c .signals = eg ∙ accepted-loaded c (accepted-meets card c i) k w .laid .signals in
         rw (es, ep, et, ez)
 
 -- the fresh state's answer

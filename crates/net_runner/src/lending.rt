@@ -1,5 +1,8 @@
 // A state in lent slices: taken into the runners' own state, and handed back where a call was answered with ok.
 use crate::told::refuse;
+use card::MOST_PLACES;
+use card::MOST_SIGNALS;
+use card::MOST_TRANSITIONS;
 use hierarchy::Answer;
 use hierarchy::check::check;
 use runners::Refusal;
@@ -26,13 +29,13 @@ ghost use Rattle.net_runner.specs.Told.{rowTold, IsTold};
 ghost use Rattle.net_runner.specs.Slices.{slices, IsCalled};
 ghost use Rattle.net_runner.specs.Copies.{Fits, Lends, handedBack, tooLong};
 
-fn load_markings(markings: &[u32]) -> [u32; 255]
+fn load_markings(markings: &[u32]) -> [u32; MOST_PLACES]
     ensures { λ r. ⌜ (length (now (markings .entry)) ≤ 255 → r ≡ putInto (now (markings .entry)) (replicate 255 0)) ⌝ }
 {
-    let mut all = [0; 255];
+    let mut all = [0; MOST_PLACES];
     let mut i: usize = 0;
     while i < markings.len() {
-        if 255 <= i {
+        if MOST_PLACES <= i {
             return all;
         }
         all[i] = markings[i];
@@ -41,13 +44,13 @@ fn load_markings(markings: &[u32]) -> [u32; 255]
     all
 }
 
-fn load_degrees(degrees: &[u16]) -> [u16; 63]
+fn load_degrees(degrees: &[u16]) -> [u16; MOST_SIGNALS]
     ensures { λ r. ⌜ (length (now (degrees .entry)) ≤ 63 → r ≡ putInto (now (degrees .entry)) (replicate 63 0)) ⌝ }
 {
-    let mut all = [0; 63];
+    let mut all = [0; MOST_SIGNALS];
     let mut i: usize = 0;
     while i < degrees.len() {
-        if 63 <= i {
+        if MOST_SIGNALS <= i {
             return all;
         }
         all[i] = degrees[i];
@@ -56,15 +59,15 @@ fn load_degrees(degrees: &[u16]) -> [u16; 63]
     all
 }
 
-fn load_slots(transfers: &[u16]) -> [Slot; 255]
+fn load_slots(transfers: &[u16]) -> [Slot; MOST_TRANSITIONS]
     ensures { λ r. ⌜ (length (now (transfers .entry)) ≤ 255 → take (length (now (transfers .entry))) (map (λ x. x .transfer) r) ≡ map transferOf (now (transfers .entry))) ⌝ }
 {
     let mut all = [Slot {
         transfer: Transfer::Idle,
-    }; 255];
+    }; MOST_TRANSITIONS];
     let mut i: usize = 0;
     while i < transfers.len() {
-        if 255 <= i {
+        if MOST_TRANSITIONS <= i {
             return all;
         }
         let transfer = transfer_of(transfers[i]);
@@ -78,13 +81,13 @@ fn load_slots(transfers: &[u16]) -> [Slot; 255]
 pub fn fits(markings: &[u32], transfers: &[u16], degrees: &[u16]) -> bool
     ensures { λ r. ⌜ (r ≡ true) ↔ Fits (slices (now (markings .entry)) (now (transfers .entry)) (now (degrees .entry))) ⌝ }
 {
-    if 255 < markings.len() {
+    if MOST_PLACES < markings.len() {
         return false;
     }
-    if 255 < transfers.len() {
+    if MOST_TRANSITIONS < transfers.len() {
         return false;
     }
-    degrees.len() <= 63
+    degrees.len() <= MOST_SIGNALS
 }
 
 // The state that slices hold.
@@ -109,7 +112,7 @@ fn put_markings(state: State, out: &mut [u32])
 {
     let mut i: usize = 0;
     while i < out.len() {
-        if 255 <= i {
+        if MOST_PLACES <= i {
             return;
         }
         out[i] = state.markings[i];
@@ -122,7 +125,7 @@ fn put_degrees(state: State, out: &mut [u16])
 {
     let mut i: usize = 0;
     while i < out.len() {
-        if 63 <= i {
+        if MOST_SIGNALS <= i {
             return;
         }
         out[i] = state.degrees[i];
@@ -135,7 +138,7 @@ fn put_transfers(state: State, out: &mut [u16])
 {
     let mut i: usize = 0;
     while i < out.len() {
-        if 255 <= i {
+        if MOST_TRANSITIONS <= i {
             return;
         }
         let slot = state.slots[i];

@@ -7,7 +7,7 @@ use Rattle.card.specs.Bits.{bit, bitField, pack}
 use Rattle.card.specs.Card.{firstPlace, firstTransition, firstArc}
 use Rattle.card.specs.Format.{each, grow, size}
 use Rattle.card.specs.Grammar.{header, subnet, place, transition, arc, wholeTransition, wholeSubnet, card}
-use Rattle.card.specs.Reading.{read, excess, readCard}
+use Rattle.card.specs.Parsing.{read, excess, readCard}
 use Rattle.card.specs.Writing.{fields, encode, subnetBit, transitionBit, arcBit}
 use Rattle.hierarchy.specs.Conditions.{children}
 use Rattle.hierarchy.specs.Check.{seen, directed, weighted, single, hasUnit, hasInterface, alike, likeLower, arcFault, transitionFault, subnetFault, check}

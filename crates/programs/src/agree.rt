@@ -3,6 +3,7 @@ use crate::file::row_bytes;
 use crate::file::row_of;
 use crate::same::same_reply;
 use crate::same::same_state;
+use card::MOST_SUBNETS;
 use hierarchy::Answer;
 use runners::State;
 use runners::flat_runner::flat_row;
@@ -48,13 +49,13 @@ fn both_rows(card: &[u8], order: &[u16], row: &[u16], flat: State, subnet: State
 }
 
 // The numbers of an order's bytes, 32 at most, and zeros behind them.
-fn order_of(bytes: &[u8]) -> [u16; 32]
+fn order_of(bytes: &[u8]) -> [u16; MOST_SUBNETS]
     ensures { λ r. ⌜ (length (now (bytes .entry)) ≤ 32 → r ≡ putInto (now (bytes .entry)) (replicate 32 0)) ⌝ }
 {
-    let mut order = [0; 32];
+    let mut order = [0; MOST_SUBNETS];
     let mut i: usize = 0;
     while i < bytes.len() {
-        if 32 <= i {
+        if MOST_SUBNETS <= i {
             return order;
         }
         order[i] = bytes[i] as u16;

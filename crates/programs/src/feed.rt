@@ -1,5 +1,6 @@
 // Rows of a file on a card that is loaded once. On the net of a flat card they are answered as the flat runner answers them.
 use crate::file::row_of;
+use card::MOST_SIGNALS;
 use runners::Net;
 use runners::RowAnswer;
 use runners::State;
@@ -20,16 +21,16 @@ fn without_row(net: Net, state: State) -> RowAnswer
     ensures { λ r. ⌜ ((j : Judgement) → IsNet j net → IsRow (callOn (inOrder (0 ∷ [])) j state (λ c. none)) r) ⌝ }
 {
     let order = [0];
-    let row = [0; 64];
+    let row = [0; MOST_SIGNALS + 1];
     net_row(net, &order, state, &row)
 }
 
 // The call with the first degrees.
-fn with_row(net: Net, state: State, degrees: [u16; 63], signals: u16) -> RowAnswer
+fn with_row(net: Net, state: State, degrees: [u16; MOST_SIGNALS], signals: u16) -> RowAnswer
     ensures { λ r. ⌜ ((j : Judgement) → IsNet j net → signals ≤ 63 → IsRow (called (inOrder (0 ∷ [])) j state (take signals degrees)) r) ⌝ }
 {
     let n = signals as usize;
-    if 63 < n {
+    if MOST_SIGNALS < n {
         return without_row(net, state);
     }
     let order = [0];

@@ -1,4 +1,5 @@
 // A row of a file: 10 bits a degree, zeros to the byte.
+use card::MOST_SIGNALS;
 use card::fields::field_at;
 ghost use mathlib.Core.Path.{_≡_};
 ghost use Prim.Native.Nat.{_-_, _*_, _≤_, _<_};
@@ -15,7 +16,7 @@ ghost use Rattle.programs.specs.Files.{fileRow};
 // A row, where the bytes hold one: its degrees, and zeros behind them.
 pub struct FileRow {
     pub whole: bool,
-    pub degrees: [u16; 63],
+    pub degrees: [u16; MOST_SIGNALS],
 }
 
 // How many bytes a row has. Two wrong counts that this rules out: one that cuts the last byte off, and one that takes 16 bits a degree.
@@ -30,15 +31,15 @@ fn no_row() -> FileRow
 {
     FileRow {
         whole: false,
-        degrees: [0; 63],
+        degrees: [0; MOST_SIGNALS],
     }
 }
 
-fn degrees_of(bytes: &[u8], signals: u16) -> [u16; 63]
+fn degrees_of(bytes: &[u8], signals: u16) -> [u16; MOST_SIGNALS]
     requires { ⌜ signals ≤ 63 ⌝ }
     ensures { λ r. ⌜ r ≡ table 0 signals (λ g. fieldAt (now (bytes .entry)) (10 * g) 10) ++ replicate (63 - signals) 0 ⌝ }
 {
-    let mut degrees = [0; 63];
+    let mut degrees = [0; MOST_SIGNALS];
     let mut g = 0;
     while g < signals {
         degrees[g as usize] = field_at(bytes, 10 * g as usize, 10);

@@ -1,4 +1,6 @@
 // The line of a reply, and that of a refused card, put together in a buffer.
+use card::MOST_PLACES;
+use card::MOST_TRANSITIONS;
 use hierarchy::CardFault;
 use hierarchy::fault_number;
 use runners::Refusal;
@@ -90,7 +92,7 @@ fn put_markings(out: &mut [u8], at: usize, state: State) -> usize
     let count = state.places;
     let mut next = at;
     let mut i = 0;
-    while i < 255 {
+    while i < MOST_PLACES {
         if count <= i {
             return next;
         }
@@ -106,7 +108,7 @@ fn put_transfers(out: &mut [u8], at: usize, state: State) -> usize
     let count = state.transitions;
     let mut next = at;
     let mut i = 0;
-    while i < 255 {
+    while i < MOST_TRANSITIONS {
         if count <= i {
             return next;
         }

@@ -1,4 +1,7 @@
 // Whether two replies and two states are equal.
+use card::MOST_PLACES;
+use card::MOST_SIGNALS;
+use card::MOST_TRANSITIONS;
 use hierarchy::fault_number;
 use runners::Refusal;
 use runners::Reply;
@@ -138,12 +141,12 @@ fn progress_code(x: Transfer) -> u32
 fn same_transfers(a: State, b: State) -> bool
     ensures { λ r. ⌜ (r ≡ true) ↔ (view a .transfers ≡ view b .transfers) ⌝ }
 {
-    let n = clamped(a.transitions, 255);
-    if clamped(b.transitions, 255) != n {
+    let n = clamped(a.transitions, MOST_TRANSITIONS);
+    if clamped(b.transitions, MOST_TRANSITIONS) != n {
         return false;
     }
     let mut t: usize = 0;
-    while t < 255 {
+    while t < MOST_TRANSITIONS {
         if n <= t {
             return true;
         }
@@ -166,15 +169,15 @@ pub fn same_state(a: State, b: State) -> bool
 {
     let p = a.markings;
     let q = b.markings;
-    let m = clamped(a.places, 255);
-    let n = clamped(b.places, 255);
+    let m = clamped(a.places, MOST_PLACES);
+    let n = clamped(b.places, MOST_PLACES);
     if !same_markings(&p[..m], &q[..n]) {
         return false;
     }
     let d = a.degrees;
     let e = b.degrees;
-    let g = clamped(a.signals, 63);
-    let h = clamped(b.signals, 63);
+    let g = clamped(a.signals, MOST_SIGNALS);
+    let h = clamped(b.signals, MOST_SIGNALS);
     if !same_degrees(&d[..g], &e[..h]) {
         return false;
     }

@@ -14,8 +14,8 @@ use Rattle.card.specs.Card.{Card}
 use Rattle.card.specs.Format.{Format, done, get}
 use Rattle.card.specs.Grammar.{card}
 use Rattle.card.specs.Numbers.{number as formatNumber}
-use Rattle.card.specs.Reading.{Reading, unlessFault, read, excess, closed, ended, readCard}
-use Rattle.card.specs.Reading
+use Rattle.card.specs.Parsing.{Parsing, unlessFault, read, excess, closed, ended, readCard}
+use Rattle.card.specs.Parsing
 use Rattle.card.specs.Spelling.{putInto}
 use Rattle.card.specs.Writing.{encode}
 use Rattle.card.specs.declared.FormatFault.{FormatFault}
@@ -23,7 +23,7 @@ use Rattle.card.specs.declared.FormatFault.the-variants.{Truncated, BadVersion,
 use Rattle.card.proofs.Length.{encode-few}
 use Rattle.hierarchy.specs.Check.{Found, check}
 use Rattle.hierarchy.specs.Numbers.{number, checkOutcome, writeOutcome}
-use Rattle.hierarchy.specs.Judgement.{Judgement, accepted, refused, checked, judged, judge, outcomeOf, Tables, IsChecked}
+use Rattle.hierarchy.specs.Judgement.{Judgement, accepted, refused, checked, judged, judge, outcomeOf, IsChecked}
 use Rattle.hierarchy.specs.Output.{delivered, fitted, IsWritten}
 use Rattle.hierarchy.specs.declared.Answer.the-variants.{Accepted, Refused}
 use Rattle.hierarchy.specs.declared.CardFault.{CardFault}
@@ -31,7 +31,7 @@ use Rattle.hierarchy.specs.declared.CardFault.the-variants.{Format as BadFormat
 use Rattle.hierarchy.specs.declared.Written.{Written}
 use Rattle.hierarchy.specs.declared.Written.the-variants.{Wrote, Refused as NotWritten, Short}
 use Rattle.hierarchy.specs.declared.check.CheckedCard.{CheckedCard}
-use Rattle.hierarchy.proofs.Accepted.{accepted-meets}
+use Rattle.hierarchy.proofs.Accepted.{accepted-meets, accepted-loaded}
 use Rattle.flattening.specs.Flattening.{flatten, flattenCall}
 use Rattle.flattening.proofs.FlatLaws.{flat-meets, flat-accepted, flatten-again}
 use Rattle.runners.specs.Numbers.{RowOutcome}
@@ -105,12 +105,13 @@ pub checked-accepted : (bytes : List ℕ) (k : CheckedCard) → IsChecked (judge
     → ((c : Card) → InTables c (k .numbers) (k .starts) → s′ ≡ length (c .subnets) → Filled Capacity c full)
     → ((c : Card) → HoldsNet c (k .numbers) (k .starts) full (record { subnets = s′; places = p′; transitions = t′; signals = g }) → P (accepted c))
     → P (judge bytes)
-checked-accepted bytes k h P s p t s′ p′ t′ g full e es ep et eg fu f = go (judge bytes) refl (sym (ap checkOutcome e) ∙ h .answer) (h .tables)
+checked-accepted bytes k h P s p t s′ p′ t′ g full e es ep et eg fu f = go (judge bytes) refl (sym (ap checkOutcome e) ∙ h .answer) h
   where
-    go : (j : Judgement) → judge bytes ≡ j → checkOutcome (Accepted s p t) ≡ outcomeOf j → Tables j (k .numbers) (k .starts) → P j
+    go : (j : Judgement) → judge bytes ≡ j → checkOutcome (Accepted s p t) ≡ outcomeOf j → IsChecked j k → P j
     go (refused n i) d q m = absurd (let z : _≡_ {A = ℕ} 0 1 = cc in omega arith)
-    go (accepted c) d q m =
+    go (accepted c) d q z =
         let u = accepted-meets bytes c d in
+        let m = accepted-loaded c u k z in
         let w = u .wellformed in
         let a : s ≡ length (c .subnets) = cc in
         let b : p ≡ length (c .places) = cc in
@@ -174,19 +175,19 @@ fault-low NoUnit = omega arith
 fault-low NoInterface = omega arith
 fault-low Unlike = omega arith
 
-abbrev LowReading : {A : Type 0} → Reading A → Type 0
-LowReading (Reading.refused n at) = n ≤ 17
-LowReading (Reading.whole a end) = Unit {0}
+abbrev LowReading : {A : Type 0} → Parsing A → Type 0
+LowReading (Parsing.refused n at) = n ≤ 17
+LowReading (Parsing.whole a end) = Unit {0}
 
 abbrev Low : Judgement → Type 0
 Low (refused n at) = n ≤ 17
 Low (accepted c) = Unit {0}
 
-unless-low : {A : Type 0} (o : Option FormatFault) (at : ℕ) (rest : Reading A) → LowReading rest → LowReading (unlessFault o at rest)
+unless-low : {A : Type 0} (o : Option FormatFault) (at : ℕ) (rest : Parsing A) → LowReading rest → LowReading (unlessFault o at rest)
 unless-low none at rest h = h
 unless-low (some f) at rest h = format-low f
 
-cond-low : {A : Type 0} (b : Bool) (x y : Reading A) → LowReading x → LowReading y → LowReading (cond b x y)
+cond-low : {A : Type 0} (b : Bool) (x y : Parsing A) → LowReading x → LowReading y → LowReading (cond b x y)
 cond-low true x y h g = h
 cond-low false x y h g = g
 
@@ -195,24 +196,24 @@ unfolding read
 read-low bytes (done a) at = tt
 read-low bytes (get w value fault next) at =
     let v : ℕ = bitField (bit bytes) at w in
-    cond-low (ltb (8 * length bytes) (at + w)) (Reading.refused (formatNumber Truncated) at) (unlessFault (fault v) at (read bytes (next v) (at + w))) (format-low Truncated)
+    cond-low (ltb (8 * length bytes) (at + w)) (Parsing.refused (formatNumber Truncated) at) (unlessFault (fault v) at (read bytes (next v) (at + w))) (format-low Truncated)
     (unless-low (fault v) at (read bytes (next v) (at + w)) (read-low bytes (next v) (at + w)))
 
 closed-low : {A : Type 0} (o : Option ℕ) (a : A) (end : ℕ) → LowReading (closed o a end)
 closed-low none a end = tt
 closed-low (some i) a end = format-low BadFill
 
-ended-low : {A : Type 0} (bytes : List ℕ) (x : Reading A) → LowReading x → LowReading (ended bytes x)
-ended-low bytes (Reading.refused n at) h = h
-ended-low bytes (Reading.whole a end) h = closed-low (excess bytes end) a end
+ended-low : {A : Type 0} (bytes : List ℕ) (x : Parsing A) → LowReading x → LowReading (ended bytes x)
+ended-low bytes (Parsing.refused n at) h = h
+ended-low bytes (Parsing.whole a end) h = closed-low (excess bytes end) a end
 
 checked-low : (o : Option Found) (c : Card) → Low (checked o c)
 checked-low none c = tt
 checked-low (some f) c = fault-low (f .why)
 
-judged-low : (x : Reading Card) → LowReading x → Low (judged x)
-judged-low (Reading.refused n at) h = h
-judged-low (Reading.whole c end) h = checked-low (check c) c
+judged-low : (x : Parsing Card) → LowReading x → Low (judged x)
+judged-low (Parsing.refused n at) h = h
+judged-low (Parsing.whole c end) h = checked-low (check c) c
 
 judge-low : (bytes : List ℕ) → Low (judge bytes)
 unfolding judge readCard

@@ -12,9 +12,9 @@ use lib.Dec.{eqb, leb}
 use Rattle.card.specs.Finite.{sumTo}
 use Rattle.card.specs.Card.{Arc, Card, draws, fills, placeAt, transitionAt, arcAt, firstPlace, flatPlace}
 use Rattle.card.specs.Index.{Lists, ArcThere, firstPlaceStart, transitionRowStart, placeField, transitionRow}
-use Rattle.hierarchy.specs.Arcs.{arcOf, Begins}
+use Rattle.card.specs.Index.{arcOf, Begins}
 use Rattle.hierarchy.specs.Conditions.{IsPlace}
-use Rattle.hierarchy.specs.declared.arcs.Arc as declared
+use Rattle.card.specs.declared.tables.Arc as declared
 use Rattle.hierarchy.proofs.LoadedLaws.{arc-of, arcs-of, capacity-of}
 use Rattle.flattening.specs.Flattening.{flatten}
 use Rattle.flattening.proofs.FlatLaws.{place-flat, arc-flat, there}

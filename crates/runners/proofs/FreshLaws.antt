@@ -13,11 +13,11 @@ use Rattle.card.proofs.BitLaws.{lt-or-ge}
 use Rattle.card.proofs.Turn.{zero-in}
 use Rattle.hierarchy.specs.Numbers.{checkOutcome}
 use Rattle.hierarchy.specs.Conditions.{Meets}
-use Rattle.hierarchy.specs.Judgement.{Judgement, accepted, refused, judge, outcomeOf, Tables, IsChecked}
+use Rattle.hierarchy.specs.Judgement.{Judgement, accepted, refused, judge, outcomeOf, IsChecked}
 use Rattle.hierarchy.specs.declared.Answer.the-variants.{Accepted, Refused}
 use Rattle.hierarchy.specs.declared.CardFault.{CardFault}
 use Rattle.hierarchy.specs.declared.check.CheckedCard.{CheckedCard}
-use Rattle.hierarchy.proofs.Accepted.{accepted-meets}
+use Rattle.hierarchy.proofs.Accepted.{accepted-meets, accepted-loaded}
 use Rattle.flattening.specs.Flattening.{flatPlaceRow, flatten}
 use Rattle.runners.specs.State.{scale, fresh}
 use Rattle.runners.specs.Calls.{slot, blank, freshLent, freshOf, freshCall}
@@ -89,13 +89,14 @@ module _ (bytes : List ℕ) (k : CheckedCard) (h : IsChecked (judge bytes) k) wh
       → (x : Lent) → x ≡ record { markings = markings; slots = replicate 255 (slot Idle); degrees = replicate 63 0; places = p; transitions = t; signals = g }
       → IsFresh (freshCall bytes) (record { answer = Accepted s p t; state = x })
   unfolding freshCall
-  fresh-accepted s p t s′ g markings e es eg f x ex = go (judge bytes) refl (sym (ap checkOutcome e) ∙ h .answer) (h .tables)
+  fresh-accepted s p t s′ g markings e es eg f x ex = go (judge bytes) refl (sym (ap checkOutcome e) ∙ h .answer) h
     where
-      go : (j : Judgement) → judge bytes ≡ j → checkOutcome (Accepted s p t) ≡ outcomeOf j → Tables j (k .numbers) (k .starts)
+      go : (j : Judgement) → judge bytes ≡ j → checkOutcome (Accepted s p t) ≡ outcomeOf j → IsChecked j k
           → IsFresh (freshOf j) (record { answer = Accepted s p t; state = x })
       go (refused n i) d z l = absurd (let y : _≡_ {A = ℕ} 0 1 = cc in omega arith)
-      go (accepted c) d z l =
+      go (accepted c) d z x =
           let m = accepted-meets bytes c d in
+          let l = accepted-loaded c m k x in
           let w = m .wellformed in
           let a : s ≡ length (c .subnets) = cc in
           let b : p ≡ length (c .places) = cc in

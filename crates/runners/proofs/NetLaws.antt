@@ -10,7 +10,7 @@ use denote.Enum.Declared.{tagOf}
 use Rattle.card.specs.Card.{Card}
 use Rattle.card.specs.Writing.{encode}
 use Rattle.hierarchy.specs.Numbers.{number, checkOutcome, writeOutcome}
-use Rattle.hierarchy.specs.Judgement.{Judgement, accepted, refused, judge, outcomeOf, Tables, IsChecked}
+use Rattle.hierarchy.specs.Judgement.{Judgement, accepted, refused, judge, outcomeOf, IsChecked}
 use Rattle.hierarchy.specs.Output.{IsWritten}
 use Rattle.hierarchy.specs.declared.Answer.{Answer}
 use Rattle.hierarchy.specs.declared.Answer.the-variants.{Accepted, Refused}

@@ -12,7 +12,7 @@ use Rattle.card.specs.Finite.{sumTo, every}
 use Rattle.card.proofs.BitLaws.{lt-or-ge}
 use Rattle.card.proofs.Decides.{Some, eq-is, and-is, every-is, any-is}
 use Rattle.card.proofs.Sums.{sum-same, sum-plus, sum-zero, sum-mono}
-use Rattle.hierarchy.specs.Ranks.{one}
+use Rattle.card.specs.Finite.{one}
 use Rattle.runners.specs.Calls.{names, eachOnce}
 use Rattle.runners.proofs.OrderLaws.{past-last}
 

@@ -17,7 +17,7 @@ use lib.Count.{ones, ones-step}
 use borrow.Author.Tests.{eqb-true, eqb-false, eq-eqb, ne-eqb}
 use Rattle.card.specs.Finite.{sumTo, every, any}
 use Rattle.card.proofs.Sums.{sum-same, sum-zero, sum-front, sum-mono}
-use Rattle.hierarchy.specs.Ranks.{one}
+use Rattle.card.specs.Finite.{one}
 use Rattle.hierarchy.proofs.WalkLaws.{and-no, any-one}
 use Rattle.runners.specs.Calls.{names, eachOnce}
 

@@ -1,19 +1,19 @@
 // What a transition's arcs post on the claims board, what they move, and whether they let it start. Each arc is resolved to a flat place as
 // it is met. Every function takes any slices; what it does is the card's where they hold an accepted one.
+use card::tables::Arc;
+use card::tables::arc_at;
 use card::tables::arc_count;
 use card::tables::capacity;
 use card::tables::first_place;
 use card::tables::subnet_row;
 use card::tables::transition_row;
-use hierarchy::arcs::Arc;
-use hierarchy::arcs::arc_at;
 ghost use mathlib.Core.Path.{_≡_};
 ghost use Prim.Native.Nat.{ℕ, _+_, _*_, _<_};
 ghost use lib.ListN.{length, getD};
 ghost use Rattle.card.specs.Card.{Card, draws, fills, transitionAt, arcAt};
 ghost use Rattle.card.specs.Finite.{every};
 ghost use Rattle.card.specs.Index.{Lists, firstPlaceStart};
-ghost use Rattle.hierarchy.specs.Arcs.{arcOf, Begins};
+ghost use Rattle.card.specs.Index.{arcOf, Begins};
 ghost use Rattle.flattening.specs.Flattening.{flatten, flatArc};
 ghost use Rattle.runners.specs.State.{entry, incidence};
 ghost use Rattle.runners.specs.Step.{allows as allowsIt};

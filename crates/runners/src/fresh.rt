@@ -4,6 +4,9 @@ use crate::State;
 use crate::Transfer;
 use crate::places::PlaceNumber;
 use crate::places::by_place;
+use card::MOST_PLACES;
+use card::MOST_SIGNALS;
+use card::MOST_TRANSITIONS;
 use card::tables::narrow;
 use card::tables::signals;
 use hierarchy::Answer;
@@ -23,11 +26,11 @@ fn blank(places: usize, transitions: usize, signals: usize) -> State
     ensures { λ r. ⌜ r ≡ blankOf places transitions signals ⌝ }
 {
     State {
-        markings: [0; 255],
+        markings: [0; MOST_PLACES],
         slots: [Slot {
             transfer: Transfer::Idle,
-        }; 255],
-        degrees: [0; 63],
+        }; MOST_TRANSITIONS],
+        degrees: [0; MOST_SIGNALS],
         places: places,
         transitions: transitions,
         signals: signals,

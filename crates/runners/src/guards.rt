@@ -7,6 +7,9 @@ use crate::Transfer;
 use crate::transfers::codes;
 use crate::verdict::uncovered;
 use crate::visits::post_span;
+use card::MOST_PLACES;
+use card::MOST_SIGNALS;
+use card::MOST_TRANSITIONS;
 ghost use mathlib.Core.Path.{_≡_};
 ghost use mathlib.Core.Bool.{Bool};
 ghost use Prim.Native.Nat.{_≤_};
@@ -74,7 +77,7 @@ fn transfers_in_range(state: State) -> bool
     let n = state.transitions;
     let mut t: usize = 0;
     while t < n {
-        if 255 <= t {
+        if MOST_TRANSITIONS <= t {
             return false;
         }
         let slot = state.slots[t];
@@ -93,7 +96,7 @@ fn degrees_in_range(state: State) -> bool
     let n = state.signals;
     let mut g: usize = 0;
     while g < n {
-        if 63 <= g {
+        if MOST_SIGNALS <= g {
             return false;
         }
         if 1000 < state.degrees[g] {
@@ -108,19 +111,19 @@ fn degrees_in_range(state: State) -> bool
 fn all_covered(numbers: &[u16], starts: &[u32], full: &[u32], state: State) -> bool
     ensures { λ r. ⌜ ((c : Card) → InTables c (now (numbers .entry)) (now (starts .entry)) → Filled Capacity c (now (full .entry)) → Counts c state → r ≡ every (length (c .places)) (covered (flatten c) ((view state) .markings) ((view state) .transfers))) ⌝ }
 {
-    if 255 < state.places {
+    if MOST_PLACES < state.places {
         return false;
     }
-    if 255 < state.transitions {
+    if MOST_TRANSITIONS < state.transitions {
         return false;
     }
     let transfers = codes(state);
-    let mut owed = [0; 255];
-    let mut due = [0; 255];
+    let mut owed = [0; MOST_PLACES];
+    let mut due = [0; MOST_PLACES];
     let end = state.transitions as u16;
     post_span(numbers, starts, 0, end, &transfers, &mut owed, &mut due);
     let markings = state.markings;
-    let none = [0; 255];
+    let none = [0; MOST_PLACES];
     let places = state.places as u16;
     uncovered(full, places, &markings, &owed, &due, &none, &none) == places
 }

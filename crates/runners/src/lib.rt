@@ -1,4 +1,9 @@
 // Layer 3: the step and the two runners. specs/ says what they do.
+use card::MOST_PLACES;
+use card::MOST_SIGNALS;
+use card::MOST_TRANSITIONS;
+use card::STARTS;
+use card::TABLE;
 
 mod claims;
 pub mod codes;
@@ -29,9 +34,9 @@ pub struct Slot {
 // A lent state: markings by flat place, transfers by flat transition, each signal's last degree. Of each array the net uses as many entries,
 // from the first on, as the number below says.
 pub struct State {
-    pub markings: [u32; 255],
-    pub slots: [Slot; 255],
-    pub degrees: [u16; 63],
+    pub markings: [u32; MOST_PLACES],
+    pub slots: [Slot; MOST_TRANSITIONS],
+    pub degrees: [u16; MOST_SIGNALS],
     pub places: usize,
     pub transitions: usize,
     pub signals: usize,
@@ -70,8 +75,8 @@ pub struct RowAnswer {
 // into it.
 pub struct Net {
     answer: hierarchy::Answer,
-    numbers: [u16; 33026],
-    starts: [u32; 644],
-    full: [u32; 255],
+    numbers: [u16; TABLE],
+    starts: [u32; STARTS],
+    full: [u32; MOST_PLACES],
     sizes: Sizes,
 }

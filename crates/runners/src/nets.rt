@@ -11,6 +11,7 @@ use crate::places::by_place;
 use crate::row::loaded_row;
 use crate::row::refuse;
 use crate::row::tested_row;
+use card::MOST_PLACES;
 use card::tables::narrow;
 use card::tables::signals;
 use hierarchy::Answer;
@@ -40,7 +41,7 @@ pub fn card_net(card: &[u8]) -> Net
             answer,
             numbers,
             starts,
-            full: [0; 255],
+            full: [0; MOST_PLACES],
             sizes: Sizes {
                 subnets: 0,
                 places: 0,

@@ -1,4 +1,5 @@
 // Columns by flat place, out of a card's tables: a thousand for each token of a place's capacity, or of its first tokens.
+use card::MOST_PLACES;
 use card::tables::capacity;
 use card::tables::first_place;
 use card::tables::narrow;
@@ -58,10 +59,10 @@ pub fn by_place<'a>(
     starts: &'a [u32],
     subnets: u16,
     which: PlaceNumber,
-) -> [u32; 255]
+) -> [u32; MOST_PLACES]
     ensures { λ r. ⌜ ((c : Card) → InTables c (now (numbers .entry)) (now (starts .entry)) → subnets ≡ length (c .subnets) → Filled which c r) ⌝ }
 {
-    let mut column = [0; 255];
+    let mut column = [0; MOST_PLACES];
     let mut s = 0;
     while s < subnets {
         let first = narrow(first_place(starts, s) as usize);

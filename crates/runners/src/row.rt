@@ -14,6 +14,9 @@ use crate::rounds::post_all;
 use crate::transfers::codes;
 use crate::transfers::stored;
 use crate::verdict::uncovered;
+use card::MOST_PLACES;
+use card::MOST_SIGNALS;
+use card::MOST_TRANSITIONS;
 ghost use mathlib.Core.Path.{_≡_};
 ghost use Prim.Native.Nat.{_≤_};
 ghost use lib.ListN.{length};
@@ -37,7 +40,7 @@ fn record_degrees(state: State, row: &[u16]) -> State
     let mut next = state;
     let mut g: usize = 0;
     while g < row.len() {
-        if 63 <= g {
+        if MOST_SIGNALS <= g {
             return next;
         }
         next.degrees[g] = row[g];
@@ -61,11 +64,11 @@ fn find_conflict(
     ensures { λ r. ⌜ length (now (candidates .exit)) ≡ length (now (candidates .entry)) ⌝ }
     ensures { λ r. ⌜ IsFound (now (numbers .entry)) (now (starts .entry)) (now (full .entry)) places (now (order .entry)) (now (markings .entry)) (now (transfers .entry)) (now (row .entry)) r (now (candidates .entry)) (now (candidates .exit)) ⌝ }
 {
-    let mut owed = [0; 255];
-    let mut due = [0; 255];
+    let mut owed = [0; MOST_PLACES];
+    let mut due = [0; MOST_PLACES];
     post_all(numbers, starts, order, transfers, &mut owed, &mut due);
-    let mut drawn = [0; 255];
-    let mut filled = [0; 255];
+    let mut drawn = [0; MOST_PLACES];
+    let mut filled = [0; MOST_PLACES];
     find_all(
         numbers,
         starts,
@@ -97,7 +100,7 @@ fn step(
     let after = record_degrees(state, row);
     let mut markings = state.markings;
     let mut transfers = codes(state);
-    let mut candidates = [false; 255];
+    let mut candidates = [false; MOST_TRANSITIONS];
     let places = sizes.places;
     let p = find_conflict(
         numbers,

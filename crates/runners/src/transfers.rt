@@ -6,6 +6,8 @@ use crate::Transfer;
 use crate::codes::IDLE;
 use crate::codes::code_of;
 use crate::codes::transfer_of;
+use card::MOST_PLACES;
+use card::MOST_TRANSITIONS;
 ghost use mathlib.Core.Path.{_≡_};
 ghost use mathlib.Core.Bool.{cond};
 ghost use mathlib.Core.List.{map};
@@ -79,14 +81,14 @@ pub fn advanced(transfer: Transfer, d: u16) -> Transfer
 }
 
 // The transfers of a state, as numbers.
-pub fn codes(state: State) -> [u16; 255]
+pub fn codes(state: State) -> [u16; MOST_TRANSITIONS]
     ensures { λ r. ⌜ CodesOf state r ⌝ }
 {
-    let mut codes = [IDLE; 255];
+    let mut codes = [IDLE; MOST_TRANSITIONS];
     let n = state.transitions;
     let mut t: usize = 0;
     while t < n {
-        if 255 <= t {
+        if MOST_TRANSITIONS <= t {
             return codes;
         }
         let slot = state.slots[t];
@@ -98,7 +100,7 @@ pub fn codes(state: State) -> [u16; 255]
 }
 
 // The state with these markings, and with the transfers of these numbers.
-pub fn stored(state: State, markings: [u32; 255], codes: [u16; 255]) -> State
+pub fn stored(state: State, markings: [u32; MOST_PLACES], codes: [u16; MOST_TRANSITIONS]) -> State
     ensures { λ r. ⌜ Stored state markings codes r ⌝ }
 {
     let mut next = state;
@@ -106,7 +108,7 @@ pub fn stored(state: State, markings: [u32; 255], codes: [u16; 255]) -> State
     let n = state.transitions;
     let mut t: usize = 0;
     while t < n {
-        if 255 <= t {
+        if MOST_TRANSITIONS <= t {
             return next;
         }
         let transfer = transfer_of(codes[t]);

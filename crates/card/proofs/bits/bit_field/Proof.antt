@@ -16,8 +16,8 @@ rest-small n q w e = rw e (mod-lt n (pow-pos w))
 rest-fits : (n q w : ℕ) → q ≡ 2 ^ w → w ≤ 16 → n % q < 2 ^ 16
 rest-fits n q w e l = omega (arith, rest-small n q w e, pow-mono {i = w} {j = 16} l)
 
-window-at-requires : tie.Need-window-at-requires
-window-at-requires c κs = search needs
+span-at-requires : tie.Need-span-at-requires
+span-at-requires c κs = search needs
 
 add-pow2 : tie.Need-add-pow2
 add-pow2 c = search needs
@@ -47,7 +47,7 @@ pub bit-field-spec : {M : Type 1} → statement M
 bit-field-spec =
     tie.close
     (tie.spec
-    window-at-requires
+    span-at-requires
     add-pow2
     sub-pow2
     pow2-requires

@@ -4,8 +4,8 @@ use borrow.Author.Needs.{needs}
 use Rattle.card.proofs.bits.put_field.Statement.{statement}
 use Rattle.card.proofs.bits.put_field.Tie as tie
 
-window-at-requires : tie.Need-window-at-requires
-window-at-requires c κs = search needs
+span-at-requires : tie.Need-span-at-requires
+span-at-requires c κs = search needs
 
 add-patched : tie.Need-add-patched
 add-patched c = search needs
@@ -41,7 +41,7 @@ pub put-field-spec : {M : Type 1} → statement M
 put-field-spec =
     tie.close
     (tie.spec
-    window-at-requires
+    span-at-requires
     add-patched
     sub-patched
     patched-requires

@@ -1,6 +1,6 @@
 -- `card::index::index` meets its contract. Assumes nothing.
 use mathlib.Core.List.{List}
-use Rattle.card.specs.Indexing.{AtSubnet, TransitionsIndexed}
+use Rattle.card.specs.inner.Indexing.{AtSubnet, TransitionsIndexed}
 use Prim.Native.Nat.{ℕ, _-_, _*_, _≤_}
 use mathlib.Core.Path.{_≡_, sym, ap, subst, _∙_}
 use native.Mathlib.Omega.{arith}
@@ -8,7 +8,7 @@ use lib.ListN.{length, length-replicate}
 use denote.Ref.{now}
 use borrow.Author.Needs.{needs}
 use Rattle.card.specs.Card.{Card}
-use Rattle.card.specs.Index.{Laid, Indexed}
+use Rattle.card.specs.Index.{Laid}
 use Rattle.card.specs.Wellformed.{Wellformed}
 use Rattle.card.proofs.TableLaws.{not-true, not-false, no-yes}
 use Rattle.card.proofs.IndexLaws.{put-same, Indexing, index-start, index-on, index-at, index-more, index-done}
@@ -100,7 +100,7 @@ put-subnet-requires-2 : tie.Need-put-subnet-requires-2 Inv-loop μ-loop
 put-subnet-requires-2 c κs = search needs
 
 returns-2 : tie.Need-returns-2 Inv-loop μ-loop
-returns-2 c = λ k w d e. subst (Indexed k) (sym ((c .before .put-subnet2) .ensures)) (index-done k w (now ((c .before .before .before .before .before .before .before .before .args) .numbers)) d ((c .before .before .before .before .loop) .starts) ((c .before .before .before .before .loop) .p) ((c .before .before .before .before .loop) .place) ((c .before .before .before .before .loop) .transition) ((c .before .before .before .before .loop) .s) ((c .before .before .before .before .loop) .inv .4 k w d e) (omega arith))
+returns-2 c = λ k w d e. (c .before .put-subnet2) .ensures ∙ (index-done k w (now ((c .before .before .before .before .before .before .before .before .args) .numbers)) d ((c .before .before .before .before .loop) .starts) ((c .before .before .before .before .loop) .p) ((c .before .before .before .before .loop) .place) ((c .before .before .before .before .loop) .transition) ((c .before .before .before .before .loop) .s) ((c .before .before .before .before .loop) .inv .4 k w d e) (omega arith))
 
 pub index-spec : {M : Type 1} → statement M
 index-spec =

@@ -6,7 +6,7 @@ use lib.ListN.{length}
 use denote.Ref.{now}
 use borrow.Author.Needs.{needs}
 use Rattle.card.specs.Card.{Card}
-use Rattle.card.specs.Indexing.{AtSubnet}
+use Rattle.card.specs.inner.Indexing.{AtSubnet}
 use Rattle.card.proofs.TableLaws.{not-true, not-false}
 use Rattle.card.proofs.IndexLaws.{Listing, set-long, list-start, list-on, list-few, list-more, list-done}
 use Rattle.card.proofs.index.index_transitions.Statement.{statement}

@@ -2,7 +2,7 @@
 use Prim.Native.Nat.{ℕ}
 use mathlib.Core.Path.{refl, sym, ap, subst, _∙_}
 use mathlib.Core.Option.{Option}
-use Rattle.card.specs.Tables.{excessOf, IsEnded}
+use Rattle.card.specs.inner.Reader.{excessOf, IsEnded}
 use Rattle.card.specs.declared.reader.ReadAnswer.the-variants.{Whole}
 use borrow.Author.Needs.{needs}
 use Rattle.card.proofs.reader.ended.Statement.{statement}

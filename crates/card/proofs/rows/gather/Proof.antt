@@ -5,8 +5,8 @@ use lib.ListN.{length-replicate}
 use Prim.Native.Nat.{ℕ}
 use denote.Ref.{now}
 use borrow.Author.Needs.{needs}
-use Rattle.card.specs.Runs.{inOrder}
-use Rattle.card.proofs.TableSpell.{holds-gathered, holds-none}
+use Rattle.card.specs.inner.Runs.{inOrder}
+use Rattle.card.proofs.TableSpell.{leads-gathered, leads-none}
 use Rattle.card.proofs.rows.gather.Statement.{statement}
 use Rattle.card.proofs.rows.gather.Tie as tie
 
@@ -34,8 +34,8 @@ returns c =
     let a = c .before .before .before .before .before .before .before .before .before .before .before .args in
     let f = c .before .before .before .before .push in
     let g = c .before .push-subnets in
-    holds-gathered (inOrder (a .version) (a .signals) (now (a .subnets)) (now (a .places)) (now (a .transitions)) (now (a .arcs))) (g .last .0) (g .result)
-    (g .ensures .0 ∙ f .ensures .0 ∙ length-replicate {A = ℕ} 33026 0) (g .ensures .1 _ (f .ensures .1 [] (holds-none _)))
+    leads-gathered (inOrder (a .version) (a .signals) (now (a .subnets)) (now (a .places)) (now (a .transitions)) (now (a .arcs))) (g .last .0) (g .result)
+    (g .ensures .0 ∙ f .ensures .0 ∙ length-replicate {A = ℕ} 33026 0) (g .ensures .1 _ (f .ensures .1 [] (leads-none _)))
 
 pub gather-spec : {M : Type 1} → statement M
 gather-spec =

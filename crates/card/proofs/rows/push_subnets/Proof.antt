@@ -5,7 +5,7 @@ use native.Mathlib.Omega.{arith}
 use lib.ListN.{length, take, drop}
 use denote.Ref.{now}
 use borrow.Author.Needs.{needs}
-use Rattle.card.specs.Runs.{TablesInside}
+use Rattle.card.specs.inner.Runs.{TablesInside}
 use Rattle.card.proofs.RunLaws.{Laying, lay-start, lay-rows, lay-places, lay-inside, lay-more, lay-done}
 use Rattle.card.proofs.rows.push_subnets.Statement.{statement}
 use Rattle.card.proofs.rows.push_subnets.Tie as tie

@@ -5,7 +5,7 @@ use native.Mathlib.Omega.{arith}
 use lib.ListN.{take, drop}
 use denote.Ref.{now}
 use borrow.Author.Needs.{needs}
-use Rattle.card.specs.Runs.{RunsInside, arcsBefore}
+use Rattle.card.specs.inner.Runs.{RunsInside, arcsBefore}
 use Rattle.card.proofs.RunLaws.{Placing, place-start, place-rows, place-arcs, place-more, place-done}
 use Rattle.card.proofs.rows.push_transitions.Statement.{statement}
 use Rattle.card.proofs.rows.push_transitions.Tie as tie

@@ -1,5 +1,5 @@
 -- `hierarchy::arcs::arc_fault` meets its contract. Assumes nothing.
-use Rattle.hierarchy.specs.Arcs.{arcOf}
+use Rattle.card.specs.Index.{arcOf}
 use Rattle.hierarchy.proofs.ArcLaws.{arc-is, seen-place, passed, failed, fault-unseen, fault-direction, fault-weight, fault-repeated, fault-none}
 use borrow.Author.Needs.{needs}
 use Rattle.hierarchy.proofs.arcs.arc_fault.Statement.{statement}

@@ -1,5 +1,5 @@
 -- `hierarchy::arcs::directed` meets its contract. Assumes nothing.
-use Rattle.hierarchy.specs.Arcs.{arcOf}
+use Rattle.card.specs.Index.{arcOf}
 use Rattle.hierarchy.proofs.ArcLaws.{own-directed, child-directed}
 use borrow.Author.Needs.{needs}
 use Rattle.hierarchy.proofs.arcs.directed.Statement.{statement}

@@ -1,5 +1,5 @@
 -- `hierarchy::arcs::repeats` meets its contract. Assumes nothing.
-use Rattle.hierarchy.specs.Arcs.{arcOf}
+use Rattle.card.specs.Index.{arcOf}
 use Rattle.hierarchy.proofs.ArcLaws.{not-there, not-in, there-too}
 use borrow.Author.Needs.{needs}
 use Rattle.hierarchy.proofs.arcs.repeats.Statement.{statement}

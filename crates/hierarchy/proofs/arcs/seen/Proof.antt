@@ -1,6 +1,6 @@
 -- `hierarchy::arcs::seen` meets its contract. Assumes nothing.
 use native.Mathlib.Omega.{arith}
-use Rattle.hierarchy.specs.Arcs.{arcOf}
+use Rattle.card.specs.Index.{arcOf}
 use Rattle.hierarchy.proofs.ArcLaws.{no-subnet, no-place, own-place, no-child, child-place}
 use borrow.Author.Needs.{needs}
 use Rattle.hierarchy.proofs.arcs.seen.Statement.{statement}

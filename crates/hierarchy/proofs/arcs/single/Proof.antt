@@ -3,7 +3,7 @@ use Prim.Native.Nat.{_-_}
 use native.Mathlib.Omega.{arith}
 use borrow.Author.Needs.{needs}
 use denote.Ref.{now}
-use Rattle.hierarchy.specs.Arcs.{arcOf}
+use Rattle.card.specs.Index.{arcOf}
 use Rattle.hierarchy.proofs.ArcLaws.{NoRepeat, no-repeat-start, no-repeat-more, repeat-found, no-repeat-end}
 use Rattle.hierarchy.proofs.arcs.single.Statement.{statement}
 use Rattle.hierarchy.proofs.arcs.single.Tie as tie

@@ -1,5 +1,5 @@
 -- `hierarchy::arcs::weighted` meets its contract. Assumes nothing.
-use Rattle.hierarchy.specs.Arcs.{arcOf}
+use Rattle.card.specs.Index.{arcOf}
 use Rattle.hierarchy.proofs.ArcLaws.{no-weight, some-weight}
 use borrow.Author.Needs.{needs}
 use Rattle.hierarchy.proofs.arcs.weighted.Statement.{statement}

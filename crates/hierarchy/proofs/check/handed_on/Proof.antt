@@ -22,7 +22,7 @@ returns : tie.Need-returns
 returns c = subst (λ (x : ReadAnswer). HandedOn x ((c .turned-back) .result)) (sym ((c .before .before .a) .given .1)) ((c .turned-back) .ensures)
 
 returns-2 : tie.Need-returns-2
-returns-2 c = subst (λ (x : ReadAnswer). HandedOn x ((c .turned-back2) .result)) (sym ((c .before .before .a2) .given .1)) tt
+returns-2 c = subst (λ (x : ReadAnswer). HandedOn x ((c .turned-back2) .result)) (sym ((c .before .before .a2) .given .1)) ((c .turned-back2) .ensures)
 
 pub handed-on-spec : {M : Type 1} → statement M
 handed-on-spec =

@@ -7,17 +7,17 @@ use lib.ListN.{length}
 use borrow.Author.Needs.{needs}
 use Rattle.card.specs.Card.{Card}
 use Rattle.card.specs.Index.{Loaded}
-use Rattle.hierarchy.specs.Ranks.{Ranked}
+use Rattle.hierarchy.specs.inner.Ordinals.{AllOrdinals}
 use Rattle.hierarchy.proofs.WalkLaws.{found, Below, below-start, below-more}
 use Rattle.hierarchy.proofs.ChildLaws.{isKth, kth-found, kth-passed}
 use Rattle.hierarchy.proofs.children.kth_child.Statement.{statement}
 use Rattle.hierarchy.proofs.children.kth_child.Tie as tie
 
 abbrev Inv-loop : tie.InvT-loop
-Inv-loop numbers starts subnets ranks i k j₀ j = (c : Card) → Loaded c numbers starts → subnets ≡ length (c .subnets) → Ranked c ranks → Below j (isKth c i k) false
+Inv-loop numbers starts subnets ordinals i k j₀ j = (c : Card) → Loaded c numbers starts → subnets ≡ length (c .subnets) → AllOrdinals c ordinals → Below j (isKth c i k) false
 
 abbrev μ-loop : tie.MeasureT-loop
-μ-loop numbers starts subnets ranks i k j₀ j = subnets - j
+μ-loop numbers starts subnets ordinals i k j₀ j = subnets - j
 
 loop-holds : tie.Need-loop-holds Inv-loop μ-loop
 loop-holds c = λ d h e k. below-start (isKth d (c .before .before .before .args .i) (c .before .before .before .args .k)) false

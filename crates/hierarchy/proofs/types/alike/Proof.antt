@@ -3,7 +3,7 @@ use Prim.Native.Nat.{_-_}
 use mathlib.Core.Path.{sym, _∙_}
 use mathlib.Core.Bool.{false, _&&_}
 use borrow.Author.Needs.{needs}
-use Rattle.hierarchy.specs.Likeness.{placesAlike, childrenAlike, transitionsAlike}
+use Rattle.hierarchy.specs.inner.Likeness.{placesAlike, childrenAlike, transitionsAlike}
 use Rattle.hierarchy.proofs.WalkLaws.{part-fails, part-holds, test-holds}
 use Rattle.hierarchy.proofs.TypeLaws.{alike-parts, child-counts}
 use Rattle.hierarchy.proofs.types.alike.Statement.{statement}

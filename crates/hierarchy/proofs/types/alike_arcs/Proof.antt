@@ -8,18 +8,18 @@ use borrow.Author.Needs.{needs}
 use Rattle.card.specs.Card.{Card, transitionAt, arcAt}
 use Rattle.card.specs.Index.{Loaded, Lists, transitionRow}
 use Rattle.hierarchy.specs.Conditions.{children}
-use Rattle.hierarchy.specs.Ranks.{Ranked}
-use Rattle.hierarchy.specs.Likeness.{arcAlike}
+use Rattle.hierarchy.specs.inner.Ordinals.{AllOrdinals}
+use Rattle.hierarchy.specs.inner.Likeness.{arcAlike}
 use Rattle.hierarchy.proofs.LoadedLaws.{arcs-of, arc-of}
 use Rattle.hierarchy.proofs.WalkLaws.{test-fails, test-holds, counts-differ, Compared, compared-start, compared-more, compared-fails, compared-end}
 use Rattle.hierarchy.proofs.types.alike_arcs.Statement.{statement}
 use Rattle.hierarchy.proofs.types.alike_arcs.Tie as tie
 
 abbrev Inv-loop : tie.InvT-loop
-Inv-loop numbers starts subnets ranks r s t u arcs j₀ j = (c : Card) → Loaded c numbers starts → subnets ≡ length (c .subnets) → Ranked c ranks → length (children c r) ≡ length (children c s) → (v w : ℕ) → Lists c r v → Lists c s w → t ≡ transitionRow c r v → u ≡ transitionRow c s w → Compared ((transitionAt c v) .arcs) ((transitionAt c w) .arcs) arcs j (arcAlike c r s v w)
+Inv-loop numbers starts subnets ordinals r s t u arcs j₀ j = (c : Card) → Loaded c numbers starts → subnets ≡ length (c .subnets) → AllOrdinals c ordinals → length (children c r) ≡ length (children c s) → (v w : ℕ) → Lists c r v → Lists c s w → t ≡ transitionRow c r v → u ≡ transitionRow c s w → Compared ((transitionAt c v) .arcs) ((transitionAt c w) .arcs) arcs j (arcAlike c r s v w)
 
 abbrev μ-loop : tie.MeasureT-loop
-μ-loop numbers starts subnets ranks r s t u arcs j₀ j = arcs - j
+μ-loop numbers starts subnets ordinals r s t u arcs j₀ j = arcs - j
 
 arc-count-requires : tie.Need-arc-count-requires Inv-loop μ-loop
 arc-count-requires c κs = search needs

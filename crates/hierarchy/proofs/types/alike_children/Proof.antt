@@ -7,8 +7,8 @@ use borrow.Author.Needs.{needs}
 use Rattle.card.specs.Card.{Card}
 use Rattle.card.specs.Index.{Loaded}
 use Rattle.hierarchy.specs.Conditions.{children, child}
-use Rattle.hierarchy.specs.Ranks.{Ranked}
-use Rattle.hierarchy.specs.Likeness.{childAlike}
+use Rattle.hierarchy.specs.inner.Ordinals.{AllOrdinals}
+use Rattle.hierarchy.specs.inner.Likeness.{childAlike}
 use Rattle.hierarchy.proofs.WalkLaws.{test-fails, test-holds, counts-differ, Compared, compared-start, compared-more, compared-fails, compared-end}
 use Rattle.hierarchy.proofs.ChildLaws.{kth-below, child-counted}
 use Rattle.hierarchy.proofs.TypeLaws.{types-at}
@@ -16,30 +16,30 @@ use Rattle.hierarchy.proofs.types.alike_children.Statement.{statement}
 use Rattle.hierarchy.proofs.types.alike_children.Tie as tie
 
 abbrev Inv-loop : tie.InvT-loop
-Inv-loop numbers starts subnets ranks r s count k₀ k = (c : Card) → Loaded c numbers starts → subnets ≡ length (c .subnets) → Ranked c ranks → Compared (length (children c r)) (length (children c s)) count k (childAlike c r s)
+Inv-loop numbers starts subnets ordinals r s count k₀ k = (c : Card) → Loaded c numbers starts → subnets ≡ length (c .subnets) → AllOrdinals c ordinals → Compared (length (children c r)) (length (children c s)) count k (childAlike c r s)
 
 abbrev μ-loop : tie.MeasureT-loop
-μ-loop numbers starts subnets ranks r s count k₀ k = count - k
+μ-loop numbers starts subnets ordinals r s count k₀ k = count - k
 
-rank-requires : tie.Need-rank-requires Inv-loop μ-loop
-rank-requires c κs = search needs
+ordinal-requires : tie.Need-ordinal-requires Inv-loop μ-loop
+ordinal-requires c κs = search needs
 
-rank-requires-2 : tie.Need-rank-requires-2 Inv-loop μ-loop
-rank-requires-2 c κs = search needs
+ordinal-requires-2 : tie.Need-ordinal-requires-2 Inv-loop μ-loop
+ordinal-requires-2 c κs = search needs
 
 returns : tie.Need-returns Inv-loop μ-loop
 returns c =
     let a = c .before .before .before .before .before .before .args in
-    let i = c .before .before .rank in
-    let j = c .before .rank2 in
+    let i = c .before .before .ordinal in
+    let j = c .before .ordinal2 in
     λ d h e k. counts-differ (length (children d (a .r))) (length (children d (a .s))) (i .result) (j .result) (childAlike d (a .r) (a .s))
     (child-counted d (a .subnets) (a .r) (i .result) e (i .ensures d h e)) (child-counted d (a .subnets) (a .s) (j .result) e (j .ensures d h e)) (c .if1 .taken)
 
 loop-holds : tie.Need-loop-holds Inv-loop μ-loop
 loop-holds c =
     let a = c .before .before .before .before .before .before .args in
-    let i = c .before .before .rank in
-    let j = c .before .rank2 in
+    let i = c .before .before .ordinal in
+    let j = c .before .ordinal2 in
     λ d h e k. compared-start (length (children d (a .r))) (length (children d (a .s))) (i .result) (j .result) (childAlike d (a .r) (a .s))
     (child-counted d (a .subnets) (a .r) (i .result) e (i .ensures d h e)) (child-counted d (a .subnets) (a .s) (j .result) e (j .ensures d h e)) (c .if1 .left)
 
@@ -55,7 +55,7 @@ same-type-requires c κs = search needs
 returns-2 : tie.Need-returns-2 Inv-loop μ-loop
 returns-2 c =
     let a = c .before .before .before .before .before .before .before .before .before .before .before .before .args in
-    let i = c .before .before .before .before .before .before .before .before .rank in
+    let i = c .before .before .before .before .before .before .before .before .ordinal in
     let x = c .before .before .before .kth-child in
     let y = c .before .before .kth-child2 in
     let z = c .before .before .before .before .before .loop in
@@ -77,7 +77,7 @@ loop-less c = omega (arith, c .before .before .before .before .loop-test .taken)
 loop-again : tie.Need-loop-again Inv-loop μ-loop
 loop-again c =
     let a = c .before .before .before .before .before .before .before .before .before .before .before .before .args in
-    let i = c .before .before .before .before .before .before .before .before .rank in
+    let i = c .before .before .before .before .before .before .before .before .ordinal in
     let x = c .before .before .before .kth-child in
     let y = c .before .before .kth-child2 in
     let z = c .before .before .before .before .before .loop in
@@ -93,7 +93,7 @@ loop-again c =
 returns-3 : tie.Need-returns-3 Inv-loop μ-loop
 returns-3 c =
     let a = c .before .before .before .before .before .before .before .before .args in
-    let i = c .before .before .before .before .rank in
+    let i = c .before .before .before .before .ordinal in
     let z = c .before .loop in
     λ d h e k. compared-end (length (children d (a .r))) (length (children d (a .s))) (i .result) (z .k) (childAlike d (a .r) (a .s)) (z .inv d h e k) (c .loop-test .left)
 
@@ -103,8 +103,8 @@ alike-children-spec =
     (tie.spec
     Inv-loop
     μ-loop
-    rank-requires
-    rank-requires-2
+    ordinal-requires
+    ordinal-requires-2
     returns
     loop-holds
     kth-child-requires

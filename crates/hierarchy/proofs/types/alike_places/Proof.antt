@@ -6,7 +6,7 @@ use denote.Ref.{now}
 use borrow.Author.Needs.{needs}
 use Rattle.card.specs.Card.{Card, subnetAt}
 use Rattle.card.specs.Index.{Loaded}
-use Rattle.hierarchy.specs.Likeness.{placeAlike}
+use Rattle.hierarchy.specs.inner.Likeness.{placeAlike}
 use Rattle.hierarchy.proofs.LoadedLaws.{places-of, kind-of, capacity-of}
 use Rattle.hierarchy.proofs.WalkLaws.{counts-differ, Compared, compared-start, compared-more, compared-fails, compared-end}
 use Rattle.hierarchy.proofs.TypeLaws.{kinds-differ, capacities-differ, places-alike}

@@ -1,7 +1,7 @@
 -- `hierarchy::types::alike_subnets` meets its contract. Assumes nothing.
 use Prim.Native.Nat.{_-_}
 use borrow.Author.Needs.{needs}
-use Rattle.hierarchy.specs.Likeness.{bothKth}
+use Rattle.hierarchy.specs.inner.Likeness.{bothKth}
 use Rattle.hierarchy.proofs.TypeLaws.{other-first, other-second, both-own}
 use Rattle.hierarchy.proofs.types.alike_subnets.Statement.{statement}
 use Rattle.hierarchy.proofs.types.alike_subnets.Tie as tie

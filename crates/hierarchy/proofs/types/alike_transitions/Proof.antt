@@ -8,8 +8,8 @@ use borrow.Author.Needs.{needs}
 use Rattle.card.specs.Card.{Card, subnetAt, firstTransition}
 use Rattle.card.specs.Index.{Loaded}
 use Rattle.hierarchy.specs.Conditions.{children}
-use Rattle.hierarchy.specs.Ranks.{Ranked}
-use Rattle.hierarchy.specs.Likeness.{transitionAlike}
+use Rattle.hierarchy.specs.inner.Ordinals.{AllOrdinals}
+use Rattle.hierarchy.specs.inner.Likeness.{transitionAlike}
 use Rattle.hierarchy.proofs.LoadedLaws.{transitions-of}
 use Rattle.hierarchy.proofs.WalkLaws.{test-fails, test-holds, counts-differ, Compared, compared-start, compared-more, compared-fails, compared-end}
 use Rattle.hierarchy.proofs.TypeLaws.{listed}
@@ -17,10 +17,10 @@ use Rattle.hierarchy.proofs.types.alike_transitions.Statement.{statemen
 use Rattle.hierarchy.proofs.types.alike_transitions.Tie as tie
 
 abbrev Inv-loop : tie.InvT-loop
-Inv-loop numbers starts subnets ranks r s transitions k₀ k = (c : Card) → Loaded c numbers starts → subnets ≡ length (c .subnets) → Ranked c ranks → length (children c r) ≡ length (children c s) → r < length (c .subnets) → s < length (c .subnets) → Compared ((subnetAt c r) .transitions) ((subnetAt c s) .transitions) transitions k (transitionAlike c r s)
+Inv-loop numbers starts subnets ordinals r s transitions k₀ k = (c : Card) → Loaded c numbers starts → subnets ≡ length (c .subnets) → AllOrdinals c ordinals → length (children c r) ≡ length (children c s) → r < length (c .subnets) → s < length (c .subnets) → Compared ((subnetAt c r) .transitions) ((subnetAt c s) .transitions) transitions k (transitionAlike c r s)
 
 abbrev μ-loop : tie.MeasureT-loop
-μ-loop numbers starts subnets ranks r s transitions k₀ k = transitions - k
+μ-loop numbers starts subnets ordinals r s transitions k₀ k = transitions - k
 
 subnet-row-requires : tie.Need-subnet-row-requires Inv-loop μ-loop
 subnet-row-requires c κs = search needs

@@ -13,10 +13,10 @@ use Rattle.hierarchy.proofs.types.like_lower.Statement.{statement}
 use Rattle.hierarchy.proofs.types.like_lower.Tie as tie
 
 abbrev Inv-loop : tie.InvT-loop
-Inv-loop numbers starts subnets ranks s r₀ r = (c : Card) → Loaded c numbers starts → s < length (c .subnets) → Below r (ofType c s) false
+Inv-loop numbers starts subnets ordinals s r₀ r = (c : Card) → Loaded c numbers starts → s < length (c .subnets) → Below r (ofType c s) false
 
 abbrev μ-loop : tie.MeasureT-loop
-μ-loop numbers starts subnets ranks s r₀ r = s - r
+μ-loop numbers starts subnets ordinals s r₀ r = s - r
 
 loop-holds : tie.Need-loop-holds Inv-loop μ-loop
 loop-holds c = λ d h l. below-start (ofType d (c .before .before .before .args .s)) false

@@ -17,13 +17,13 @@ use Rattle.hierarchy.proofs.types.types_fault.Statement.{statement}
 use Rattle.hierarchy.proofs.types.types_fault.Tie as tie
 
 abbrev Inv-loop : tie.InvT-loop
-Inv-loop numbers starts subnets ranks s₀ s = (c : Card) → Loaded c numbers starts → subnets ≡ length (c .subnets) → length (c .subnets) ≤ 32 → Below s (likeLower c) true
+Inv-loop numbers starts subnets ordinals s₀ s = (c : Card) → Loaded c numbers starts → subnets ≡ length (c .subnets) → length (c .subnets) ≤ 32 → Below s (likeLower c) true
 
 abbrev μ-loop : tie.MeasureT-loop
-μ-loop numbers starts subnets ranks s₀ s = subnets - s
+μ-loop numbers starts subnets ordinals s₀ s = subnets - s
 
-all-ranks-requires : tie.Need-all-ranks-requires Inv-loop μ-loop
-all-ranks-requires c κs = search needs
+all-ordinals-requires : tie.Need-all-ordinals-requires Inv-loop μ-loop
+all-ordinals-requires c κs = search needs
 
 loop-holds : tie.Need-loop-holds Inv-loop μ-loop
 loop-holds c = λ d h e n. below-start (likeLower d) true
@@ -43,7 +43,7 @@ cast-t13 c = search needs
 returns : tie.Need-returns Inv-loop μ-loop
 returns c =
     let a = c .before .before .before .before .before .before .before .before .before .args in
-    let k = c .before .before .before .before .before .before .all-ranks in
+    let k = c .before .before .before .before .before .before .all-ordinals in
     let x = c .before .before .like-lower in
     let z = c .before .before .before .before .before .loop in
     let y = c .subnet-bit in
@@ -60,7 +60,7 @@ loop-less c = omega (arith, c .before .before .before .loop-test .taken)
 loop-again : tie.Need-loop-again Inv-loop μ-loop
 loop-again c =
     let a = c .before .before .before .before .before .before .before .before .args in
-    let k = c .before .before .before .before .before .all-ranks in
+    let k = c .before .before .before .before .before .all-ordinals in
     let x = c .before .like-lower in
     let z = c .before .before .before .before .loop in
     λ d h e n. below-more (z .s) (likeLower d) true (z .inv d h e n) (test-holds (x .result) _ (x .ensures d h e (k .ensures d h e n) (omega (arith, e, c .before .before .before .loop-test .taken)) (z .inv d h e n)) (c .if1 .left))
@@ -76,7 +76,7 @@ types-fault-spec =
     (tie.spec
     Inv-loop
     μ-loop
-    all-ranks-requires
+    all-ordinals-requires
     loop-holds
     slice-aggregate-like-lower
     like-lower-requires

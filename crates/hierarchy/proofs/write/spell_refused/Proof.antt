@@ -14,7 +14,7 @@ returns : tie.Need-returns
 returns c = rw (c .before .a .given .1) refl
 
 returns-2 : tie.Need-returns-2
-returns-2 c = rw (c .before .a2 .given .1) tt
+returns-2 c = rw (c .before .a2 .given .1) refl
 
 pub spell-refused-spec : {M : Type 1} → statement M
 spell-refused-spec = tie.close (tie.spec enum-known-a enum-known-a-2 returns returns-2)

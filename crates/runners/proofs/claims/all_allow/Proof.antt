@@ -8,7 +8,7 @@ use Rattle.runners.specs.Step.{allows}
 use Rattle.card.specs.Card.{transitionAt, arcAt}
 use mathlib.Core.Bool.{true}
 use Rattle.runners.specs.Visits.{InTables}
-use Rattle.hierarchy.specs.Arcs.{Begins}
+use Rattle.card.specs.Index.{Begins}
 use Rattle.card.specs.Card.{Card}
 use borrow.Author.Needs.{needs}
 use denote.Ref.{now}
@@ -19,7 +19,7 @@ use Rattle.runners.proofs.claims.all_allow.Tie as tie
 use Rattle.runners.proofs.claims.all_allow.Reads as reads
 use Rattle.runners.proofs.claims.all_allow.Lts as lts
 use Rattle.card.proofs.tables.arc_count.Reads as arc-count-reads
-use Rattle.hierarchy.proofs.arcs.arc_at.Reads as arc-at-reads
+use Rattle.card.proofs.tables.arc_at.Reads as arc-at-reads
 use Rattle.runners.proofs.claims.allows.Reads as allows-reads
 
 abbrev Inv-loop : tie.InvT-loop

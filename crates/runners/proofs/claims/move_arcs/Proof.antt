@@ -5,7 +5,7 @@ use Rattle.runners.proofs.ClaimLaws.{weights, in-arcs, product-fits, ar
 use Rattle.runners.specs.Columns.{Moved}
 use Rattle.runners.specs.Visits.{InTables}
 use Rattle.runners.specs.State.{incidence}
-use Rattle.hierarchy.specs.Arcs.{Begins}
+use Rattle.card.specs.Index.{Begins}
 use Rattle.card.specs.Card.{Card, draws, fills}
 use borrow.Author.Needs.{needs}
 use lib.ListN.{length}

@@ -8,7 +8,7 @@ use Rattle.card.specs.Finite.{table, sumTo}
 use Rattle.card.specs.Numbers.{number}
 use Rattle.card.specs.Rows.{entry}
 use Rattle.card.specs.Tables.{tableSize}
-use Rattle.card.specs.Layout.{widthAt}
+use Rattle.card.specs.inner.Layout.{widthAt}
 use Rattle.card.specs.declared.layout.Phase.the-variants.{Version, SubnetCount, SignalCount, Parent, SubnetType, PlaceCount, TransitionCount, Kind, Capacity, Tokens, Signal, ArcCount, Direction, ArcSubnet, ArcPlace, Weight}
 
 -- the sum of a column
@@ -50,7 +50,7 @@ pub record ValuesFit (v g : ℕ) (s p t a : List ℕ) : Type 0 where
   pub arcs : RowsFit a arcWidths
 
 -- a table holds the first n numbers of a list: all of them, or as many as it has room for
-pub record Holds (xs numbers : List ℕ) (n : ℕ) : Type 0 where
+pub record Leads (xs numbers : List ℕ) (n : ℕ) : Type 0 where
   pub same : (i : ℕ) → i < n → getD numbers i 0 ≡ getD xs i 0
   pub inside : n ≤ length xs
   pub all : n < length numbers → n ≡ length xs

@@ -1,4 +1,4 @@
--- `hierarchy::children::rank` meets its contract. Assumes nothing.
+-- `hierarchy::children::ordinal` meets its contract. Assumes nothing.
 use Prim.Native.Nat.{_-_, _≤_}
 use mathlib.Core.Path.{_≡_}
 use native.Mathlib.Omega.{arith}
@@ -6,19 +6,19 @@ use lib.ListN.{length}
 use borrow.Author.Needs.{needs}
 use Rattle.card.specs.Card.{Card}
 use Rattle.card.specs.Index.{Loaded}
-use Rattle.hierarchy.specs.Ranks.{rank}
-use Rattle.hierarchy.proofs.ChildLaws.{rank-start, rank-more, rank-last, one-le}
-use Rattle.hierarchy.proofs.children.rank.Statement.{statement}
-use Rattle.hierarchy.proofs.children.rank.Tie as tie
+use Rattle.hierarchy.specs.inner.Ordinals.{ordinal}
+use Rattle.hierarchy.proofs.ChildLaws.{ordinal-start, ordinal-more, ordinal-last, one-le}
+use Rattle.hierarchy.proofs.children.ordinal.Statement.{statement}
+use Rattle.hierarchy.proofs.children.ordinal.Tie as tie
 
 abbrev Inv-loop : tie.InvT-loop
-Inv-loop numbers starts subnets i j n₀ h₀ n h = (n ≤ h) × (h ≤ j) × ((c : Card) → Loaded c numbers starts → subnets ≡ length (c .subnets) → n ≡ rank c i h)
+Inv-loop numbers starts subnets i j n₀ h₀ n h = (n ≤ h) × (h ≤ j) × ((c : Card) → Loaded c numbers starts → subnets ≡ length (c .subnets) → n ≡ ordinal c i h)
 
 abbrev μ-loop : tie.MeasureT-loop
 μ-loop numbers starts subnets i j n₀ h₀ n h = j - h
 
 loop-holds : tie.Need-loop-holds Inv-loop μ-loop
-loop-holds c = (omega arith, omega arith, λ d l e. rank-start d (c .before .before .args .i))
+loop-holds c = (omega arith, omega arith, λ d l e. ordinal-start d (c .before .before .args .i))
 
 is-child-requires : tie.Need-is-child-requires Inv-loop μ-loop
 is-child-requires c κs = search needs
@@ -41,16 +41,16 @@ loop-again c =
     let x = c .before .is-child in
     let y = c .one in
     let z = c .before .before .before .loop in
-    (omega (arith, z .inv .0, one-le (x .result), y .ensures), omega (arith, c .before .before .loop-test .taken), λ d l e. rank-more d (a .i) (z .h) (z .n) (y .result) (x .result) (z .inv .2 d l e) (x .ensures d l e) (y .ensures))
+    (omega (arith, z .inv .0, one-le (x .result), y .ensures), omega (arith, c .before .before .loop-test .taken), λ d l e. ordinal-more d (a .i) (z .h) (z .n) (y .result) (x .result) (z .inv .2 d l e) (x .ensures d l e) (y .ensures))
 
 returns : tie.Need-returns Inv-loop μ-loop
 returns c =
     let a = c .before .before .before .before .args in
     let z = c .before .loop in
-    λ d l e. rank-last d (a .i) (a .j) (z .h) (z .n) (z .inv .2 d l e) (omega (arith, z .inv .1, c .loop-test .left))
+    λ d l e. ordinal-last d (a .i) (a .j) (z .h) (z .n) (z .inv .2 d l e) (omega (arith, z .inv .1, c .loop-test .left))
 
-pub rank-spec : {M : Type 1} → statement M
-rank-spec =
+pub ordinal-spec : {M : Type 1} → statement M
+ordinal-spec =
     tie.close
     (tie.spec
     Inv-loop

@@ -1,8 +1,8 @@
--- `card::bits::window_at` meets its contract. Assumes nothing.
-use Rattle.card.specs.Fields.{window}
+-- `card::bits::span_at` meets its contract. Assumes nothing.
+use Rattle.card.specs.inner.Spans.{span}
 use borrow.Author.Needs.{needs}
-use Rattle.card.proofs.bits.window_at.Statement.{statement}
-use Rattle.card.proofs.bits.window_at.Tie as tie
+use Rattle.card.proofs.bits.span_at.Statement.{statement}
+use Rattle.card.proofs.bits.span_at.Tie as tie
 
 add-if1 : tie.Need-add-if1
 add-if1 c = search needs
@@ -35,7 +35,7 @@ add-result-2 : tie.Need-add-result-2
 add-result-2 c = search needs
 
 returns : tie.Need-returns
-unfolding window
+unfolding span
 returns c = search needs
 
 byte-at-requires : tie.Need-byte-at-requires
@@ -66,11 +66,11 @@ add-result-4 : tie.Need-add-result-4
 add-result-4 c = search needs
 
 returns-2 : tie.Need-returns-2
-unfolding window
+unfolding span
 returns-2 c = search needs
 
-pub window-at-spec : {M : Type 1} → statement M
-window-at-spec =
+pub span-at-spec : {M : Type 1} → statement M
+span-at-spec =
     tie.close
     (tie.spec
     add-if1

@@ -1,9 +1,9 @@
--- `hierarchy::arcs::arc_at` meets its contract. Assumes nothing.
+-- `card::tables::arc_at` meets its contract. Assumes nothing.
 use denote.Ref.{now}
-use Rattle.hierarchy.proofs.ArcLaws.{arc-from}
+use Rattle.card.proofs.Positions.{arc-from}
 use borrow.Author.Needs.{needs}
-use Rattle.hierarchy.proofs.arcs.arc_at.Statement.{statement}
-use Rattle.hierarchy.proofs.arcs.arc_at.Tie as tie
+use Rattle.card.proofs.tables.arc_at.Statement.{statement}
+use Rattle.card.proofs.tables.arc_at.Tie as tie
 
 arc-start-requires : tie.Need-arc-start-requires
 arc-start-requires c κs = search needs

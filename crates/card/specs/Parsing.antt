@@ -1,4 +1,4 @@
--- Reading a card: pass one of 'Why a card is turned back'.
+-- Parsing a card: pass one of 'Why a card is turned back'.
 use Prim.Native.Nat.{ℕ, _+_, _-_, _*_}
 use mathlib.Core.Bool.{cond}
 use mathlib.Core.List.{List}
@@ -15,18 +15,18 @@ use Rattle.card.specs.declared.FormatFault.{FormatFault}
 use Rattle.card.specs.declared.FormatFault.the-variants.{Truncated, BadFill}
 
 -- refused: the paper's number and the bit; whole: what was read, and the first bit behind it
-pub data Reading (A : Type 0) : Type 0 where
-  refused : (number bit : ℕ) → Reading A
-  whole : A → (end : ℕ) → Reading A
+pub data Parsing (A : Type 0) : Type 0 where
+  refused : (number bit : ℕ) → Parsing A
+  whole : A → (end : ℕ) → Parsing A
 
 -- what is read on, unless the field at the bit is at fault
-abbrev pub unlessFault : {A : Type 0} → Option FormatFault → (at : ℕ) → Reading A → Reading A
+abbrev pub unlessFault : {A : Type 0} → Option FormatFault → (at : ℕ) → Parsing A → Parsing A
 unlessFault none at rest = rest
 unlessFault (some f) at rest = refused (number f) at
 
 -- Pass one checks each field once read and reports its first bit: 1 the card ends inside the field, 2 to 8 as the format says.
 -- (What comes behind a fault is bound by a let, so that it is not computed.)
-unfoldable pub read : {U A : Type 0} → (bytes : List ℕ) → Format U A → (at : ℕ) → Reading A
+unfoldable pub read : {U A : Type 0} → (bytes : List ℕ) → Format U A → (at : ℕ) → Parsing A
 read bytes (done a) at = whole a at
 read bytes (get w value fault next) at =
     let v : ℕ = bitField (bit bytes) at w in
@@ -41,13 +41,13 @@ excess bytes end =
     lowest end (8 * bytesFor end - end) (λ i. eqb (bit bytes i) 1)
     otherwise someIf (ltb (bytesFor end) (length bytes)) (8 * bytesFor end)
 
-abbrev pub closed : {A : Type 0} → Option ℕ → A → (end : ℕ) → Reading A
+abbrev pub closed : {A : Type 0} → Option ℕ → A → (end : ℕ) → Parsing A
 closed none a end = whole a end
 closed (some i) a end = refused (number BadFill) i
 
-abbrev pub ended : {A : Type 0} → (bytes : List ℕ) → Reading A → Reading A
+abbrev pub ended : {A : Type 0} → (bytes : List ℕ) → Parsing A → Parsing A
 ended bytes (refused n at) = refused n at
 ended bytes (whole a end) = closed (excess bytes end) a end
 
-unfoldable pub readCard : (bytes : List ℕ) → Reading Card
+unfoldable pub readCard : (bytes : List ℕ) → Parsing Card
 readCard bytes = ended bytes (read bytes card 0)

@@ -1,0 +1,50 @@
+-- What the functions that the reader is made of promise.
+use Prim.Native.Nat.{ℕ, _+_}
+use mathlib.Core.Path.{_≡_}
+use mathlib.Core.List.{List}
+use mathlib.Core.Option.{Option, none, some}
+use lib.ListN.{length}
+use Rattle.card.specs.Bits.{bit, bitField}
+use Rattle.card.specs.Card.{Card}
+use Rattle.card.specs.inner.Layout.{widthAt}
+use Rattle.card.specs.Index.{startsSize, startsOf, Laid}
+use Rattle.card.specs.Wellformed.{Wellformed}
+use Rattle.card.specs.declared.Counts.{Counts}
+use Rattle.card.specs.declared.FormatFault.{FormatFault}
+use Rattle.card.specs.declared.FormatFault.the-variants.{BadFill}
+use Rattle.card.specs.declared.layout.Phase.the-variants.{Direction, ArcSubnet, ArcPlace}
+use Rattle.card.specs.declared.reader.ArcHead.{ArcHead}
+use Rattle.card.specs.declared.reader.Excess.{Excess}
+use Rattle.card.specs.declared.reader.Excess.the-variants.{Nothing, At}
+use Rattle.card.specs.declared.reader.ReadAnswer.the-variants.{Whole, Refused}
+use Rattle.card.specs.declared.reader.CardRead.{CardRead}
+use Rattle.card.specs.Tables.{tableSize, zeros}
+
+-- a refusal, with an empty table
+pub record IsRefused (f : FormatFault) (at : ℕ) (r : CardRead) : Type 0 where
+  pub answer : r .answer ≡ Refused f at
+  pub numbers : r .numbers ≡ zeros tableSize
+  pub starts : r .starts ≡ zeros startsSize
+
+-- an arc's fields before the weight, which hold any number, and where they lie from bit at on
+abbrev pub arcHeadWidth : ℕ
+arcHeadWidth = widthAt Direction + (widthAt ArcSubnet + widthAt ArcPlace)
+
+pub record IsArcHead (bytes : List ℕ) (at : ℕ) (r : ArcHead) : Type 0 where
+  pub direction : r .direction ≡ bitField (bit bytes) at (widthAt Direction)
+  pub subnet : r .subnet ≡ bitField (bit bytes) (at + widthAt Direction) (widthAt ArcSubnet)
+  pub place : r .place ≡ bitField (bit bytes) (at + widthAt Direction + widthAt ArcSubnet) (widthAt ArcPlace)
+
+-- the last field is read, and what is in excess is known
+pub record IsWhole (k : Counts) (xs : List ℕ) (r : CardRead) : Type 0 where
+  pub answer : r .answer ≡ Whole k
+  pub numbers : r .numbers ≡ xs
+  pub starts : (c : Card) → Wellformed c → Laid c xs → k .subnets ≡ length (c .subnets) → r .starts ≡ startsOf c
+
+abbrev pub IsEnded : (excess : Option ℕ) → Counts → (numbers : List ℕ) → CardRead → Type 0
+IsEnded none k numbers r = IsWhole k numbers r
+IsEnded (some i) k numbers r = IsRefused BadFill i r
+
+abbrev pub excessOf : Excess → Option ℕ
+excessOf Nothing = none
+excessOf (At i) = some i
