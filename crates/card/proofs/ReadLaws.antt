@@ -19,8 +19,10 @@ use Rattle.card.specs.Format.{Format, done, get}
 use Rattle.card.specs.Grammar.{card}
 use Rattle.card.specs.Parsing.{Parsing, refused, whole, read, excess, readCard}
 use Rattle.card.specs.Writing.{fields}
-use Rattle.card.specs.Tables.{numbersOf, numbersTable, readOutcome, IsRead}
-use Rattle.card.specs.inner.Reader.{IsRefused, IsWhole, IsEnded}
+use Rattle.card.specs.Tables.{numbersOf, numbersTable, ReadOutcome, readOutcome, outcomeOf, IsRead}
+use Rattle.card.specs.declared.reader.ReadAnswer.{ReadAnswer}
+use Rattle.card.specs.declared.reader.ReadAnswer.the-variants.{Whole, Refused}
+use Rattle.card.specs.inner.Reader.{IsRefused, endedAs, IsFilled}
 use Rattle.card.specs.declared.FormatFault.{FormatFault}
 use Rattle.card.specs.declared.FormatFault.the-variants.{BadFill}
 use Rattle.card.specs.declared.Counts.{Counts}
@@ -74,18 +76,19 @@ module _ (bytes : List ℕ) where
   unfolding readCard
   card-refused n at e = rw (part-refused countsOf (read bytes card 0) n at (sym (read-shape bytes) ∙ e))
 
-  pub refused-is : (f : FormatFault) (at : ℕ) (r : CardRead) → read bytes cardS 0 ≡ refused (number f) at → IsRefused f at r → IsRead (readCard bytes) r
-  refused-is f at r e h = rw (card-refused (number f) at e) (record { answer = rw (h .answer); numbers = h .numbers; starts = h .starts })
+  -- the walk is refused
+  pub refused-is : (f : FormatFault) (at : ℕ) (t : List ℕ) → read bytes cardS 0 ≡ refused (number f) at → IsFilled (readCard bytes) (Refused f at) t
+  refused-is f at t e = rw (card-refused (number f) at e) (record { answer = refl; table = λ c end q. absurd (not-whole _ _ _ _ q) })
 
   found : (k : Counts) (end : ℕ) → read bytes cardS 0 ≡ whole k end → Found countsOf (read bytes card 0) k end
   found k end e = part-whole countsOf (read bytes card 0) k end (sym (read-shape bytes) ∙ e)
 
   -- something follows the card
-  excess-is : (k : Counts) (end i : ℕ) (r : CardRead) → read bytes cardS 0 ≡ whole k end → excess bytes end ≡ some i → IsRefused BadFill i r → IsRead (readCard bytes) r
+  excess-is : (k : Counts) (end i : ℕ) (t : List ℕ) → read bytes cardS 0 ≡ whole k end → excess bytes end ≡ some i → IsFilled (readCard bytes) (Refused BadFill i) t
   unfolding readCard
-  excess-is k end i r e x h =
+  excess-is k end i t e x =
       let f = found k end e in
-      rw (f .is, x) (record { answer = rw (h .answer); numbers = h .numbers; starts = h .starts })
+      rw (f .is, x) (record { answer = refl; table = λ c m q. absurd (not-whole _ _ _ _ q) })
 
   -- the table is that of the card's numbers
   table-is : (t : List ℕ) (n : ℕ) (c : Card) → length t ≡ 33026 → ((i : ℕ) → n ≤ i → getD t i 0 ≡ 0) → take n t ≡ numbersOf c → t ≡ numbersTable c
@@ -101,28 +104,46 @@ module _ (bytes : List ℕ) where
   unfolding numbersOf
   numbers-are c end r = spelt-numbers bytes card c 0 (tied-card bytes c end r .spelt)
 
-  whole-is : (k : Counts) (end n : ℕ) (t : List ℕ) (r : CardRead) → read bytes cardS 0 ≡ whole k end → excess bytes end ≡ none → length t ≡ 33026 → ((i : ℕ) → n ≤ i → getD t i 0 ≡ 0)
-      → take n t ≡ numbersIn bytes cardS 0 → IsWhole k t r → IsRead (readCard bytes) r
+  whole-is : (k : Counts) (end n : ℕ) (t : List ℕ) → read bytes cardS 0 ≡ whole k end → excess bytes end ≡ none → length t ≡ 33026 → ((i : ℕ) → n ≤ i → getD t i 0 ≡ 0)
+      → take n t ≡ numbersIn bytes cardS 0 → IsFilled (readCard bytes) (Whole k) t
   unfolding readCard
-  whole-is k end n t r e x long zeros v h =
+  whole-is k end n t e x long zeros v =
       let f = found k end e in
       let numbers : take n t ≡ numbersOf (f .value) = v ∙ numbers-shape bytes ∙ numbers-are (f .value) end (f .is) in
       let is : t ≡ numbersTable (f .value) = table-is t n (f .value) long zeros numbers in
-      let w = read-wellformed bytes (f .value) end (rw (f .is, x)) in
-      let same : k .subnets ≡ length (f .value .subnets) = sym (ap (λ (y : Counts). y .subnets) (f .maps)) in
       rw (f .is, x) (record {
-        answer = ap readOutcome (h .answer) ∙ ap (λ (y : Counts). Rattle.card.specs.Tables.ReadOutcome.whole (y .subnets) (y .places) (y .transitions)) (sym (f .maps));
-        numbers = h .numbers ∙ is;
-        starts = h .starts (f .value) w (subst (Laid (f .value)) (sym is) (laid (f .value) w)) same;
+        answer = ap (λ (y : Counts). ReadOutcome.whole (y .subnets) (y .places) (y .transitions)) (sym (f .maps));
+        table = λ c m q. is ∙ ap numbersTable (let z : f .value ≡ c = cc in z);
       })
 
-  pub ended-is : (k : Counts) (end n : ℕ) (t : List ℕ) (r : CardRead) → read bytes cardS 0 ≡ whole k end → length t ≡ 33026 → ((i : ℕ) → n ≤ i → getD t i 0 ≡ 0)
-      → take n t ≡ numbersIn bytes cardS 0 → IsEnded (excess bytes end) k t r → IsRead (readCard bytes) r
-  ended-is k end n t r e long zeros v h = go (excess bytes end) refl h
+  pub ended-is : (k : Counts) (end n : ℕ) (t : List ℕ) (r : ReadAnswer) → read bytes cardS 0 ≡ whole k end → length t ≡ 33026 → ((i : ℕ) → n ≤ i → getD t i 0 ≡ 0)
+      → take n t ≡ numbersIn bytes cardS 0 → r ≡ endedAs (excess bytes end) k → IsFilled (readCard bytes) r t
+  ended-is k end n t r e long zeros v h = rw h (go (excess bytes end) refl)
     where
-      go : (x : Option ℕ) → excess bytes end ≡ x → IsEnded x k t r → IsRead (readCard bytes) r
-      go none q h = whole-is k end n t r e q long zeros v h
-      go (some i) q h = excess-is k end i r e q h
+      go : (x : Option ℕ) → excess bytes end ≡ x → IsFilled (readCard bytes) (endedAs x k) t
+      go none q = whole-is k end n t e q long zeros v
+      go (some i) q = excess-is k end i t e q
+
+  -- what is made of it
+  pub fill-refused : (a : ReadAnswer) (f : FormatFault) (at : ℕ) (t : List ℕ) (r : CardRead) → IsFilled (readCard bytes) a t → a ≡ Refused f at → IsRefused f at r
+      → IsRead (readCard bytes) r
+  fill-refused a f at t r h e g = go (readCard bytes) (sym (ap readOutcome e) ∙ h .answer)
+    where
+      go : (x : Parsing Card) → readOutcome (Refused f at) ≡ outcomeOf x → IsRead x r
+      go (refused n i) q = record { answer = ap readOutcome (g .answer) ∙ q; numbers = g .numbers; starts = g .starts }
+      go (whole c end) q = absurd (let z : _≡_ {A = ℕ} 0 1 = cc in omega arith)
+
+  pub fill-whole : (a : ReadAnswer) (k : Counts) (t starts : List ℕ) → IsFilled (readCard bytes) a t → a ≡ Whole k
+      → ((c : Card) → Wellformed c → Laid c t → k .subnets ≡ length (c .subnets) → starts ≡ startsOf c)
+      → IsRead (readCard bytes) (record { answer = Whole k; numbers = t; starts = starts })
+  fill-whole a k t starts h e g = go (readCard bytes) refl (sym (ap readOutcome e) ∙ h .answer)
+    where
+      go : (x : Parsing Card) → readCard bytes ≡ x → readOutcome (Whole k) ≡ outcomeOf x → IsRead x (record { answer = Whole k; numbers = t; starts = starts })
+      go (refused n i) p q = absurd (let z : _≡_ {A = ℕ} 0 1 = cc in omega arith)
+      go (whole c end) p q =
+          let is = h .table c end p in
+          let w = read-wellformed bytes c end p in
+          record { answer = q; numbers = is; starts = g c w (subst (Laid c) (sym is) (laid c w)) cc }
 
 -- `tables-loaded`: THE TWO TABLES OF A CARD HOLD ITS ROWS
 pub tables-loaded : (c : Card) → Wellformed c → Loaded c (numbersTable c) (startsOf c)

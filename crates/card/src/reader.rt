@@ -21,10 +21,10 @@ use crate::layout::width_at;
 ghost use mathlib.Core.Path.{_≡_};
 ghost use mathlib.Core.Bool.{true};
 ghost use Prim.Native.Nat.{_+_, _*_, _≤_};
-ghost use lib.ListN.{length};
+ghost use lib.ListN.{length, replicate};
 ghost use Rattle.card.specs.Parsing.{readCard, excess};
 ghost use Rattle.card.specs.Tables.{IsRead};
-ghost use Rattle.card.specs.inner.Reader.{IsRefused, excessOf, arcHeadWidth, IsArcHead, IsEnded};
+ghost use Rattle.card.specs.inner.Reader.{IsRefused, excessOf, arcHeadWidth, IsArcHead, endedAs, IsFilled};
 ghost use Rattle.card.specs.declared.layout.Phase.the-variants.{Direction};
 
 // Whole: how many subnets, places and transitions. Refused: why, and at which bit.
@@ -108,26 +108,22 @@ fn refused(f: FormatFault, at: usize) -> CardRead
 }
 
 // The answer once the last field, which ends before bit end, is read.
-fn ended(card: &[u8], end: usize, k: Counts, numbers: [u16; TABLE]) -> CardRead
+fn ended(card: &[u8], end: usize, k: Counts) -> ReadAnswer
     requires { ⌜ (end ≤ 8 * length (now card)) × (end ≤ 1000000) ⌝ }
-    ensures { λ r. ⌜ IsEnded (excess (now (card .entry)) end) k numbers r ⌝ }
+    ensures { λ r. ⌜ r ≡ endedAs (excess (now (card .entry)) end) k ⌝ }
 {
     match excess_at(card, end) {
-        Excess::At(i) => refused(FormatFault::BadFill, i),
-        Excess::Nothing => CardRead {
-            answer: ReadAnswer::Whole(k),
-            numbers: numbers,
-            starts: index(&numbers, k.subnets),
-        },
+        Excess::At(i) => ReadAnswer::Refused(FormatFault::BadFill, i),
+        Excess::Nothing => ReadAnswer::Whole(k),
     }
 }
 
-// Reads a card. Two wrong readers that this rules out: one that does not look at the fill bits, and one that leaves gaps between the
-// numbers.
-pub fn read(card: &[u8]) -> CardRead
-    ensures { λ r. ⌜ IsRead (readCard (now (card .entry))) r ⌝ }
+// Reads the fields of a card into a lent table of zeros. Of a card that is refused some numbers may stand there.
+fn fill(card: &[u8], numbers: &mut [u16]) -> ReadAnswer
+    requires { ⌜ now numbers ≡ replicate 33026 0 ⌝ }
+    ensures { λ r. ⌜ length (now (numbers .exit)) ≡ length (now (numbers .entry)) ⌝ }
+    ensures { λ r. ⌜ IsFilled (readCard (now (card .entry))) r (now (numbers .exit)) ⌝ }
 {
-    let mut numbers = [0; TABLE];
     let mut l = start();
     let mut at = 0;
     let mut n = 0;
@@ -143,7 +139,7 @@ pub fn read(card: &[u8]) -> CardRead
         } else {
             let w = width(l);
             if card.len() < (at + w + 7) / 8 {
-                return refused(FormatFault::Truncated, at);
+                return ReadAnswer::Refused(FormatFault::Truncated, at);
             }
             let v = bit_field(card, at, w);
             if arc_behind(l) {
@@ -161,11 +157,28 @@ pub fn read(card: &[u8]) -> CardRead
                     }
                     Move::Done(k) => {
                         numbers[n] = v;
-                        return ended(card, at + w, k, numbers);
+                        return ended(card, at + w, k);
                     }
-                    Move::Bad(f) => return refused(f, at),
+                    Move::Bad(f) => return ReadAnswer::Refused(f, at),
                 }
             }
         }
+    }
+}
+
+// Reads a card. Two wrong readers that this rules out: one that does not look at the fill bits, and one that leaves gaps between the
+// numbers.
+pub fn read(card: &[u8]) -> CardRead
+    ensures { λ r. ⌜ IsRead (readCard (now (card .entry))) r ⌝ }
+{
+    let mut numbers = [0; TABLE];
+    let a = fill(card, &mut numbers);
+    match a {
+        ReadAnswer::Refused(f, at) => refused(f, at),
+        ReadAnswer::Whole(k) => CardRead {
+            answer: ReadAnswer::Whole(k),
+            numbers: numbers,
+            starts: index(&numbers, k.subnets),
+        },
     }
 }

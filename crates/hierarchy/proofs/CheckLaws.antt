@@ -7,10 +7,10 @@ use native.Mathlib.Omega.{arith}
 use lib.ListN.{length}
 use Rattle.card.specs.Finite.{_otherwise_}
 use Rattle.card.specs.Card.{Card}
-use Rattle.card.specs.Index.{Loaded}
+use Rattle.card.specs.Index.{startsSize, Loaded}
 use Rattle.card.specs.Parsing.{Parsing, readCard}
 use Rattle.card.specs.Parsing
-use Rattle.card.specs.Tables.{readOutcome, outcomeOf, IsRead}
+use Rattle.card.specs.Tables.{tableSize, zeros, readOutcome, outcomeOf, IsRead}
 use Rattle.card.specs.Tables
 use Rattle.card.specs.Numbers
 use Rattle.card.specs.declared.Counts.{Counts}
@@ -20,10 +20,11 @@ use Rattle.card.specs.declared.reader.ReadAnswer.the-variants.{Whole, Refused a
 use Rattle.card.proofs.Ranges.{read-wellformed}
 use Rattle.card.proofs.ReadLaws.{read-loaded}
 use Rattle.hierarchy.specs.Check.{Found, findingOf, check}
-use Rattle.hierarchy.specs.Judgement.{judge, judged, IsChecked, IsTurnedBack}
+use Rattle.hierarchy.specs.Numbers.{checkOutcome}
+use Rattle.hierarchy.specs.Judgement.{judge, judged, answer, IsChecked, IsTurnedBack}
 use Rattle.hierarchy.specs.declared.CardFault.{CardFault}
 use Rattle.hierarchy.specs.declared.CardFault.the-variants.{Format}
-use Rattle.hierarchy.specs.declared.Answer.the-variants.{Accepted}
+use Rattle.hierarchy.specs.declared.Answer.the-variants.{Accepted, Refused}
 use Rattle.hierarchy.specs.declared.Finding.{Finding}
 use Rattle.hierarchy.specs.declared.Finding.the-variants.{Nothing, Fault}
 use Rattle.hierarchy.specs.declared.check.CheckedCard.{CheckedCard}
@@ -87,3 +88,21 @@ module _ (bytes : List ℕ) (r : CardRead) (h : IsRead (readCard bytes) r) where
         let q = g (x .card) card-tables (x .subnets) ((read-wellformed bytes (x .card) (x .end) (x .is)) .fewSubnets) in
         let z : IsRead (Parsing.whole (x .card) (x .end)) r = subst (λ (y : Parsing Card). IsRead y r) (x .is) h in
         rw (x .is, ← q) (record { answer = same-counts _ _ _ _ _ _ (x .subnets) (x .places) (x .transitions); numbers = z .numbers; starts = z .starts })
+
+-- the same of the answer alone
+abbrev blank : CardFault → (at : ℕ) → CheckedCard
+blank f at = record { answer = Refused f at; numbers = zeros tableSize; starts = zeros startsSize }
+
+module _ (bytes : List ℕ) (r : CardRead) (h : IsRead (readCard bytes) r) where
+  pub answer-unread : (f : FormatFault) (at : ℕ) → r .answer ≡ NotRead f at → checkOutcome (Refused (Format f) at) ≡ answer bytes
+  answer-unread f at e = read-refused bytes r h f at (blank (Format f) at) e (record { answer = refl; numbers = refl; starts = refl }) .answer
+
+  module _ (k : Counts) (e : r .answer ≡ Whole k) where
+    pub answer-refused : (f : CardFault) (at : ℕ)
+        → ((d : Card) → Loaded d (r .numbers) (r .starts) → k .subnets ≡ length (d .subnets) → length (d .subnets) ≤ 32 → findingOf (Fault f at) ≡ check d)
+        → checkOutcome (Refused f at) ≡ answer bytes
+    answer-refused f at g = check-refused bytes r h k e f at (blank f at) g (record { answer = refl; numbers = refl; starts = refl }) .answer
+
+    pub answer-accepted : ((d : Card) → Loaded d (r .numbers) (r .starts) → k .subnets ≡ length (d .subnets) → length (d .subnets) ≤ 32 → findingOf Nothing ≡ check d)
+        → checkOutcome (Accepted (k .subnets) (k .places) (k .transitions)) ≡ answer bytes
+    answer-accepted g = check-accepted bytes r h k e g .answer

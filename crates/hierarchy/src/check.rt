@@ -5,6 +5,7 @@ use crate::Finding;
 use crate::arcs::arcs_fault;
 use crate::interfaces::interfaces_fault;
 use crate::types::types_fault;
+use card::Counts;
 use card::STARTS;
 use card::TABLE;
 use card::reader::ReadAnswer;
@@ -15,6 +16,7 @@ ghost use lib.ListN.{length};
 ghost use Rattle.card.specs.Card.{Card};
 ghost use Rattle.card.specs.Index.{Loaded};
 ghost use Rattle.hierarchy.specs.Numbers.{checkOutcome};
+ghost use Rattle.hierarchy.specs.declared.Answer.the-variants.{Accepted};
 ghost use Rattle.hierarchy.specs.Check.{findingOf, check as firstFault};
 ghost use Rattle.hierarchy.specs.Judgement.{judge, answer, IsChecked, IsTurnedBack, HandedOn};
 
@@ -26,7 +28,7 @@ pub struct CheckedCard {
 }
 
 // The first fault of pass two.
-fn first_fault(numbers: &[u16], starts: &[u32], subnets: u16) -> Finding
+fn first_fault<'a>(numbers: &'a [u16], starts: &'a [u32], subnets: u16) -> Finding
     ensures { λ r. ⌜ ((c : Card) → Loaded c (now (numbers .entry)) (now (starts .entry)) → subnets ≡ length (c .subnets) → length (c .subnets) ≤ 32 → findingOf r ≡ firstFault c) ⌝ }
 {
     let a = arcs_fault(numbers, starts, subnets);
@@ -60,6 +62,16 @@ fn handed_on(a: ReadAnswer) -> CheckedCard
     }
 }
 
+fn accepted(k: Counts) -> Answer
+    ensures { λ r. ⌜ r ≡ Accepted (k .subnets) (k .places) (k .transitions) ⌝ }
+{
+    Answer::Accepted(
+        k.subnets as usize,
+        k.places as usize,
+        k.transitions as usize,
+    )
+}
+
 // Checks a card, for a caller that goes on with its tables. Two wrong checks that this rules out: one that hands on the tables of a card
 // that it refused, and one that looks at the types of subnets before their interface places.
 pub fn load(card: &[u8]) -> CheckedCard
@@ -70,18 +82,12 @@ pub fn load(card: &[u8]) -> CheckedCard
     let ReadAnswer::Whole(k) = a else {
         return handed_on(a);
     };
-    let numbers = r.numbers;
-    let starts = r.starts;
-    match first_fault(&numbers, &starts, k.subnets) {
+    match first_fault(&r.numbers, &r.starts, k.subnets) {
         Finding::Fault(f, at) => turned_back(f, at),
         Finding::Nothing => CheckedCard {
-            answer: Answer::Accepted(
-                k.subnets as usize,
-                k.places as usize,
-                k.transitions as usize,
-            ),
-            numbers: numbers,
-            starts: starts,
+            answer: accepted(k),
+            numbers: r.numbers,
+            starts: r.starts,
         },
     }
 }
@@ -90,6 +96,13 @@ pub fn load(card: &[u8]) -> CheckedCard
 pub fn check(card: &[u8]) -> Answer
     ensures { λ r. ⌜ checkOutcome r ≡ answer (now (card .entry)) ⌝ }
 {
-    let r = load(card);
-    r.answer
+    let r = read(card);
+    let a = r.answer;
+    match a {
+        ReadAnswer::Refused(f, at) => Answer::Refused(CardFault::Format(f), at),
+        ReadAnswer::Whole(k) => match first_fault(&r.numbers, &r.starts, k.subnets) {
+            Finding::Fault(f, at) => Answer::Refused(f, at),
+            Finding::Nothing => accepted(k),
+        },
+    }
 }

@@ -3,12 +3,10 @@ use Prim.Native.Nat.{ℕ, _+_}
 use mathlib.Core.Path.{_≡_}
 use mathlib.Core.List.{List}
 use mathlib.Core.Option.{Option, none, some}
-use lib.ListN.{length}
 use Rattle.card.specs.Bits.{bit, bitField}
 use Rattle.card.specs.Card.{Card}
 use Rattle.card.specs.inner.Layout.{widthAt}
-use Rattle.card.specs.Index.{startsSize, startsOf, Laid}
-use Rattle.card.specs.Wellformed.{Wellformed}
+use Rattle.card.specs.Index.{startsSize}
 use Rattle.card.specs.declared.Counts.{Counts}
 use Rattle.card.specs.declared.FormatFault.{FormatFault}
 use Rattle.card.specs.declared.FormatFault.the-variants.{BadFill}
@@ -18,7 +16,9 @@ use Rattle.card.specs.declared.reader.Excess.{Excess}
 use Rattle.card.specs.declared.reader.Excess.the-variants.{Nothing, At}
 use Rattle.card.specs.declared.reader.ReadAnswer.the-variants.{Whole, Refused}
 use Rattle.card.specs.declared.reader.CardRead.{CardRead}
-use Rattle.card.specs.Tables.{tableSize, zeros}
+use Rattle.card.specs.Parsing.{Parsing, whole}
+use Rattle.card.specs.Tables.{tableSize, zeros, numbersTable, readOutcome, outcomeOf}
+use Rattle.card.specs.declared.reader.ReadAnswer.{ReadAnswer}
 
 -- a refusal, with an empty table
 pub record IsRefused (f : FormatFault) (at : ℕ) (r : CardRead) : Type 0 where
@@ -36,14 +36,14 @@ pub record IsArcHead (bytes : List ℕ) (at : ℕ) (r : ArcHead) : Type 0 where
   pub place : r .place ≡ bitField (bit bytes) (at + widthAt Direction + widthAt ArcSubnet) (widthAt ArcPlace)
 
 -- the last field is read, and what is in excess is known
-pub record IsWhole (k : Counts) (xs : List ℕ) (r : CardRead) : Type 0 where
-  pub answer : r .answer ≡ Whole k
-  pub numbers : r .numbers ≡ xs
-  pub starts : (c : Card) → Wellformed c → Laid c xs → k .subnets ≡ length (c .subnets) → r .starts ≡ startsOf c
+abbrev pub endedAs : (excess : Option ℕ) → Counts → ReadAnswer
+endedAs none k = Whole k
+endedAs (some i) k = Refused BadFill i
 
-abbrev pub IsEnded : (excess : Option ℕ) → Counts → (numbers : List ℕ) → CardRead → Type 0
-IsEnded none k numbers r = IsWhole k numbers r
-IsEnded (some i) k numbers r = IsRefused BadFill i r
+-- what the walk over a card's fields says, and the table that it leaves of a card that is whole
+pub record IsFilled (x : Parsing Card) (r : ReadAnswer) (numbers : List ℕ) : Type 0 where
+  pub answer : readOutcome r ≡ outcomeOf x
+  pub table : (c : Card) (end : ℕ) → x ≡ whole c end → numbers ≡ numbersTable c
 
 abbrev pub excessOf : Excess → Option ℕ
 excessOf Nothing = none

@@ -24,12 +24,6 @@ handed-on-requires c κs = search needs
 returns : tie.Need-returns
 returns c = read-refused (now ((c .before .before .before .before .before .args) .card)) ((c .before .before .before .read) .result) ((c .before .before .before .read) .ensures) _ _ ((c .handed-on) .result) ((c .before .enum-told) .given .1) (subst (λ (x : ReadAnswer). HandedOn x ((c .handed-on) .result)) ((c .before .enum-told) .given .1) ((c .handed-on) .ensures))
 
-slice-aggregate-first-fault : tie.Need-slice-aggregate-first-fault
-slice-aggregate-first-fault c = search needs
-
-slice-aggregate-first-fault-2 : tie.Need-slice-aggregate-first-fault-2
-slice-aggregate-first-fault-2 c = search needs
-
 first-fault-requires : tie.Need-first-fault-requires
 first-fault-requires c κs = search needs
 
@@ -42,20 +36,14 @@ turned-back-requires c κs = search needs
 enum-told-2 : tie.Need-enum-told-2
 enum-told-2 c = search needs
 
-cast-t15 : tie.Need-cast-t15
-cast-t15 c = search needs
-
-cast-t16 : tie.Need-cast-t16
-cast-t16 c = search needs
-
-cast-t17 : tie.Need-cast-t17
-cast-t17 c = search needs
+accepted-requires : tie.Need-accepted-requires
+accepted-requires c κs = search needs
 
 returns-2 : tie.Need-returns-2
-returns-2 c = check-refused (now ((c .before .before .before .before .before .before .before .before .before .before .before .before .before .before .args) .card)) ((c .before .before .before .before .before .before .before .before .before .before .before .before .read) .result) ((c .before .before .before .before .before .before .before .before .before .before .before .before .read) .ensures) _ ((c .before .before .before .before .before .before .before .before .before .before .a) .given .1) _ _ ((c .turned-back) .result) (λ d l s w. sym (ap findingOf ((c .before .before .f) .given .1)) ∙ (c .before .before .before .before .first-fault) .ensures d l s w) ((c .turned-back) .ensures)
+returns-2 c = check-refused (now ((c .before .before .before .before .before .before .before .before .before .before .before .before .before .before .before .args) .card)) ((c .before .before .before .before .before .before .before .before .before .before .before .before .before .read) .result) ((c .before .before .before .before .before .before .before .before .before .before .before .before .before .read) .ensures) _ ((c .before .before .before .before .before .before .before .before .before .before .before .a) .given .1) _ _ ((c .turned-back) .result) (λ d l s w. sym (ap findingOf ((c .before .before .f) .given .1)) ∙ (c .before .before .before .before .first-fault) .ensures d l s w) ((c .turned-back) .ensures)
 
 returns-3 : tie.Need-returns-3
-returns-3 c = check-accepted (now ((c .before .before .before .before .before .before .before .before .before .before .before .before .before .before .before .args) .card)) ((c .before .before .before .before .before .before .before .before .before .before .before .before .before .read) .result) ((c .before .before .before .before .before .before .before .before .before .before .before .before .before .read) .ensures) _ ((c .before .before .before .before .before .before .before .before .before .before .before .a) .given .1) (λ d l s w. sym (ap findingOf ((c .before .before .before .enum-told2) .given .1)) ∙ (c .before .before .before .before .before .first-fault) .ensures d l s w)
+returns-3 c = rw (c .before .before .accepted .ensures) (check-accepted (now ((c .before .before .before .before .before .before .before .before .before .before .before .before .before .before .before .before .args) .card)) ((c .before .before .before .before .before .before .before .before .before .before .before .before .before .before .read) .result) ((c .before .before .before .before .before .before .before .before .before .before .before .before .before .before .read) .ensures) _ ((c .before .before .before .before .before .before .before .before .before .before .before .before .a) .given .1) (λ d l s w. sym (ap findingOf ((c .before .before .before .enum-told2) .given .1)) ∙ (c .before .before .before .before .before .first-fault) .ensures d l s w))
 
 pub load-spec : {M : Type 1} → statement M
 load-spec =
@@ -66,14 +54,10 @@ load-spec =
     enum-told
     handed-on-requires
     returns
-    slice-aggregate-first-fault
-    slice-aggregate-first-fault-2
     first-fault-requires
     enum-known-f
     turned-back-requires
     enum-told-2
-    cast-t15
-    cast-t16
-    cast-t17
+    accepted-requires
     returns-2
     returns-3)
