@@ -11,12 +11,12 @@ import shutil
 import subprocess
 import sys
 import tempfile
-from itertools import chain
 
 root = pathlib.Path(__file__).resolve().parent.parent
 sys.path.insert(0, str(root / "tests" / "second"))
 
 import cards
+import make_card_cases
 import net
 
 SIZES = {"most_subnets": 3, "most_rows": 3, "most_signals": 3}
@@ -75,8 +75,10 @@ def lent(s, counts):
 
 
 def slices(card):
-    rows = (card.subnets, card.places, card.transitions, card.arcs)
-    return f"{card.version} {card.signals} " + " ".join(bytes_(chain(*table)) for table in rows)
+    """The writer's header and four slices."""
+    tables = make_card_cases.given(card)
+    header = "; ".join(f"{name} = {value}" for name, value in zip(make_card_cases.HEADER, tables.header))
+    return f"(record {{ {header} }}) " + " ".join(map(bytes_, tables.slices))
 
 
 def programs(data, rows):
@@ -149,9 +151,7 @@ def call_case(rng):
 
 def write_case(rng):
     """The writer: tables that fit or not, counts right or wrong, buffers long and short."""
-    card = cards.any_card(rng, **SIZES)
-    if rng.randrange(2):
-        card = cards.damaged(rng, card)
+    card = cards.given_tables(rng, cards.any_card(rng, **SIZES))
     if rng.randrange(6) == 0:
         card.arcs.append(net.Arc(0, 0, 0, 1))
     length = rng.choice((0, 20, 60, 200))
@@ -245,4 +245,5 @@ def main():
     sys.exit(1 if wrong else 0)
 
 
-main()
+if __name__ == "__main__":
+    main()

@@ -160,7 +160,7 @@ def written(function, lent, answer, values):
 
 
 def write(rng, tables):
-    lent = [halves((tables.version, tables.signals)), *map(halves, tables.slices), rng.randbytes(tables.room)]
+    lent = [*map(halves, (tables.header, *tables.slices)), rng.randbytes(tables.room)]
     answer, *values = make_card_cases.written(tables)
     return written(WRITE, lent, answer, values)
 
@@ -183,6 +183,7 @@ def refused_tables():
     yield from make_card_cases.refused_tables(bench)
     yield make_card_cases.given(make_card_cases.changed(bench, "subnets", 0, "type", 2))
     yield from make_card_cases.edge_tables(bench)
+    yield from make_card_cases.later_edge_tables(bench)
     yield from make_card_cases.uneven_tables(bench)
     yield from (make_card_cases.given(card, 64) for _, card in hierarchies.numbered())
 
@@ -251,7 +252,7 @@ def lengths(rng):
     for tables in (cards.bench_card(), make_examples.robot(), full):
         yield from lengths_of(Card(net.encode(tables), rng))
     # Tables that have the right length in 16 bits, tables without rows, and cards that do.
-    for index, (_, row, _) in enumerate(make_card_cases.SLICES):
+    for index, row in enumerate(make_card_cases.SLICES.values()):
         tables = make_card_cases.given(cards.bench_card(), 64)
         for numbers in (tables.slices[index] + len(row._fields) * 65536 * [0], []):
             slices = [*tables.slices[:index], numbers, *tables.slices[index + 1:]]

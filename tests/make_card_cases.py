@@ -24,13 +24,13 @@ import net
 CARD, TABLES = 0, 1
 GUARD = b"\xa5"
 
-# The four slices, with their rows and the widths of the columns.
-SLICES = [
-    ("subnets", net.Subnet, net.SUBNET_BITS),
-    ("places", net.Place, net.PLACE_BITS),
-    ("transitions", net.Transition, net.TRANSITION_BITS),
-    ("arcs", net.Arc, net.ARC_BITS),
-]
+# The header's numbers, and the four slices with their rows.
+HEADER = ("version", "signals", "limit", "scale")
+SLICES = {"subnets": net.Subnet, "places": net.Place, "transitions": net.Transition, "arcs": net.Arc}
+
+# The fields that later versions bring, and versions without and with them.
+LATER = ("limit", "scale", "rank")
+VERSIONS = (1, 2, 3, 4, 5, 15)
 
 # What pass one and the writer refuse in bench card A: the number, the field's first bit, its row and its values.
 WRONG = [
@@ -110,9 +110,8 @@ SECOND_ARC = [
 
 
 class Tables(NamedTuple):
-    """What the writer is given: two numbers, four slices, and a buffer of so many bytes."""
-    version: int
-    signals: int
+    """What the writer is given: the header's numbers, four slices, and a buffer of so many bytes."""
+    header: list
     slices: list
     room: int
 
@@ -136,8 +135,9 @@ def sized(subnets):
 
 
 def given(card, room=32):
-    slices = [[value for row in getattr(card, name) for value in row] for name, _, _ in SLICES]
-    return Tables(card.version, card.signals, slices, room)
+    header = [getattr(card, name) for name in HEADER]
+    slices = [[value for row in getattr(card, name) for value in row] for name in SLICES]
+    return Tables(header, slices, room)
 
 
 # Cards that are read
@@ -148,10 +148,10 @@ def whole(data):
 
 
 def wrong_cards(bench):
-    for number, bit, *place, values in WRONG:
-        for value in values:
-            yield number, bit, net.encode(changed(bench, *place, value))
-    for number, bit, width, values in WRONG_COUNTS:
+    widths = net.widths(bench.version)
+    wrong = [(number, bit, getattr(getattr(widths, table), field), values)
+             for number, bit, table, _, field, values in WRONG]
+    for number, bit, width, values in wrong + WRONG_COUNTS:
         for value in values:
             yield number, bit, cards.with_field(net.encode(bench), bit, width, value)
 
@@ -245,29 +245,51 @@ def refused_tables(bench):
         yield tables._replace(room=room)
 
 
-def fields(bench):
+def fields(card):
     """The header's fields, and those of the first and the last row of each table, with their widths."""
-    yield "header", 0, "version", net.VERSION_BITS
-    yield "header", 0, "signals", net.SIGNALS_BITS
-    for name, row, widths in SLICES:
-        for index in (0, len(getattr(bench, name)) - 1):
-            for field, width in zip(row._fields, widths):
+    widths = net.widths(card.version)
+    for field in HEADER:
+        yield "header", 0, field, getattr(widths.header, field)
+    for name, row in SLICES.items():
+        for index in (0, len(getattr(card, name)) - 1):
+            for field, width in zip(row._fields, getattr(widths, name)):
                 yield name, index, field, width
 
 
 def edge_tables(bench):
     """Each field with the largest number that fits, the one after it, and the largest of all."""
     for *place, width in fields(bench):
-        yield given(changed(bench, *place, (1 << width) - 1))
-        for card, value in ((misversioned(bench), 1 << width), (bench, 65535)):
-            tables = given(changed(card, *place, value))
-            assert spelt(tables) == net.Refusal(17, 0), (place, value)
-            yield tables
+        if place[-1] not in LATER:
+            yield given(changed(bench, *place, (1 << width) - 1))
+            yield misfit(misversioned(bench), *place, 1 << width)
+            yield misfit(bench, *place, 65535)
+
+
+def later_edge_tables(bench):
+    """The same for the fields of later versions. Where a number fits, the version is refused."""
+    for version in VERSIONS:
+        card = changed(bench, "header", 0, "version", version)
+        for *place, width in fields(card):
+            if place[-1] not in LATER:
+                continue
+            if width > 0:
+                tables = given(changed(card, *place, (1 << width) - 1))
+                assert spelt(tables) == net.Refusal(2, 0), (version, place)
+                yield tables
+            yield misfit(card, *place, 1 << width)
+            yield misfit(card, *place, 65535)
+
+
+def misfit(card, *change):
+    """Tables with a number that does not fit its field."""
+    tables = given(changed(card, *change))
+    assert spelt(tables) == net.Refusal(17, 0), (card.version, change)
+    return tables
 
 
 def uneven_tables(card):
     """A number and a row more and fewer in each slice."""
-    for index, (_, row, _) in enumerate(SLICES):
+    for index, row in enumerate(SLICES.values()):
         size = len(row._fields)
         numbers = given(card).slices[index]
         for other in (numbers[:-1], numbers + [0], numbers[:-size], numbers + numbers[-size:]):
@@ -288,9 +310,7 @@ def hierarchy_tables():
 def random_tables(rng):
     card = cards.any_card(rng) if rng.randrange(3) else hierarchies.random_family(rng)
     length = len(net.encode(card))
-    if rng.randrange(2):
-        card = cards.damaged(rng, card)
-    return given(card, length + rng.choice((-1, 0, 1, 20)))
+    return given(cards.given_tables(rng, card), length + rng.choice((-1, 0, 1, 20)))
 
 
 def tables_cases(rng):
@@ -300,7 +320,7 @@ def tables_cases(rng):
         *(given(bench, room) for room in (29, 28, 30, 0, 64, 65)),
         *refused_tables(bench),
         *(given(sized(subnets), 2000) for subnets in RIGHT_SIZES),
-        *edge_tables(bench),
+        *edge_tables(bench), *later_edge_tables(bench),
         *uneven_tables(bench), *uneven_tables(misversioned(bench)),
         *(given(largest, room) for room in (22769, 22770, 22771)),
         *hierarchy_tables(),
@@ -314,12 +334,13 @@ def tables_cases(rng):
 def rows_of(tables):
     """The tables' rows as a card; None where a slice ends inside a row."""
     rows = []
-    for numbers, (_, row, _) in zip(tables.slices, SLICES):
+    for numbers, row in zip(tables.slices, SLICES.values()):
         size = len(row._fields)
         if len(numbers) % size != 0:
             return None
         rows.append([row(*numbers[at:at + size]) for at in range(0, len(numbers), size)])
-    return net.Card(tables.signals, *rows, tables.version)
+    version, signals, limit, scale = tables.header
+    return net.Card(signals, *rows, version, limit, scale)
 
 
 def spelt(tables):
@@ -351,7 +372,7 @@ def led(kind, data):
 
 def packed(tables):
     """The tables as numbers of two bytes. Zeros at the end are left out."""
-    numbers = [tables.version, tables.signals, *map(len, tables.slices), tables.room]
+    numbers = [*tables.header, *map(len, tables.slices), tables.room]
     numbers += sum(tables.slices, [])
     while numbers[-1] == 0:
         numbers.pop()

@@ -34,11 +34,12 @@ uint64_t net_check(const uint8_t *card, size_t card_bytes, size_t counts[4], siz
 /* 1 to 16, 24. The flat card is in out, and what stood behind its length still stands there. */
 uint64_t net_flatten(const uint8_t *card, size_t card_bytes, uint8_t *out, size_t out_bytes, size_t *value);
 
-/* 17, 2 to 16, 24. Tables row after row: subnets (parent, type, places, transitions), places (kind, capacity, first tokens), transitions
- * (signal, number of arcs), arcs (direction, subnet, place, weight); a table's size is the number of its entries, not of its rows. */
-uint64_t net_write(uint16_t version, uint16_t signals, const uint16_t *subnets, size_t subnets_size, const uint16_t *places,
-                   size_t places_size, const uint16_t *transitions, size_t transitions_size, const uint16_t *arcs, size_t arcs_size,
-                   uint8_t *out, size_t out_bytes, size_t *value);
+/* 17, 2 to 16, 24. The header is version, signals, limit, scale. Tables row after row: subnets (parent, type, places, transitions), places
+ * (kind, capacity, first tokens), transitions (signal, number of arcs, rank), arcs (direction, subnet, place, weight); a table's size is the
+ * number of its entries, not of its rows. Limit, scale and rank are 0 on a version 1 card, which has no such fields. */
+uint64_t net_write(const uint16_t header[4], const uint16_t *subnets, size_t subnets_size, const uint16_t *places, size_t places_size,
+                   const uint16_t *transitions, size_t transitions_size, const uint16_t *arcs, size_t arcs_size, uint8_t *out,
+                   size_t out_bytes, size_t *value);
 
 /* A state is three buffers: markings in thousandths of a token by flat place, transfers by flat transition (NET_IDLE or a progress), and the
  * last degree of each signal. A buffer of another size than the card's number of places, transitions or signals is 25. */

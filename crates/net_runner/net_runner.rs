@@ -5,8 +5,7 @@ extern "C" {
     fn net_check(card: *const u8, card_bytes: usize, counts: *mut usize, value: *mut usize) -> u64;
     fn net_flatten(card: *const u8, card_bytes: usize, out: *mut u8, out_bytes: usize, value: *mut usize) -> u64;
     fn net_write(
-        version: u16,
-        signals: u16,
+        header: *const u16,
         subnets: *const u16,
         subnets_size: usize,
         places: *const u16,
@@ -77,10 +76,12 @@ pub struct State {
     pub degrees: Vec<u16>,
 }
 
-/// Each table is its rows, number after number.
+/// Each table is its rows, number after number. Limit, scale and the ranks of transitions are 0 on a version 1 card.
 pub struct Tables {
     pub version: u16,
     pub signals: u16,
+    pub limit: u16,
+    pub scale: u16,
     pub subnets: Vec<u16>,
     pub places: Vec<u16>,
     pub transitions: Vec<u16>,
@@ -111,13 +112,13 @@ pub fn flatten(card: &[u8], out: &mut [u8]) -> Result<usize, Refusal> {
     answer(number, value)
 }
 
-/// Tables row after row, as the header has them.
+/// Tables row after row, as net_runner.h has them.
 pub fn write(tables: &Tables, out: &mut [u8]) -> Result<usize, Refusal> {
+    let header = [tables.version, tables.signals, tables.limit, tables.scale];
     let mut value = usize::MAX;
     let number = unsafe {
         net_write(
-            tables.version,
-            tables.signals,
+            header.as_ptr(),
             tables.subnets.as_ptr(),
             tables.subnets.len(),
             tables.places.as_ptr(),

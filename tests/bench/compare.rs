@@ -12,8 +12,8 @@ const TURNED_BITS: usize = 1000;
 /// How many rows are run on each card of a file.
 const FEW_ROWS: usize = 3;
 
-/// A card's numbers, field after field.
-fn numbers(card: &Card) -> Vec<u8> {
+/// A card's numbers, field after field, those of no bits among them.
+fn numbers(card: &Card) -> Vec<u16> {
     let mut all = Vec::new();
     each_field(card, |value, _| all.push(value));
     all

@@ -26,6 +26,8 @@ fn flat(card: &Card) -> Card {
     Card {
         version: card.version,
         signals: card.signals,
+        limit: card.limit,
+        scale: card.scale,
         subnets: vec![Subnet {
             parent: 0,
             kind: 0,
@@ -38,11 +40,14 @@ fn flat(card: &Card) -> Card {
     }
 }
 
-/// Hands on the number and the width of each field of a card.
-pub fn each_field(card: &Card, mut put: impl FnMut(u8, u32)) {
-    put(card.version, 4);
-    put(card.subnets.len() as u8, 6);
-    put(card.signals, 6);
+/// Hands on the number and the width of each field of a card, in version 1.
+pub fn each_field(card: &Card, mut put: impl FnMut(u16, u32)) {
+    put(card.version.into(), 4);
+    put(card.subnets.len() as u16, 6);
+    put(card.signals.into(), 6);
+    put(card.limit.into(), 0);
+    put(card.scale, 0);
+    let mut put = |value: u8, width| put(value.into(), width);
     let mut places = card.places.iter();
     let mut transitions = card.transitions.iter();
     let mut arcs = card.arcs.iter();
@@ -59,6 +64,7 @@ pub fn each_field(card: &Card, mut put: impl FnMut(u8, u32)) {
         for t in transitions.by_ref().take(s.transitions.into()) {
             put(t.signal, 6);
             put(t.arcs, 5);
+            put(t.rank, 0);
             for a in arcs.by_ref().take(t.arcs.into()) {
                 put(a.direction, 1);
                 put(a.subnet, 5);
@@ -78,7 +84,7 @@ struct Bits {
 
 impl Bits {
     /// Appends a field, most significant bit first.
-    fn put(&mut self, value: u8, width: u32) {
+    fn put(&mut self, value: u16, width: u32) {
         self.pending = self.pending << width | u32::from(value);
         self.waiting += width;
         if self.waiting >= 8 {

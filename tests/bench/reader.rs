@@ -1,4 +1,4 @@
-//! Pass one in plain Rust: a card's bytes into four tables.
+//! Pass one in plain Rust: a card's bytes into four tables. A version 1 card has no bits for limit, scale and rank, which are 0.
 
 pub struct Refusal {
     pub number: u8,
@@ -23,6 +23,7 @@ pub struct Place {
 pub struct Transition {
     pub signal: u8,
     pub arcs: u8,
+    pub rank: u8,
 }
 
 #[derive(Clone, Copy)]
@@ -36,6 +37,8 @@ pub struct Arc {
 pub struct Card {
     pub version: u8,
     pub signals: u8,
+    pub limit: u8,
+    pub scale: u16,
     pub subnets: Vec<Subnet>,
     pub places: Vec<Place>,
     pub transitions: Vec<Transition>,
@@ -101,6 +104,8 @@ pub fn read(data: &[u8]) -> Result<Card, Refusal> {
     let mut card = Card {
         version,
         signals,
+        limit: 0,
+        scale: 0,
         subnets: Vec::with_capacity(subnets.into()),
         places: Vec::new(),
         transitions: Vec::new(),
@@ -149,7 +154,7 @@ fn read_subnet(bits: &mut Bits, card: &mut Card, number: u8) -> Result<(), Refus
     for _ in 0..transitions {
         let signal = bits.field(6, 8, |v| v < card.signals)?;
         let arcs = bits.field(5, 8, |v| v >= 1)?;
-        card.transitions.push(Transition { signal, arcs });
+        card.transitions.push(Transition { signal, arcs, rank: 0 });
         for _ in 0..arcs {
             let direction = bits.any(1)?;
             let subnet = bits.any(5)?;

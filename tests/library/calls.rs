@@ -16,9 +16,11 @@ fn bench_tables() -> Tables {
     Tables {
         version: 1,
         signals: 2,
+        limit: 0,
+        scale: 0,
         subnets: vec![0, 0, 1, 1, 0, 0, 2, 1],
         places: vec![0, 1, 1, 1, 1, 0, 0, 2, 0],
-        transitions: vec![0, 2, 1, 2],
+        transitions: vec![0, 2, 0, 1, 2, 0],
         arcs: vec![0, 0, 0, 1, 1, 1, 0, 1, 0, 1, 0, 1, 1, 1, 1, 1],
     }
 }
@@ -108,6 +110,13 @@ impl Tests {
         self.refused("write, a number that does not fit", [7; 64], |out| write(&wide, out), 17, 0);
         let next = Tables { version: 2, ..bench_tables() };
         self.refused("write, another version", [7; 64], |out| write(&next, out), 2, 0);
+        let limited = Tables { limit: 1, ..bench_tables() };
+        self.refused("write, a limit in version 1", [7; 64], |out| write(&limited, out), 17, 0);
+        let scaled = Tables { scale: 1000, ..bench_tables() };
+        self.refused("write, a scale in version 1", [7; 64], |out| write(&scaled, out), 17, 0);
+        let ranked = |version| Tables { version, transitions: vec![0, 2, 0, 1, 2, 255], ..bench_tables() };
+        self.refused("write, a rank in version 1", [7; 64], |out| write(&ranked(1), out), 17, 0);
+        self.refused("write, a rank in version 3", [7; 64], |out| write(&ranked(3), out), 2, 0);
         self.refused("write, a short buffer", [7; 28], |out| write(&bench_tables(), out), 24, 29);
         self.refused("fresh, 28 bytes", blank_state(3, 2, 2), |state| fresh(cut, state), 1, 224);
         self.refused("fresh, a place too many", blank_state(4, 2, 2), |state| fresh(&BENCH, state), 25, 0);

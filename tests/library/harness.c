@@ -37,7 +37,6 @@ struct function {
 #define CARD {"card", 1, INPUT}
 #define STATE {"markings", 4, WRITTEN}, {"transfers", 2, WRITTEN}, {"degrees", 2, WRITTEN}
 
-/* The two numbers that net_write takes by value come as a buffer of their own. */
 enum { CHECK, FLATTEN, WRITE, FRESH, FLAT_ROW, SUBNET_ROW, FUNCTIONS };
 static const struct function functions[FUNCTIONS] = {
     {"net_check", {CARD, {"counts", sizeof(size_t), WRITTEN}}},
@@ -133,14 +132,13 @@ static void release(struct block *b)
 
 static uint64_t call(int function, struct block *b, size_t *value)
 {
-    const uint16_t *header = (uint16_t *)b[0].bytes;
     switch (function) {
     case CHECK:
         return net_check(BYTES(0), (size_t *)b[1].bytes, value);
     case FLATTEN:
         return net_flatten(BYTES(0), BYTES(1), value);
     case WRITE:
-        return net_write(header[0], header[1], HALVES(1), HALVES(2), HALVES(3), HALVES(4), BYTES(5), value);
+        return net_write((uint16_t *)b[0].bytes, HALVES(1), HALVES(2), HALVES(3), HALVES(4), BYTES(5), value);
     case FRESH:
         return net_fresh(BYTES(0), WORDS(1), HALVES(2), HALVES(3), value);
     case FLAT_ROW:

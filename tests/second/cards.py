@@ -1,7 +1,9 @@
 """Random cards and rows, sound and damaged."""
 
-from net import (ARC_BITS, Arc, Card, DRAW, FILL, IN_OUT, MOST, NORMAL, Place, Subnet, Transition,
-                 encode, encode_row, fits, pack)
+from dataclasses import replace
+
+from net import (Arc, Card, DRAW, FILL, IN_OUT, MOST, NORMAL, Place, Subnet, Transition, encode,
+                 encode_row, fits, pack, widths)
 
 # The directions that a parent may use at a place, by kind.
 PARENT_MAY = ((), (FILL,), (DRAW,), (DRAW, FILL))
@@ -21,11 +23,9 @@ def tables(signals, *subnets, version=1):
 
 def change(card, table, index, **values):
     """Tables with one row changed."""
-    changed = Card(card.signals, list(card.subnets), list(card.places), list(card.transitions),
-                   list(card.arcs), card.version)
-    rows = getattr(changed, table)
+    rows = list(getattr(card, table))
     rows[index] = rows[index]._replace(**values)
-    return changed
+    return replace(card, **{table: rows})
 
 
 def with_field(data, bit, width, value):
@@ -88,16 +88,31 @@ def twin_card(rng):
 
 
 def damaged(rng, card):
-    """Tables with one field changed, so that they may be refused."""
+    """Tables with one field changed, of those that have bits, so that they may be refused."""
     table = rng.choice(("header", "subnets", "places", "transitions", "arcs"))
     if table == "header":
-        changed = change(card, "arcs", 0)
-        changed.version, changed.signals = rng.choice(((0, 1), (1, 0), (2, 1), (1, 1)))
-        return changed
+        version, signals = rng.choice(((0, 1), (1, 0), (2, 1), (1, 1)))
+        return replace(card, version=version, signals=signals)
     index = rng.randrange(len(getattr(card, table)))
     row = getattr(card, table)[index]
-    name = rng.choice(row._fields)
+    bits = getattr(widths(card.version), table)
+    name = rng.choice([name for name, width in zip(row._fields, bits) if width])
     return change(card, table, index, **{name: rng.choice((0, 1, 2, 3, getattr(row, name) + 1))})
+
+
+def later_fields(rng, card):
+    """Tables of some version, with numbers in the fields that only later ones have."""
+    index = rng.randrange(len(card.transitions))
+    card = change(card, "transitions", index, rank=rng.choice((0, 0, 1, 255, 256)))
+    return replace(card, version=rng.randint(1, 6), limit=rng.choice((0, 0, 1, 255, 256)),
+                   scale=rng.choice((0, 0, 1, 16383, 16384)))
+
+
+def given_tables(rng, card):
+    """The tables of a card for the writer: as they are in half of the cases, and otherwise changed."""
+    if rng.randrange(2):
+        return card
+    return later_fields(rng, card) if rng.randrange(2) else damaged(rng, card)
 
 
 def sealed(card):
@@ -109,12 +124,14 @@ def sealed(card):
 
 def largest_card(rng):
     """Random tables of the most bytes that pass one takes: 255 transitions of 31 arcs."""
+    bits = widths(1)
+
     def place(number):
         capacity = rng.randint(1, MOST)
         return (rng.randrange(4) if number else NORMAL, capacity, rng.randint(0, capacity))
 
     def transition():
-        arcs = [tuple(rng.randrange(1 << width) for width in ARC_BITS) for _ in range(31)]
+        arcs = [tuple(rng.randrange(1 << width) for width in bits.arcs) for _ in range(31)]
         return (rng.randrange(63), arcs)
 
     rows = []

@@ -12,11 +12,7 @@ DRAW, FILL = 0, 1
 THOUSAND = 1000
 MOST = 255
 
-VERSION_BITS, SUBNETS_BITS, SIGNALS_BITS = 4, 6, 6
-SUBNET_BITS = (5, 5, 8, 8)
-PLACE_BITS = (2, 8, 8)
-TRANSITION_BITS = (6, 5)
-ARC_BITS = (1, 5, 8, 8)
+VERSION_BITS = 4
 DEGREE_BITS = 10
 
 
@@ -28,6 +24,14 @@ class Refusal(NamedTuple):
 
 class CardRefused(Exception):
     """Carries a refusal's number and bit out of pass one."""
+
+
+class Header(NamedTuple):
+    version: int
+    subnets: int
+    signals: int
+    limit: int
+    scale: int
 
 
 class Subnet(NamedTuple):
@@ -46,6 +50,7 @@ class Place(NamedTuple):
 class Transition(NamedTuple):
     signal: int
     arcs: int
+    rank: int = 0
 
 
 class Arc(NamedTuple):
@@ -64,9 +69,37 @@ class Card:
     transitions: list
     arcs: list
     version: int = 1
+    limit: int = 0
+    scale: int = 0
     subnet_bits: list = field(default_factory=list, compare=False)
     transition_bits: list = field(default_factory=list, compare=False)
     arc_bits: list = field(default_factory=list, compare=False)
+
+    def header(self):
+        return Header(self.version, len(self.subnets), self.signals, self.limit, self.scale)
+
+
+class Widths(NamedTuple):
+    """How many bits each field has, in the form of the rows themselves."""
+    header: Header
+    subnets: Subnet
+    places: Place
+    transitions: Transition
+    arcs: Arc
+
+
+def widths(version):
+    """The widths on a card of this version: a field that a later one brings has no bits."""
+    def since(first, bits):
+        return bits if version >= first else 0
+
+    return Widths(
+        header=Header(VERSION_BITS, subnets=6, signals=6, limit=since(4, 8), scale=since(5, 14)),
+        subnets=Subnet(parent=5, type=5, places=8, transitions=8),
+        places=Place(kind=2, capacity=8, tokens=8),
+        transitions=Transition(signal=6, arcs=5, rank=since(3, 8)),
+        arcs=Arc(direction=1, subnet=5, place=8, weight=8),
+    )
 
 
 def starts(counts):
@@ -78,10 +111,10 @@ def starts(counts):
 
 
 class BitReader:
-    """Fields, most significant bit first."""
+    """Fields, most significant bit first. One of no bits reads as 0."""
 
     def __init__(self, data):
-        self.padded = bytes(data) + b"\0"
+        self.padded = bytes(data) + b"\0\0"
         self.length = 8 * len(data)
         self.start = 0
         self.bit = 0
@@ -92,8 +125,8 @@ class BitReader:
             raise CardRefused(1, self.start)
         self.bit = self.start + width
         byte = self.start >> 3
-        pair = self.padded[byte] << 8 | self.padded[byte + 1]
-        return pair >> (16 - (self.start & 7) - width) & ((1 << width) - 1)
+        three = int.from_bytes(self.padded[byte:byte + 3], "big")
+        return three >> (24 - (self.start & 7) - width) & ((1 << width) - 1)
 
     def require(self, condition, number):
         """A test of the field just read."""
@@ -112,58 +145,58 @@ def read_card(data):
 def read_fields(reader):
     version = reader.field(VERSION_BITS)
     reader.require(version == 1, 2)
-    subnets = reader.field(SUBNETS_BITS)
+    bits = widths(version)
+    subnets = reader.field(bits.header.subnets)
     reader.require(1 <= subnets <= 32, 3)
-    signals = reader.field(SIGNALS_BITS)
+    signals = reader.field(bits.header.signals)
     reader.require(1 <= signals <= 63, 3)
-    card = Card(signals, [], [], [], [], version)
+    limit = reader.field(bits.header.limit)
+    scale = reader.field(bits.header.scale)
+    card = Card(signals, [], [], [], [], version, limit, scale)
     for number in range(subnets):
-        read_subnet(reader, card, number)
+        read_subnet(reader, bits, card, number)
     read_fill(reader)
     return card
 
 
-def read_subnet(reader, card, number):
+def read_subnet(reader, bits, card, number):
     card.subnet_bits.append(reader.bit)
-    parent = reader.field(5)
+    parent = reader.field(bits.subnets.parent)
     reader.require(parent < number or parent == number == 0, 4)
-    type_ = reader.field(5)
+    type_ = reader.field(bits.subnets.type)
     reader.require(number != 0 or type_ == 0, 5)
-    places = reader.field(8)
+    places = reader.field(bits.subnets.places)
     reader.require(places >= 1 and len(card.places) + places <= MOST, 6)
-    transitions = reader.field(8)
+    transitions = reader.field(bits.subnets.transitions)
     reader.require(transitions >= 1 and len(card.transitions) + transitions <= MOST, 6)
     card.subnets.append(Subnet(parent, type_, places, transitions))
     for _ in range(places):
-        read_place(reader, card, number)
+        read_place(reader, bits, card, number)
     for _ in range(transitions):
-        read_transition(reader, card)
+        read_transition(reader, bits, card)
 
 
-def read_place(reader, card, subnet):
-    kind = reader.field(2)
+def read_place(reader, bits, card, subnet):
+    kind = reader.field(bits.places.kind)
     reader.require(subnet != 0 or kind == NORMAL, 7)
-    capacity = reader.field(8)
+    capacity = reader.field(bits.places.capacity)
     reader.require(capacity >= 1, 7)
-    tokens = reader.field(8)
+    tokens = reader.field(bits.places.tokens)
     reader.require(tokens <= capacity, 7)
     card.places.append(Place(kind, capacity, tokens))
 
 
-def read_transition(reader, card):
+def read_transition(reader, bits, card):
     card.transition_bits.append(reader.bit)
-    signal = reader.field(6)
+    signal = reader.field(bits.transitions.signal)
     reader.require(signal < card.signals, 8)
-    arcs = reader.field(5)
+    arcs = reader.field(bits.transitions.arcs)
     reader.require(arcs >= 1, 8)
-    card.transitions.append(Transition(signal, arcs))
+    rank = reader.field(bits.transitions.rank)
+    card.transitions.append(Transition(signal, arcs, rank))
     for _ in range(arcs):
         card.arc_bits.append(reader.bit)
-        direction = reader.field(1)
-        subnet = reader.field(5)
-        place = reader.field(8)
-        weight = reader.field(8)
-        card.arcs.append(Arc(direction, subnet, place, weight))
+        card.arcs.append(Arc(*map(reader.field, bits.arcs)))
 
 
 def read_fill(reader):
@@ -318,44 +351,44 @@ def check(data):
 
 def fits(tables):
     """17: each value fits its field, and the entries are as many as the counts say."""
-    header = ((tables.version, len(tables.subnets), tables.signals),)
-    return (rows_fit(header, (VERSION_BITS, SUBNETS_BITS, SIGNALS_BITS))
-            and rows_fit(tables.subnets, SUBNET_BITS)
-            and rows_fit(tables.places, PLACE_BITS)
-            and rows_fit(tables.transitions, TRANSITION_BITS)
-            and rows_fit(tables.arcs, ARC_BITS)
+    bits = widths(tables.version)
+    return (rows_fit([tables.header()], bits.header)
+            and rows_fit(tables.subnets, bits.subnets)
+            and rows_fit(tables.places, bits.places)
+            and rows_fit(tables.transitions, bits.transitions)
+            and rows_fit(tables.arcs, bits.arcs)
             and sum(row[2] for row in tables.subnets) == len(tables.places)
             and sum(row[3] for row in tables.subnets) == len(tables.transitions)
             and sum(row[1] for row in tables.transitions) == len(tables.arcs))
 
 
-def rows_fit(rows, widths):
-    return all(0 <= value < 1 << width for row in rows for value, width in zip(row, widths))
+def rows_fit(rows, bits):
+    return all(0 <= value < 1 << width for row in rows for value, width in zip(row, bits))
 
 
 def encode(tables):
     """The bytes of tables that fit."""
-    bits = []
+    bits = widths(tables.version)
+    digits = []
 
-    def put(values, widths):
-        for value, width in zip(values, widths):
-            bits.append(format(value, f"0{width}b"))
+    def put(row, row_bits):
+        # A field of no bits is left out: its 0 would still be printed as one digit.
+        digits.extend(format(value, f"0{width}b") for value, width in zip(row, row_bits) if width)
 
     places = iter(tables.places)
     transitions = iter(tables.transitions)
     arcs = iter(tables.arcs)
-    put((tables.version, len(tables.subnets), tables.signals),
-        (VERSION_BITS, SUBNETS_BITS, SIGNALS_BITS))
+    put(tables.header(), bits.header)
     for subnet in tables.subnets:
-        put(subnet, SUBNET_BITS)
+        put(subnet, bits.subnets)
         for _ in range(subnet[2]):
-            put(next(places), PLACE_BITS)
+            put(next(places), bits.places)
         for _ in range(subnet[3]):
             transition = next(transitions)
-            put(transition, TRANSITION_BITS)
+            put(transition, bits.transitions)
             for _ in range(transition[1]):
-                put(next(arcs), ARC_BITS)
-    return pack("".join(bits))
+                put(next(arcs), bits.arcs)
+    return pack("".join(digits))
 
 
 def pack(bits):
@@ -396,6 +429,8 @@ def flatten(card):
         arcs=[Arc(arc.direction, 0, first_place[arc.subnet] + arc.place, arc.weight)
               for arc in card.arcs],
         version=card.version,
+        limit=card.limit,
+        scale=card.scale,
     )
 
 
@@ -864,13 +899,13 @@ def read_row(chunk, signals):
     if value & ((1 << fill) - 1):
         return None
     value >>= fill
-    return tuple(value >> DEGREE_BITS * (signals - 1 - signal) & 1023
+    return tuple(value >> DEGREE_BITS * (signals - 1 - signal) & ((1 << DEGREE_BITS) - 1)
                  for signal in range(signals))
 
 
 def encode_row(degrees):
     """The bytes of a row; degrees below 1024."""
-    return pack("".join(format(degree, "010b") for degree in degrees))
+    return pack("".join(format(degree, f"0{DEGREE_BITS}b") for degree in degrees))
 
 
 def row_line(number, reply, state):

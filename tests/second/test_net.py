@@ -2,6 +2,7 @@
 
 import random
 import unittest
+from dataclasses import replace
 
 import net
 from cards import change, random_card, random_row, tables, with_field
@@ -496,6 +497,49 @@ class Types(Cases):
         self.refused(net.encode(card), 15, TWIN_BITS[6])
 
 
+def later_field(card, name, value):
+    """Tables with a rank, limit or scale."""
+    if name == "rank":
+        return change(card, "transitions", 1, rank=value)
+    return replace(card, **{name: value})
+
+
+class LaterFields(Cases):
+    """Where rank, limit and scale stand on a card. A version 1 card has no bits for them."""
+
+    def test_no_bits_in_version_1(self):
+        card = net.read_card(CARD_A)
+        self.assertEqual((card.limit, card.scale), (0, 0))
+        self.assertEqual([row.rank for row in card.transitions], [0, 0])
+
+    def test_bits(self):
+        card = tables(1, (0, 0, [(NORMAL, 1, 1)], [(0, [(DRAW, 0, 0, 1)])]))
+        for version, limit, scale, rank in [
+                ("0010", "", "", ""),
+                ("0011", "", "", "10000001"),
+                ("0100", "11000011", "", "10000001"),
+                ("0101", "11000011", "10000000000111", "10000001")]:
+            card = change(card, "transitions", 0, rank=int("0" + rank, 2))
+            card = replace(card, version=int(version, 2), limit=int("0" + limit, 2),
+                           scale=int("0" + scale, 2))
+            bits = (version + "000001" "000001" + limit + scale
+                    + "00000" "00000" "00000001" "00000001" "00" "00000001" "00000001"
+                    "000000" "00001" + rank + "0" "00000" "00000000" "00000001")
+            self.assertTrue(net.fits(card))
+            self.assertEqual(net.encode(card), net.pack(bits))
+
+    def test_reading_a_field(self):
+        reader = net.BitReader(bytes([0b00000001, 0b00000000, 0b00011100]))
+        self.assertEqual([reader.field(width) for width in (7, 0, 14, 3, 0)],
+                         [0, 0, 0b10000000000011, 0b100, 0])
+
+    def test_flattening_keeps_them(self):
+        card = replace(change(TABLES_A, "transitions", 1, rank=7), version=5, limit=2, scale=10000)
+        flat = net.flatten(card)
+        self.assertEqual((flat.version, flat.limit, flat.scale), (5, 2, 10000))
+        self.assertEqual([row.rank for row in flat.transitions], [0, 7])
+
+
 class Writing(Cases):
 
     def writes(self, card, answer, length=10000):
@@ -521,6 +565,24 @@ class Writing(Cases):
             card = tables(1, version=version)
             self.writes(card, ("refused", 17, 0))
         self.writes(tables(64), ("refused", 17, 0))
+
+    def test_17_fields_of_later_versions(self):
+        # Rank has 8 bits from version 3 on, limit 8 from 4 on, scale 14 from 5 on; below they have none.
+        for version, name, largest in [
+                (0, "rank", 0), (1, "rank", 0), (2, "rank", 0), (3, "rank", 255), (15, "rank", 255),
+                (1, "limit", 0), (3, "limit", 0), (4, "limit", 255), (15, "limit", 255),
+                (1, "scale", 0), (4, "scale", 0), (5, "scale", 16383), (15, "scale", 16383)]:
+            fitting = ("wrote", CARD_A) if version == 1 else ("refused", 2, 0)
+            for value, answer in [(largest, fitting), (largest + 1, ("refused", 17, 0)),
+                                  (-1, ("refused", 17, 0)), (65535, ("refused", 17, 0))]:
+                self.writes(later_field(replace(TABLES_A, version=version), name, value), answer)
+
+    def test_17_one_later_field_of_several(self):
+        card = replace(TABLES_A, version=4, limit=255, scale=1)
+        self.writes(card, ("refused", 17, 0))
+        card = change(replace(card, version=5), "transitions", 1, rank=255)
+        self.writes(card, ("refused", 2, 0), 0)
+        self.writes(replace(card, limit=256), ("refused", 17, 0))
 
     def test_17_comes_before_all(self):
         card = change(TABLES_A, "arcs", 3, weight=256)

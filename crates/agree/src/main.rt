@@ -1,6 +1,7 @@
 // Runs both runners on the card in the file net.card and the calls of standard input, and prints whether they agree: yes or no; of a refused
 // card, one line: no, number, position. No such file: no bytes. A call is a row as in a rows file, and then the visiting order, a byte a
 // subnet. Of the calls the first 65,536 bytes are read; of a longer card the first 33,027 decide (long-input in card/proofs/LongInput.antt).
+use card::INPUT_BYTES;
 use hierarchy::Answer;
 use libc::STDIN_FILENO;
 use libc::STDOUT_FILENO;
@@ -48,11 +49,11 @@ fn put_answer(card: &[u8], calls: &[u8]) {
 }
 
 fn main() {
-    let mut card = [0; 33027];
+    let mut card = [0; INPUT_BYTES];
     let mut calls = [0; 65536];
     let n = read_card(&mut card);
     let m = io::read_full(STDIN_FILENO, &mut calls);
-    if 33027 < n {
+    if INPUT_BYTES < n {
         return;
     }
     if 65536 < m {

@@ -1,21 +1,23 @@
--- The layout machine's numbers stay small, and no card has more fields than 33026. Assumes nothing.
+-- The layout machine's numbers stay small, and no card has more fields or bits than the most. Assumes nothing.
 use Prim.Native.Nat.{ℕ, zero, suc, _+_, _-_, _*_, _^_, _≤_, _<_}
 use mathlib.Core.Path.{_≡_, refl, subst}
-use mathlib.Core.Bool.{Bool, true, false}
+use mathlib.Core.Bool.{Bool, true, false, cond}
 use mathlib.Core.Option.{Option, none, some}
 use native.Mathlib.Omega.{arith}
 use lib.Dec.{ltb}
-use borrow.Author.Tests.{ltb-true}
-use Rattle.card.specs.Format.{Format, done, get}
-use Rattle.card.specs.Grammar.{maxCount, header, subnet, place, transition, arc}
+use borrow.Author.Tests.{ltb-true, lt-ltb}
+use Rattle.card.specs.Format.{Format, done, get, size}
+use Rattle.card.specs.Grammar.{maxCount, header, subnet, place, transition, arc, maxSubnets, maxArcs, since, rankWidth}
 use Rattle.card.specs.inner.Layout.{faultAt, startOf, pick, moveAt, orBad, stepOf, headed, Sane}
 use Rattle.card.specs.declared.FormatFault.{FormatFault}
 use Rattle.card.specs.declared.layout.Phase.{Phase}
-use Rattle.card.specs.declared.layout.Phase.the-variants.{Version, SubnetCount, SignalCount, Parent, SubnetType, PlaceCount, TransitionCount, Kind, Capacity, Tokens, Signal, ArcCount, Direction, ArcSubnet, ArcPlace, Weight}
+use Rattle.card.specs.declared.layout.Phase.the-variants.{Version, SubnetCount, SignalCount, Limit, Scale, Parent, SubnetType, PlaceCount, TransitionCount, Kind, Capacity, Tokens, Signal, ArcCount, Rank, Direction, ArcSubnet, ArcPlace, Weight}
 use Rattle.card.specs.declared.layout.Layout.{Layout}
 use Rattle.card.specs.declared.layout.Move.{Move}
 use Rattle.card.specs.declared.layout.Move.the-variants.{More, Done, Bad}
-use Rattle.card.proofs.Decides.{le-is, and-is, someUnless-is}
+use Rattle.card.specs.Tables.{tableSize, cardBits}
+use Rattle.card.specs.Writing.{bitsBefore}
+use Rattle.card.proofs.Decides.{le-is, and-is, someUnless-is, eq-is}
 use Rattle.card.proofs.Shape.{One, times, arcS, placeS, transitionS, subnetsS, cardS}
 
 abbrev SaneMove : Move → Type 0
@@ -32,9 +34,11 @@ module _ (l : Layout) (v : ℕ) (small : l .subnet + l .subnets ≤ 31) (places 
   unfolding header subnet
   sane-move Version h e = record { head = h; subnet = small; places = places; transitions = transitions }
   sane-move SubnetCount h e =
-      let k = someUnless-is _ _ _ (and-is _ _ _ _ (le-is 1 v) (le-is v 32)) .0 e in
+      let k = someUnless-is _ _ _ (and-is _ _ _ _ (le-is 1 v) (le-is v maxSubnets)) .0 e in
       record { head = tt; subnet = omega (arith, k .1); places = places; transitions = transitions }
   sane-move SignalCount h e = record { head = tt; subnet = small; places = places; transitions = transitions }
+  sane-move Limit h e = record { head = tt; subnet = small; places = places; transitions = transitions }
+  sane-move Scale h e = record { head = tt; subnet = small; places = places; transitions = transitions }
   sane-move Parent h e = record { head = tt; subnet = small; places = places; transitions = transitions }
   sane-move SubnetType h e = record { head = tt; subnet = small; places = places; transitions = transitions }
   sane-move PlaceCount h e =
@@ -50,6 +54,7 @@ module _ (l : Layout) (v : ℕ) (small : l .subnet + l .subnets ≤ 31) (places 
       (record { head = tt; subnet = small; places = places; transitions = transitions })
   sane-move Signal h e = record { head = tt; subnet = small; places = places; transitions = transitions }
   sane-move ArcCount h e = record { head = tt; subnet = small; places = places; transitions = transitions }
+  sane-move Rank h e = record { head = tt; subnet = small; places = places; transitions = transitions }
   sane-move Direction h e = record { head = tt; subnet = small; places = places; transitions = transitions }
   sane-move ArcSubnet h e = record { head = tt; subnet = small; places = places; transitions = transitions }
   sane-move ArcPlace h e = record { head = tt; subnet = small; places = places; transitions = transitions }
@@ -74,57 +79,126 @@ sane-step l m v s e = go (faultAt (l .phase) l v) refl e
 pub sane-start : Sane startOf
 sane-start = record { head = refl; subnet = omega arith; places = omega arith; transitions = omega arith }
 
--- at most n fields, as long as no number is at fault
-abbrev pub Budget : {A : Type 0} → Format One A → ℕ → Type 0
-Budget (done a) n = Unit {0}
-Budget (get w value fault next) zero = ⊥
-Budget (get w value fault next) (suc n) = (v : ℕ) → v < 2 ^ w → fault v ≡ none → Budget (next v) n
+-- a field that a version brings is no wider than it is from that version on
+pub since-small : (first width version : ℕ) → since first width version ≤ width
+unfolding since
+since-small first width version = go (ltb version first)
+  where
+    go : (b : Bool) → cond b 0 width ≤ width
+    go true = omega arith
+    go false = omega arith
+
+-- at most so many fields, of at most so many bits together, as long as no number is at fault
+abbrev pub Budget : {A : Type 0} → Format One A → (fields bits : ℕ) → Type 0
+Budget (done a) n b = Unit {0}
+Budget (get w value fault next) zero b = ⊥
+Budget (get w value fault next) (suc n) b = (w ≤ b) × ((v : ℕ) → v < 2 ^ w → fault v ≡ none → Budget (next v) n (b - w))
 
 module _ {A : Type 0} where
-  pub budget-more : (m : Format One A) (i j : ℕ) → i ≤ j → Budget m i → Budget m j
-  budget-more (done a) i j l h = tt
-  budget-more (get w value fault next) zero j l h = absurd h
-  budget-more (get w value fault next) (suc i) zero l h = absurd (omega arith)
-  budget-more (get w value fault next) (suc i) (suc j) l h = λ v k e. budget-more (next v) i j (omega arith) (h v k e)
+  pub budget-more : (m : Format One A) (i j a b : ℕ) → i ≤ j → a ≤ b → Budget m i a → Budget m j b
+  budget-more (done x) i j a b l k h = tt
+  budget-more (get w value fault next) zero j a b l k h = absurd h
+  budget-more (get w value fault next) (suc i) zero a b l k h = absurd (omega arith)
+  budget-more (get w value fault next) (suc i) (suc j) a b l k h = (omega (arith, h .0), λ v m e. budget-more (next v) i j (a - w) (b - w) (omega arith) (omega arith) (h .1 v m e))
 
-  budget-arc : (k : Format One A) (n : ℕ) → Budget k n → Budget (arcS k) (n + 4)
+  budget-arc : (k : Format One A) (n b : ℕ) → Budget k n b → Budget (arcS k) (n + 4) (b + 22)
   unfolding arc
-  budget-arc k n h = let q : n + 4 ≡ suc (suc (suc (suc n))) = omega arith in rw q (λ a la ea b lb eb c lc ec d ld ed. h)
+  budget-arc k n b h =
+      let q : n + 4 ≡ suc (suc (suc (suc n))) = omega arith in
+      rw q (omega arith, λ d ld ed. (omega arith, λ s ls es. (omega arith, λ p lp ep. (omega arith, λ w lw ew. budget-more k n n b (b + 22 - 1 - 5 - 8 - 8) (omega arith) (omega arith) h))))
 
-  budget-place : (s : ℕ) (k : Format One A) (n : ℕ) → Budget k n → Budget (placeS s k) (n + 3)
+  budget-place : (s : ℕ) (k : Format One A) (n b : ℕ) → Budget k n b → Budget (placeS s k) (n + 3) (b + 18)
   unfolding place
-  budget-place s k n h = let q : n + 3 ≡ suc (suc (suc n)) = omega arith in rw q (λ a la ea b lb eb c lc ec. h)
+  budget-place s k n b h =
+      let q : n + 3 ≡ suc (suc (suc n)) = omega arith in
+      rw q (omega arith, λ d ld ed. (omega arith, λ c lc ec. (omega arith, λ t lt et. budget-more k n n b (b + 18 - 2 - 8 - 8) (omega arith) (omega arith) h)))
 
-  budget-times : (one : Format One A → Format One A) (cost : ℕ) → ((k : Format One A) (n : ℕ) → Budget k n → Budget (one k) (n + cost))
-      → (c : ℕ) (k : Format One A) (n : ℕ) → Budget k n → Budget (times c one k) (n + c * cost)
-  budget-times one cost f zero k n h = budget-more k n (n + 0 * cost) (omega arith) h
-  budget-times one cost f (suc c) k n h =
+  budget-times : (one : Format One A → Format One A) (cost wide : ℕ) → ((k : Format One A) (n b : ℕ) → Budget k n b → Budget (one k) (n + cost) (b + wide))
+      → (c : ℕ) (k : Format One A) (n b : ℕ) → Budget k n b → Budget (times c one k) (n + c * cost) (b + c * wide)
+  budget-times one cost wide f zero k n b h = budget-more k n (n + 0 * cost) b (b + 0 * wide) (omega arith) (omega arith) h
+  budget-times one cost wide f (suc c) k n b h =
       let q : n + suc c * cost ≡ n + c * cost + cost = omega arith in
-      rw q (f (times c one k) (n + c * cost) (budget-times one cost f c k n h))
+      let r : b + suc c * wide ≡ b + c * wide + wide = omega arith in
+      rw (q, r) (f (times c one k) (n + c * cost) (b + c * wide) (budget-times one cost wide f c k n b h))
 
-  budget-transition : (g : ℕ) (k : Format One A) (n : ℕ) → Budget k n → Budget (transitionS g k) (n + 126)
+  budget-transition : (v g : ℕ) (k : Format One A) (n b : ℕ) → Budget k n b → Budget (transitionS v g k) (n + 127) (b + (693 + rankWidth v))
   unfolding transition
-  budget-transition g k n h =
-      let q : n + 126 ≡ suc (suc (n + 124)) = omega arith in
-      rw q (λ s ls es a la ea. budget-more (times a arcS k) (n + a * 4) (n + 124) (omega arith) (budget-times arcS 4 budget-arc a k n h))
+  budget-transition v g k n b h =
+      let q : n + 127 ≡ suc (suc (suc (n + 124))) = omega arith in
+      rw q (
+        omega arith,
+        λ s ls es. (
+          omega arith,
+          λ a la ea. (
+            omega arith,
+            λ r lr er.
+                budget-more (times a arcS k) (n + a * 4) (n + 124) (b + a * 22) (b + (693 + rankWidth v) - 6 - 5 - rankWidth v) (omega (arith, la)) (omega (arith, la)) (budget-times arcS 4 22 budget-arc a k n b h),
+          ),
+        ),
+      )
+
+-- k of what is left of a number are taken
+spend : (m t k c : ℕ) → t + k ≤ m → (m - t) * c ≡ (m - (t + k)) * c + k * c
+spend m t k c l = let e : m - t ≡ m - (t + k) + k = omega arith in rw e (omega arith)
+
+pay : (n a b x y : ℕ) → n * 26 + a + b + y + x ≤ suc n * 26 + (a + x) + (b + y) - 5 - 5 - 8 - 8
+pay n a b x y = omega arith
 
 -- places and transitions that are still free pay for theirs
-pub budget-subnets : (g n s p t : ℕ) → p ≤ 255 → t ≤ 255 → Budget (subnetsS g n s p t) (n * 4 + (255 - p) * 3 + (255 - t) * 126)
+pub budget-subnets : (v g n s p t : ℕ) → p ≤ maxCount → t ≤ maxCount
+    → Budget (subnetsS v g n s p t) (n * 4 + (maxCount - p) * 3 + (maxCount - t) * 127) (n * 26 + (maxCount - p) * 18 + (maxCount - t) * (693 + rankWidth v))
 unfolding subnetsS subnet
-budget-subnets g zero s p t lp lt = tt
-budget-subnets g (suc n) s p t lp lt =
-    let q : suc n * 4 + (255 - p) * 3 + (255 - t) * 126 ≡ suc (suc (suc (suc (n * 4 + (255 - p) * 3 + (255 - t) * 126)))) = omega arith in
-    rw q (λ parent a1 a2 type b1 b2 places c1 c2 transitions d1 d2.
-    let x = someUnless-is _ _ _ (and-is _ _ _ _ (le-is 1 places) (le-is (p + places) maxCount)) .0 c2 in
-    let y = someUnless-is _ _ _ (and-is _ _ _ _ (le-is 1 transitions) (le-is (t + transitions) maxCount)) .0 d2 in
-    let r = budget-subnets g n (suc s) (p + places) (t + transitions) (x .1) (y .1) in
-    let u = budget-times (transitionS g) 126 (budget-transition g) transitions (subnetsS g n (suc s) (p + places) (t + transitions)) _ r in
-    budget-more (times places (placeS s) (times transitions (transitionS g) (subnetsS g n (suc s) (p + places) (t + transitions)))) _ _ (omega arith)
-    (budget-times (placeS s) 3 (budget-place s) places _ _ u))
+budget-subnets v g zero s p t lp lt = tt
+budget-subnets v g (suc n) s p t lp lt =
+    let wide = 693 + rankWidth v in
+    let q : suc n * 4 + (maxCount - p) * 3 + (maxCount - t) * 127 ≡ suc (suc (suc (suc (n * 4 + (maxCount - p) * 3 + (maxCount - t) * 127)))) = omega arith in
+    rw q (
+      omega arith,
+      λ parent a1 a2. (
+        omega arith,
+        λ type b1 b2. (
+          omega arith,
+          λ places c1 c2. (
+            omega arith,
+            λ transitions d1 d2.
+                let x = someUnless-is _ _ _ (and-is _ _ _ _ (le-is 1 places) (le-is (p + places) maxCount)) .0 c2 in
+                let y = someUnless-is _ _ _ (and-is _ _ _ _ (le-is 1 transitions) (le-is (t + transitions) maxCount)) .0 d2 in
+                let r = budget-subnets v g n (suc s) (p + places) (t + transitions) (x .1) (y .1) in
+                let u = budget-times (transitionS v g) 127 wide (budget-transition v g) transitions (subnetsS v g n (suc s) (p + places) (t + transitions)) _ _ r in
+                budget-more (times places (placeS s) (times transitions (transitionS v g) (subnetsS v g n (suc s) (p + places) (t + transitions)))) _ _ _ _
+                (omega (arith, x .1, y .1)) (rw (spend maxCount p places 18 (x .1), spend maxCount t transitions wide (y .1)) (pay n _ _ _ _))
+                (budget-times (placeS s) 3 18 (budget-place s) places _ _ _ u),
+          ),
+        ),
+      ),
+    )
 
--- NO CARD HAS MORE THAN 33026 FIELDS
-pub budget-card : Budget cardS 33026
+-- NO CARD HAS MORE FIELDS THAN THE TABLE, NOR MORE BITS THAN cardBits
+pub budget-card : Budget cardS tableSize cardBits
 unfolding cardS header
-budget-card = λ version a1 a2 subnets b1 b2 signals c1 c2.
-    let x = someUnless-is _ _ _ (and-is _ _ _ _ (le-is 1 subnets) (le-is subnets 32)) .0 b2 in
-    budget-more (subnetsS signals subnets 0 0 0) (subnets * 4 + (255 - 0) * 3 + (255 - 0) * 126) 33023 (omega arith) (budget-subnets signals subnets 0 0 0 (omega arith) (omega arith))
+budget-card = (
+  omega arith,
+  λ version a1 a2. (
+    omega arith,
+    λ subnets b1 b2. (
+      omega arith,
+      λ signals c1 c2.
+          let x = someUnless-is _ _ _ (and-is _ _ _ _ (le-is 1 subnets) (le-is subnets maxSubnets)) .0 b2 in
+          let v : version ≡ 1 = someUnless-is _ _ _ (eq-is version 1) .0 a2 in
+          let none : (first width : ℕ) → 1 < first → since first width version ≡ 0 = λ first width l. rw v (unfold since in rw (lt-ltb 1 first l)) in (
+            omega (arith, none 4 8 (omega arith)),
+            λ limit d1 d2. (
+              omega (arith, none 4 8 (omega arith), none 5 14 (omega arith)),
+              λ scale e1 e2.
+                  budget-more (subnetsS version signals subnets 0 0 0) (subnets * 4 + (maxCount - 0) * 3 + (maxCount - 0) * 127) (tableSize - 5) (subnets * 26 + (maxCount - 0) * 18 + (maxCount - 0) * (693 + rankWidth version)) _
+                  (omega (arith, x .1)) (omega (arith, x .1, none 3 8 (omega arith), none 4 8 (omega arith), none 5 14 (omega arith))) (budget-subnets version signals subnets 0 0 0 (omega arith) (omega arith)),
+            ),
+          ),
+    ),
+  ),
+)
+
+-- what they are: those of a card of version 1 with the most rows
+pub most-bits : cardBits ≡ bitsBefore 1 maxSubnets maxCount maxCount (maxArcs * maxCount)
+unfolding size header subnet place transition arc since
+most-bits = refl

@@ -35,6 +35,8 @@ begins-append xs ys = record { rest = ys; is = refl }
 pub record Extends (b c : Card) : Type 0 where
   pub version : b .version ≡ c .version
   pub signals : b .signals ≡ c .signals
+  pub limit : b .limit ≡ c .limit
+  pub scale : b .scale ≡ c .scale
   pub subnets : Begins (b .subnets) (c .subnets)
   pub places : Begins (b .places) (c .places)
   pub transitions : Begins (b .transitions) (c .transitions)
@@ -45,6 +47,8 @@ extends-self b =
     record {
       version = refl;
       signals = refl;
+      limit = refl;
+      scale = refl;
       subnets = begins-self (b .subnets);
       places = begins-self (b .places);
       transitions = begins-self (b .transitions);
@@ -56,6 +60,8 @@ extends-more a b c x y =
     record {
       version = x .version ∙ y .version;
       signals = x .signals ∙ y .signals;
+      limit = x .limit ∙ y .limit;
+      scale = x .scale ∙ y .scale;
       subnets = begins-more (x .subnets) (y .subnets);
       places = begins-more (x .places) (y .places);
       transitions = begins-more (x .transitions) (y .transitions);
@@ -67,6 +73,8 @@ extends-with b r ps ts =
     record {
       version = refl;
       signals = refl;
+      limit = refl;
+      scale = refl;
       subnets = begins-append (b .subnets) _;
       places = begins-append (b .places) _;
       transitions = begins-append (b .transitions) _;
@@ -79,7 +87,7 @@ unfolding wholeSubnet
 wholeSubnet-extends b =
     yields-skip (of (λ (k : Card). subnetAt k s) (subnet s p t)) _ (Extends b)
     (λ r. yields-skip (each p (r .places) (λ k. of (λ (d : Card). placeAt d k) (place s))) _ (Extends b)
-    (λ ps. yields-skip (each t (r .transitions) (wholeTransition (b .signals))) _ (Extends b) (λ ts. extends-with b r ps ts)))
+    (λ ps. yields-skip (each t (r .transitions) (wholeTransition (b .version) (b .signals))) _ (Extends b) (λ ts. extends-with b r ps ts)))
   where
     s : ℕ
     s = length (b .subnets)
@@ -103,10 +111,10 @@ extends-prefix b c x r =
     r .transitionCount ∙ sum-same (length (b .subnets)) _ _ (λ i l. ap (λ (y : Subnet). y .transitions) (begins-at (b .subnets) (c .subnets) _ (x .subnets) i l)) in
     let arcs : length (b .arcs) ≡ firstArc c (length (b .transitions)) =
     r .arcCount ∙ sum-same (length (b .transitions)) _ _ (λ i l. ap (λ (y : Transition). y .arcs) (begins-at (b .transitions) (c .transitions) _ (x .transitions) i l)) in
-    same (x .version) (x .signals) (begins-take _ _ (x .subnets)) (begins-take _ _ (x .places) ∙ ap (λ (n : ℕ). take n (c .places)) places)
+    same (x .version) (x .signals) (x .limit) (x .scale) (begins-take _ _ (x .subnets)) (begins-take _ _ (x .places) ∙ ap (λ (n : ℕ). take n (c .places)) places)
     (begins-take _ _ (x .transitions) ∙ ap (λ (n : ℕ). take n (c .transitions)) transitions) (begins-take _ _ (x .arcs) ∙ ap (λ (n : ℕ). take n (c .arcs)) (arcs ∙ ap (firstArc c) transitions))
   where
-    same : {v g : ℕ} {ss : List Subnet} {ps : List Place} {ts : List Transition} {xs : List Arc}
-        → b .version ≡ v → b .signals ≡ g → b .subnets ≡ ss → b .places ≡ ps → b .transitions ≡ ts → b .arcs ≡ xs
-        → b ≡ record { version = v; signals = g; subnets = ss; places = ps; transitions = ts; arcs = xs }
-    same e1 e2 e3 e4 e5 e6 = λ i. record { version = e1 i; signals = e2 i; subnets = e3 i; places = e4 i; transitions = e5 i; arcs = e6 i }
+    same : {v g m q : ℕ} {ss : List Subnet} {ps : List Place} {ts : List Transition} {xs : List Arc}
+        → b .version ≡ v → b .signals ≡ g → b .limit ≡ m → b .scale ≡ q → b .subnets ≡ ss → b .places ≡ ps → b .transitions ≡ ts → b .arcs ≡ xs
+        → b ≡ record { version = v; signals = g; limit = m; scale = q; subnets = ss; places = ps; transitions = ts; arcs = xs }
+    same e1 e2 e3 e4 e5 e6 e7 e8 = λ i. record { version = e1 i; signals = e2 i; limit = e3 i; scale = e4 i; subnets = e5 i; places = e6 i; transitions = e7 i; arcs = e8 i }

@@ -7,11 +7,12 @@ use native.Mathlib.Omega.{arith}
 use native.Mathlib.Nat.{mod-lt, mod-eq-of-lt, mul-add-mod-self-left, mul-comm, div-add-mod, div-lt-iff-lt-mul}
 use lib.ListN.{length, getD}
 use Rattle.card.specs.Finite.{sumTo}
-use Rattle.card.specs.Card.{Card, headerOf, subnetAt, placeAt, transitionAt, arcAt, firstPlace, firstTransition, firstArc}
+use Rattle.card.specs.Card.{Card, headerOf, subnetAt, placeAt, transitionAt, arcAt, firstPlace, firstTransition, firstArc, subnetFields, placeFields, transitionFields, arcFields}
 use Rattle.card.specs.Grammar.{header, subnet, place, transition, arc, card}
 use Rattle.card.specs.Writing.{fields, allFit}
 use Rattle.card.specs.Rows.{entry, tablesIn}
 use Rattle.card.specs.inner.Runs.{RowsFit, subnetWidths, placeWidths, transitionWidths, arcWidths, HeaderFits, ValuesFit}
+use Rattle.card.specs.declared.Head.{Head}
 use Rattle.card.proofs.Sums.{sum-owner, sum-below}
 use Rattle.card.proofs.Walk.{Every, Fits, fits-all, all-fits}
 use Rattle.card.proofs.Prefix.{Counted, places-below, transitions-below, first-place, first-transition}
@@ -20,10 +21,10 @@ use Rattle.card.proofs.RowLaws.{entry-inside}
 use Rattle.card.proofs.TableLaws.{subnet-row, place-row, transition-row, arc-row, subnet-count, place-count, transition-count, arc-count}
 
 pub record Whole (subnets places transitions arcs : List ℕ) : Type 0 where
-  pub subnetsEnd : length subnets % 4 ≡ 0
-  pub placesEnd : length places % 3 ≡ 0
-  pub transitionsEnd : length transitions % 2 ≡ 0
-  pub arcsEnd : length arcs % 4 ≡ 0
+  pub subnetsEnd : length subnets % subnetFields ≡ 0
+  pub placesEnd : length places % placeFields ≡ 0
+  pub transitionsEnd : length transitions % transitionFields ≡ 0
+  pub arcsEnd : length arcs % arcFields ≡ 0
 
 -- a number in a row fits its column
 pub fit-entry : (rows widths : List ℕ) → RowsFit rows widths → (s k : ℕ) → s < length rows / length widths → k < length widths → entry rows (length widths) s k < 2 ^ getD widths k 0
@@ -50,45 +51,45 @@ column-at f from [] h k l = absurd (omega arith)
 column-at f from (w ∷ ws) h zero l = let e : from + zero ≡ from = omega arith in rw e (h .0)
 column-at f from (w ∷ ws) h (suc k) l = let e : from + suc k ≡ suc from + k = omega arith in rw e (column-at f (suc from) ws (h .1) k (omega arith))
 
-module _ (v g : ℕ) (subnets places transitions arcs : List ℕ) (n : Counted (tablesIn v g subnets places transitions arcs)) where
+module _ (head : Head) (subnets places transitions arcs : List ℕ) (n : Counted (tablesIn head subnets places transitions arcs)) where
   abbrev c : Card
-  c = tablesIn v g subnets places transitions arcs
+  c = tablesIn head subnets places transitions arcs
 
-  module _ (f : ValuesFit v g subnets places transitions arcs) where
+  module _ (f : ValuesFit head subnets places transitions arcs) where
     header-has : Every Fits header (headerOf c)
     unfolding header tablesIn
-    header-has = (f .header .version, (rw (subnet-count v g subnets places transitions arcs) (f .header .subnets), (f .header .signals, tt)))
+    header-has = (f .header .version, (rw (subnet-count head subnets places transitions arcs) (f .header .subnets), (f .header .signals, (f .header .limit, (f .header .scale, tt)))))
 
-    subnet-has : (s p t : ℕ) → s < length subnets / 4 → Every Fits (subnet s p t) (subnetAt c s)
+    subnet-has : (s p t : ℕ) → s < length subnets / subnetFields → Every Fits (subnet s p t) (subnetAt c s)
     unfolding subnet
     subnet-has s p t l =
         let x = fit-entry subnets subnetWidths (f .subnets) s in
-        rw (subnet-row v g subnets places transitions arcs s l) (x 0 l (omega arith), (x 1 l (omega arith), (x 2 l (omega arith), (x 3 l (omega arith), tt))))
+        rw (subnet-row head subnets places transitions arcs s l) (x 0 l (omega arith), (x 1 l (omega arith), (x 2 l (omega arith), (x 3 l (omega arith), tt))))
 
-    place-has : (s p : ℕ) → p < length places / 3 → Every Fits (place s) (placeAt c p)
+    place-has : (s p : ℕ) → p < length places / placeFields → Every Fits (place s) (placeAt c p)
     unfolding place
     place-has s p l =
         let x = fit-entry places placeWidths (f .places) p in
-        rw (place-row v g subnets places transitions arcs p l) (x 0 l (omega arith), (x 1 l (omega arith), (x 2 l (omega arith), tt)))
+        rw (place-row head subnets places transitions arcs p l) (x 0 l (omega arith), (x 1 l (omega arith), (x 2 l (omega arith), tt)))
 
-    transition-has : (t : ℕ) → t < length transitions / 2 → Every Fits (transition g) (transitionAt c t)
+    transition-has : (t : ℕ) → t < length transitions / transitionFields → Every Fits (transition (head .version) (head .signals)) (transitionAt c t)
     unfolding transition
     transition-has t l =
-        let x = fit-entry transitions transitionWidths (f .transitions) t in
-        rw (transition-row v g subnets places transitions arcs t l) (x 0 l (omega arith), (x 1 l (omega arith), tt))
+        let x = fit-entry transitions (transitionWidths (head .version)) (f .transitions) t in
+        rw (transition-row head subnets places transitions arcs t l) (x 0 l (omega arith), (x 1 l (omega arith), (x 2 l (omega arith), tt)))
 
-    arc-has : (t j : ℕ) → firstArc c t + j < length arcs / 4 → Every Fits arc (arcAt c t j)
+    arc-has : (t j : ℕ) → firstArc c t + j < length arcs / arcFields → Every Fits arc (arcAt c t j)
     unfolding arc
     arc-has t j l =
         let x = fit-entry arcs arcWidths (f .arcs) (firstArc c t + j) in
-        rw (arc-row v g subnets places transitions arcs (firstArc c t + j) l) (x 0 l (omega arith), (x 1 l (omega arith), (x 2 l (omega arith), (x 3 l (omega arith), tt))))
+        rw (arc-row head subnets places transitions arcs (firstArc c t + j) l) (x 0 l (omega arith), (x 1 l (omega arith), (x 2 l (omega arith), (x 3 l (omega arith), tt))))
 
-    whole-has : (u : ℕ) → u < length (c .transitions) → TransitionHas Fits c (c .signals) u
+    whole-has : (u : ℕ) → u < length (c .transitions) → TransitionHas Fits c (c .version) (c .signals) u
     unfolding tablesIn firstArc
     whole-has u l =
         record {
-          row = transition-has u (omega (arith, transition-count v g subnets places transitions arcs));
-          arcs = λ j m. arc-has u j (omega (arith, n .arcs, arc-count v g subnets places transitions arcs, sum-below (length (c .transitions)) (λ w. (transitionAt c w) .arcs) u j l m));
+          row = transition-has u (omega (arith, transition-count head subnets places transitions arcs));
+          arcs = λ j m. arc-has u j (omega (arith, n .arcs, arc-count head subnets places transitions arcs, sum-below (length (c .transitions)) (λ w. (transitionAt c w) .arcs) u j l m));
         }
 
     -- VALUES THAT FIT THEIR COLUMNS FIT THEIR FIELDS
@@ -99,8 +100,8 @@ module _ (v g : ℕ) (subnets places transitions arcs : List ℕ) (n : Counted (
         (record {
           header = header-has;
           subnets = λ s l. record {
-            row = subnet-has s _ _ (omega (arith, subnet-count v g subnets places transitions arcs));
-            places = λ i a b. place-has s i (omega (arith, place-count v g subnets places transitions arcs, first-place c n s, places-below c n (suc s) l));
+            row = subnet-has s _ _ (omega (arith, subnet-count head subnets places transitions arcs));
+            places = λ i a b. place-has s i (omega (arith, place-count head subnets places transitions arcs, first-place c n s, places-below c n (suc s) l));
             transitions = λ u a b. whole-has u (omega (arith, first-transition c n s, transitions-below c n (suc s) l));
           };
         }))
@@ -112,15 +113,15 @@ module _ (v g : ℕ) (subnets places transitions arcs : List ℕ) (n : Counted (
     known : (xs ws : List ℕ) → 0 < length ws → length xs % length ws ≡ 0 → ((s : ℕ) → s < length xs / length ws → Columns (entry xs (length ws) s) 0 ws) → RowsFit xs ws
     known xs ws pos e f = row-known xs ws pos e (λ s k l m. let z : 0 + k ≡ k = omega arith in rw z at (column-at (entry xs (length ws) s) 0 ws (f s l) k m))
 
-    header-known : HeaderFits v g (length subnets / 4)
+    header-known : HeaderFits head (length subnets / subnetFields)
     unfolding header tablesIn
-    header-known = let x = rows .header in record { version = x .0; signals = x .1 .1 .0; subnets = rw (subnet-count v g subnets places transitions arcs) at (x .1 .0) }
+    header-known = let x = rows .header in record { version = x .0; signals = x .1 .1 .0; limit = x .1 .1 .1 .0; scale = x .1 .1 .1 .1 .0; subnets = rw (subnet-count head subnets places transitions arcs) at (x .1 .0) }
 
     subnets-known : RowsFit subnets subnetWidths
     unfolding subnet
     subnets-known =
         known subnets subnetWidths (omega arith) (w .subnetsEnd)
-        (λ s l. rw (subnet-row v g subnets places transitions arcs s l) at (rows .subnets s (omega (arith, subnet-count v g subnets places transitions arcs)) .row))
+        (λ s l. rw (subnet-row head subnets places transitions arcs s l) at (rows .subnets s (omega (arith, subnet-count head subnets places transitions arcs)) .row))
 
     -- a place, a transition and an arc belong to a subnet
     place-in : (p : ℕ) → p < length (c .places) → (s : ℕ) × Every Fits (place s) (placeAt c p)
@@ -129,7 +130,7 @@ module _ (v g : ℕ) (subnets places transitions arcs : List ℕ) (n : Counted (
         let o = sum-owner (length (c .subnets)) (λ r. (subnetAt c r) .places) p (omega (arith, n .places)) in
         (o .range, rows .subnets (o .range) (o .below) .places p (o .low) (omega (arith, o .high, first-place c n (o .range))))
 
-    transition-in : (t : ℕ) → t < length (c .transitions) → TransitionHas Fits c (c .signals) t
+    transition-in : (t : ℕ) → t < length (c .transitions) → TransitionHas Fits c (c .version) (c .signals) t
     unfolding firstTransition
     transition-in t l =
         let o = sum-owner (length (c .subnets)) (λ r. (subnetAt c r) .transitions) t (omega (arith, n .transitions)) in
@@ -139,25 +140,25 @@ module _ (v g : ℕ) (subnets places transitions arcs : List ℕ) (n : Counted (
     unfolding place
     places-known =
         known places placeWidths (omega arith) (w .placesEnd)
-        (λ p l. rw (place-row v g subnets places transitions arcs p l) at (place-in p (omega (arith, place-count v g subnets places transitions arcs)) .1))
+        (λ p l. rw (place-row head subnets places transitions arcs p l) at (place-in p (omega (arith, place-count head subnets places transitions arcs)) .1))
 
-    transitions-known : RowsFit transitions transitionWidths
-    unfolding transition
+    transitions-known : RowsFit transitions (transitionWidths (head .version))
+    unfolding transition tablesIn
     transitions-known =
-        known transitions transitionWidths (omega arith) (w .transitionsEnd)
-        (λ t l. rw (transition-row v g subnets places transitions arcs t l) at (transition-in t (omega (arith, transition-count v g subnets places transitions arcs)) .row))
+        known transitions (transitionWidths (head .version)) (omega arith) (w .transitionsEnd)
+        (λ t l. rw (transition-row head subnets places transitions arcs t l) at (transition-in t (omega (arith, transition-count head subnets places transitions arcs)) .row))
 
     arcs-known : RowsFit arcs arcWidths
     unfolding arc firstArc
     arcs-known =
         known arcs arcWidths (omega arith) (w .arcsEnd)
         (λ a l.
-        let o = sum-owner (length (c .transitions)) (λ t. (transitionAt c t) .arcs) a (omega (arith, n .arcs, arc-count v g subnets places transitions arcs)) in
+        let o = sum-owner (length (c .transitions)) (λ t. (transitionAt c t) .arcs) a (omega (arith, n .arcs, arc-count head subnets places transitions arcs)) in
         let e : firstArc c (o .range) + (a - firstArc c (o .range)) ≡ a = omega (arith, o .low) in
         let q : sumTo (suc (o .range)) (λ t. (transitionAt c t) .arcs) ≡ firstArc c (o .range) + (transitionAt c (o .range)) .arcs = unfold sumTo in refl in
         let x = transition-in (o .range) (o .below) .arcs (a - firstArc c (o .range)) (omega (arith, o .low, o .high, q)) in
-        rw (e, arc-row v g subnets places transitions arcs a l) at x)
+        rw (e, arc-row head subnets places transitions arcs a l) at x)
 
     -- AND THE OTHER WAY ROUND
-    pub fields-fit : ValuesFit v g subnets places transitions arcs
+    pub fields-fit : ValuesFit head subnets places transitions arcs
     fields-fit = record { header = header-known; subnets = subnets-known; places = places-known; transitions = transitions-known; arcs = arcs-known }

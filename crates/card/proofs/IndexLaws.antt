@@ -5,7 +5,7 @@ use mathlib.Core.Bool.{cond}
 use mathlib.Core.Logic.{_⊎_, inl, inr}
 use mathlib.Core.List.{List}
 use native.Mathlib.Omega.{arith}
-use native.Mathlib.Nat.{zero-add}
+use native.Mathlib.Nat.{zero-add, mul-le-mul}
 use native.Mathlib.Numerals.{add-one}
 use lib.Dec.{ltb, leb}
 use lib.ListN.{length, getD, set, replicate, length-set, length-replicate, getD-replicate}
@@ -13,13 +13,14 @@ use lib.Seq.{ext-getD, getD-set-same, getD-set-other}
 use borrow.Author.Tests.{lt-ltb, le-ltb, le-leb, lt-leb}
 use Rattle.card.specs.Finite.{sumTo}
 use Rattle.card.specs.Card.{Card, subnetAt, transitionAt, firstPlace, firstTransition, firstArc}
-use Rattle.card.specs.Format.{count, size}
+use Rattle.card.specs.Format.{count, size, sizeFrom}
 use Rattle.card.specs.Grammar.{header, subnet, place, transition, arc}
 use Rattle.card.specs.Writing.{subnetBit, transitionBit}
 use Rattle.card.specs.Index.{subnetRow, transitionRow, Lists, Laid, Indexed, startsSize, subnetStarts, transitionStarts, subnetBitStart, firstPlaceStart, firstTransitionStart, transitionRowStart, transitionBitStart, owner, transitionRowOf, transitionBitOf, upTo, startOf, startsOf}
 use Rattle.card.specs.inner.Indexing.{OnCard, Moved, putSubnet, Column, Listed, AtSubnet, TransitionsIndexed}
 use Rattle.card.specs.Wellformed.{Wellformed}
 use Rattle.card.specs.declared.index.Position.{Position}
+use Rattle.card.proofs.Bounds.{since-small}
 use Rattle.card.proofs.Sums.{table-length, table-at}
 use Rattle.card.proofs.BitLaws.{lt-or-ge}
 use Rattle.card.proofs.Prefix.{places-below, transitions-below}
@@ -38,13 +39,13 @@ module _ (c : Card) (w : Wellformed c) (s t : ℕ) (l : s < length (c .subnets))
 
   few-bits : transitionBit c s t ≤ 1000000
   unfolding transitionBit size header subnet place transition arc
-  few-bits = omega (arith, few, w .fewSubnets)
+  few-bits = omega (arith, few, w .fewSubnets, mul-le-mul (since-small 3 8 (c .version)) (few .1), since-small 4 8 (c .version), since-small 5 14 (c .version))
 
-next-row : (c : Card) (s t : ℕ) → transitionRow c s (suc t) ≡ transitionRow c s t + (count (transition 0) + count arc * (transitionAt c t) .arcs)
+next-row : (c : Card) (s t : ℕ) → transitionRow c s (suc t) ≡ transitionRow c s t + (count (transition 0 0) + count arc * (transitionAt c t) .arcs)
 unfolding transitionRow count header subnet place transition arc firstArc sumTo
 next-row c s t = omega arith
 
-next-bit : (c : Card) (s t : ℕ) → transitionBit c s (suc t) ≡ transitionBit c s t + (size (transition 0) + size arc * (transitionAt c t) .arcs)
+next-bit : (c : Card) (s t : ℕ) → transitionBit c s (suc t) ≡ transitionBit c s t + (size (transition (c .version) 0) + size arc * (transitionAt c t) .arcs)
 unfolding transitionBit size header subnet place transition arc firstArc sumTo
 next-bit c s t = omega arith
 
@@ -136,14 +137,14 @@ module _ (c : Card) (s : ℕ) (numbers old : List ℕ) (from : Position) (first 
 
     pub list-more : t < first + n → (k : ℕ) → k ≡ getD numbers (p .row + 1) 0 → (one two : List ℕ) (q : Position)
         → one ≡ set starts (transitionRowStart t) (p .row) → two ≡ set one (transitionBitStart t) (p .bit)
-        → Moved p q (count (transition 0) + count arc * k) (size (transition 0) + size arc * k) → Listing c s old two q (t + 1)
-    list-more h k ek one two q e1 e2 m =
+        → (v : ℕ) → v ≡ getD numbers 0 0 → Moved p q (count (transition 0 0) + count arc * k) (size (transition v 0) + size arc * k) → Listing c s old two q (t + 1)
+    list-more h k ek one two q e1 e2 v ev m =
         record {
           low = omega (arith, x .low);
           high = omega (arith, all-listed c s, a .isFirst, a .isCount);
           long = set-long starts one two (transitionRowStart t) (p .row) (transitionBitStart t) (p .bit) e1 e2 ∙ x .long;
           row = m .row ∙ rw (x .row, arcs, add-one) (sym (next-row c s t));
-          bit = m .bit ∙ rw (x .bit, arcs, add-one) (sym (next-bit c s t));
+          bit = m .bit ∙ rw (x .bit, arcs, add-one, ev, a .laid .version) (sym (next-bit c s t));
           listed = rw (e2, e1) (record {
             rows = column-other 132 256 (transitionRowOf c) (set starts (132 + t) (p .row)) (t + 1) (388 + t) (p .bit) (inr (omega arith))
                 (column-more 132 256 (transitionRowOf c) starts t (p .row) room (omega (arith, size-of)) (x .row ∙ ap (λ (r : ℕ). transitionRow c r t) (sym is)) (x .listed .rows));
@@ -261,14 +262,14 @@ pub record Indexing (c : Card) (starts : List ℕ) (p : Position) (place transit
   pub listed : Listed c starts (firstTransition c s)
 
 module _ (c : Card) (w : Wellformed c) (numbers : List ℕ) (d : Laid c numbers) where
-  pub index-start : (p : Position) → p .row ≡ count header → p .bit ≡ size header → Indexing c (replicate 644 0) p 0 0 0
+  pub index-start : (p : Position) (v : ℕ) → v ≡ getD numbers 0 0 → p .row ≡ count header → p .bit ≡ sizeFrom v header → Indexing c (replicate 644 0) p 0 0 0
   unfolding subnetRow subnetBit firstPlace firstTransition firstArc sumTo count size header subnet place transition arc
-  index-start p er eb =
+  index-start p v ev er eb =
       record {
         inside = omega arith;
         long = length-replicate {A = ℕ} 644 0;
         row = er;
-        bit = eb;
+        bit = eb ∙ ap (λ (i : ℕ). sizeFrom i header) (ev ∙ d .version) ∙ omega arith;
         isPlace = refl;
         isTransition = refl;
         begun = record {

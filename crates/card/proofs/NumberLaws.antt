@@ -7,10 +7,11 @@ use native.Mathlib.Nat.{add-zero, mul-suc, mul-zero}
 use lib.ListN.{length, getD, take, drop}
 use lib.Seq.{take-add, drop-drop}
 use Rattle.card.specs.Finite.{table}
-use Rattle.card.specs.Card.{Subnet, Transition, Card, subnetAt, placeAt, transitionAt, firstPlace, firstTransition, firstArc}
+use Rattle.card.specs.Card.{Subnet, Transition, Card, subnetAt, placeAt, transitionAt, firstPlace, firstTransition, firstArc, subnetFields, placeFields, transitionFields, arcFields}
 use Rattle.card.specs.Tables.{numbersOf}
 use Rattle.card.specs.Rows.{entry, tablesIn}
-use Rattle.card.specs.inner.Runs.{arcsBefore, placesBefore, transitionsBefore, transitionRun, subnetRun, runs}
+use Rattle.card.specs.inner.Runs.{arcsBefore, placesBefore, transitionsBefore, transitionRun, subnetRun, runs, inOrder}
+use Rattle.card.specs.declared.Head.{Head}
 use Rattle.card.proofs.Prefix.{Counted, table-part, table-shift, places-below, transitions-below, first-place, first-transition, arcs-below}
 use Rattle.card.proofs.RowNumbers.{runs-same, runs-shift, placeNumbers, arcNumbers, transitionNumbers, subnetNumbers, numbers-rows}
 use Rattle.card.proofs.TableLaws.{subnet-row, place-row, transition-row, arc-row, subnet-count, place-count, transition-count, arc-count, place-sum, transition-sum, arc-sum}
@@ -29,53 +30,50 @@ rows-part xs w p (suc n) h =
     ∙ sym (take-add w (w * n) (drop (w * p) xs))
     ∙ ap (λ (k : ℕ). take k (drop (w * p) xs)) (sym e)
 
-module _ (v g : ℕ) (subnets places transitions arcs : List ℕ) (n : Counted (tablesIn v g subnets places transitions arcs)) where
+module _ (head : Head) (subnets places transitions arcs : List ℕ) (n : Counted (tablesIn head subnets places transitions arcs)) where
   abbrev c : Card
-  c = tablesIn v g subnets places transitions arcs
+  c = tablesIn head subnets places transitions arcs
 
   transition-run : (t : ℕ) → t < length (c .transitions) → transitionNumbers c t ≡ transitionRun transitions arcs t
   unfolding transitionNumbers transitionRun table
   transition-run t l =
-      let m : t < length transitions / 2 = omega (arith, transition-count v g subnets places transitions arcs) in
-      let q = transition-row v g subnets places transitions arcs t m in
-      let a : (transitionAt c t) .arcs ≡ entry transitions 2 t 1 = ap (λ x. x .arcs) q in
-      let f : firstArc c t ≡ arcsBefore transitions t = arc-sum v g subnets places transitions arcs t (omega arith) in
+      let m : t < length transitions / transitionFields = omega (arith, transition-count head subnets places transitions arcs) in
+      let q = transition-row head subnets places transitions arcs t m in
+      let a : (transitionAt c t) .arcs ≡ entry transitions transitionFields t 1 = ap (λ x. x .arcs) q in
+      let f : firstArc c t ≡ arcsBefore transitions t = arc-sum head subnets places transitions arcs t (omega arith) in
       let z : firstArc c (suc t) ≡ firstArc c t + (transitionAt c t) .arcs = (unfold firstArc Rattle.card.specs.Finite.sumTo in refl) in
-      let i : 4 * arcsBefore transitions t + 4 * entry transitions 2 t 1 ≤ length arcs = omega (arith, arcs-below c n (suc t) l, arc-count v g subnets places transitions arcs, z, a, f) in
-      ap₂ (λ xs ys. xs ++ ys) (ap (λ (x : Transition). x .signal ∷ x .arcs ∷ []) q ∙ row-part transitions 2 t (omega arith))
-      (runs-same 0 ((transitionAt c t) .arcs) _ (λ j. table 0 4 (entry arcs 4 (firstArc c t + j)))
-      (λ j _ b. ap arcNumbers (arc-row v g subnets places transitions arcs (firstArc c t + j) (omega (arith, z, arcs-below c n (suc t) l, arc-count v g subnets places transitions arcs))))
-      ∙ runs-shift 0 ((transitionAt c t) .arcs) (firstArc c t) (λ j. table 0 4 (entry arcs 4 j))
-      ∙ rw (add-zero (firstArc c t), a, f) (rows-part arcs 4 (arcsBefore transitions t) (entry transitions 2 t 1) i))
+      let i : arcFields * arcsBefore transitions t + arcFields * entry transitions transitionFields t 1 ≤ length arcs = omega (arith, arcs-below c n (suc t) l, arc-count head subnets places transitions arcs, z, a, f) in
+      ap₂ (λ xs ys. xs ++ ys) (ap (λ (x : Transition). x .signal ∷ x .arcs ∷ x .rank ∷ []) q ∙ row-part transitions transitionFields t (omega arith))
+      (runs-same 0 ((transitionAt c t) .arcs) _ (λ j. table 0 arcFields (entry arcs arcFields (firstArc c t + j)))
+      (λ j _ b. ap arcNumbers (arc-row head subnets places transitions arcs (firstArc c t + j) (omega (arith, z, arcs-below c n (suc t) l, arc-count head subnets places transitions arcs))))
+      ∙ runs-shift 0 ((transitionAt c t) .arcs) (firstArc c t) (λ j. table 0 arcFields (entry arcs arcFields j))
+      ∙ rw (add-zero (firstArc c t), a, f) (rows-part arcs arcFields (arcsBefore transitions t) (entry transitions transitionFields t 1) i))
 
-  places-run : (p k : ℕ) → p + k ≤ length (c .places) → runs p k (λ i. placeNumbers (placeAt c i)) ≡ take (3 * k) (drop (3 * p) places)
+  places-run : (p k : ℕ) → p + k ≤ length (c .places) → runs p k (λ i. placeNumbers (placeAt c i)) ≡ take (placeFields * k) (drop (placeFields * p) places)
   unfolding table
   places-run p k l =
-      let q = place-count v g subnets places transitions arcs in
-      runs-same p k _ (λ i. table 0 3 (entry places 3 i)) (λ i a b. ap placeNumbers (place-row v g subnets places transitions arcs i (omega (arith, q)))) ∙ rows-part places 3 p k (omega (arith, q))
+      let q = place-count head subnets places transitions arcs in
+      runs-same p k _ (λ i. table 0 placeFields (entry places placeFields i)) (λ i a b. ap placeNumbers (place-row head subnets places transitions arcs i (omega (arith, q)))) ∙ rows-part places placeFields p k (omega (arith, q))
 
   subnet-run : (i : ℕ) → i < length (c .subnets) → subnetNumbers c i ≡ subnetRun subnets places transitions arcs i
   unfolding subnetNumbers subnetRun table
   subnet-run i l =
-      let m : i < length subnets / 4 = omega (arith, subnet-count v g subnets places transitions arcs) in
-      let r = subnet-row v g subnets places transitions arcs i m in
-      let a : (subnetAt c i) .places ≡ entry subnets 4 i 2 = ap (λ x. x .places) r in
-      let b : (subnetAt c i) .transitions ≡ entry subnets 4 i 3 = ap (λ x. x .transitions) r in
-      let x : firstPlace c i ≡ placesBefore subnets i = place-sum v g subnets places transitions arcs i (omega arith) in
-      let y : firstTransition c i ≡ transitionsBefore subnets i = transition-sum v g subnets places transitions arcs i (omega arith) in
-      ap₂ (λ xs ys. xs ++ ys) (ap (λ (z : Subnet). z .parent ∷ z .type ∷ z .places ∷ z .transitions ∷ []) r ∙ row-part subnets 4 i (omega arith))
+      let m : i < length subnets / subnetFields = omega (arith, subnet-count head subnets places transitions arcs) in
+      let r = subnet-row head subnets places transitions arcs i m in
+      let a : (subnetAt c i) .places ≡ entry subnets subnetFields i 2 = ap (λ x. x .places) r in
+      let b : (subnetAt c i) .transitions ≡ entry subnets subnetFields i 3 = ap (λ x. x .transitions) r in
+      let x : firstPlace c i ≡ placesBefore subnets i = place-sum head subnets places transitions arcs i (omega arith) in
+      let y : firstTransition c i ≡ transitionsBefore subnets i = transition-sum head subnets places transitions arcs i (omega arith) in
+      ap₂ (λ xs ys. xs ++ ys) (ap (λ (z : Subnet). z .parent ∷ z .type ∷ z .places ∷ z .transitions ∷ []) r ∙ row-part subnets subnetFields i (omega arith))
       (ap₂ (λ xs ys. xs ++ ys)
-      (places-run (firstPlace c i) ((subnetAt c i) .places) (omega (arith, first-place c n i, places-below c n (suc i) l)) ∙ ap₂ (λ (p k : ℕ). take (3 * k) (drop (3 * p) places)) x a)
+      (places-run (firstPlace c i) ((subnetAt c i) .places) (omega (arith, first-place c n i, places-below c n (suc i) l)) ∙ ap₂ (λ (p k : ℕ). take (placeFields * k) (drop (placeFields * p) places)) x a)
       (runs-same (firstTransition c i) ((subnetAt c i) .transitions) _ _ (λ t _ h. transition-run t (omega (arith, first-transition c n i, transitions-below c n (suc i) l)))
       ∙ ap₂ (λ (t k : ℕ). runs t k (transitionRun transitions arcs)) y b))
 
   -- THE NUMBERS OF TABLES IN THE ORDER OF THE CARD
-  pub numbers-runs : numbersOf c ≡ v ∷ length subnets / 4 ∷ g ∷ runs 0 (length subnets / 4) (subnetRun subnets places transitions arcs)
+  pub numbers-runs : numbersOf c ≡ inOrder head subnets places transitions arcs
+  unfolding inOrder tablesIn
   numbers-runs =
-      let k = subnet-count v g subnets places transitions arcs in
-      let a : c .version ≡ v = (unfold tablesIn in refl) in
-      let b : c .signals ≡ g = (unfold tablesIn in refl) in
       numbers-rows c n
-      ∙ ap₂ (λ (x y : ℕ). x ∷ length (c .subnets) ∷ y ∷ runs 0 (length (c .subnets)) (subnetNumbers c)) a b
-      ∙ ap (λ xs. v ∷ length (c .subnets) ∷ g ∷ xs) (runs-same 0 (length (c .subnets)) _ _ (λ i _ h. subnet-run i (omega arith)))
-      ∙ ap (λ (x : ℕ). v ∷ x ∷ g ∷ runs 0 x (subnetRun subnets places transitions arcs)) k
+      ∙ ap (λ xs. head .version ∷ length (c .subnets) ∷ head .signals ∷ head .limit ∷ head .scale ∷ xs) (runs-same 0 (length (c .subnets)) _ _ (λ i _ h. subnet-run i (omega arith)))
+      ∙ ap (λ (x : ℕ). head .version ∷ x ∷ head .signals ∷ head .limit ∷ head .scale ∷ runs 0 x (subnetRun subnets places transitions arcs)) (subnet-count head subnets places transitions arcs)

@@ -8,10 +8,10 @@ use native.Mathlib.Nat.{zero-add, add-zero, add-suc}
 use lib.ListN.{length, getD, length-append, List·getD-append, List·getD-eq-default}
 use lib.Seq.{getD-append-add}
 use Rattle.card.specs.Finite.{sumTo, table, All}
-use Rattle.card.specs.Card.{Card, subnetAt, placeAt, transitionAt, arcAt, firstPlace, firstTransition, firstArc}
+use Rattle.card.specs.Card.{Card, subnetAt, placeAt, transitionAt, arcAt, firstPlace, firstTransition, firstArc, noTransition, headerFields, subnetFields, placeFields, transitionFields, arcFields}
 use Rattle.card.specs.Format.{count}
-use Rattle.card.specs.Grammar.{header, subnet, place, transition, arc}
-use Rattle.card.specs.Tables.{numbersOf, numbersTable}
+use Rattle.card.specs.Grammar.{header, subnet, place, transition, arc, maxArcs}
+use Rattle.card.specs.Tables.{numbersOf, numbersTable, tableSize}
 use Rattle.card.specs.inner.Runs.{runs}
 use Rattle.card.specs.Index.{subnetRow, transitionRow, placeField, arcField, SubnetThere, PlaceThere, TransitionThere, ArcThere, Lists, Laid}
 use Rattle.card.specs.Wellformed.{Wellformed, TransitionRow}
@@ -61,23 +61,23 @@ module _ (c : Card) where
   unfolding firstTransition
   transition-order r s = sum-mono r s (λ v. (subnetAt c v) .transitions)
 
-  transition-long : (t : ℕ) → length (transitionNumbers c t) ≡ 2 + 4 * (transitionAt c t) .arcs
+  transition-long : (t : ℕ) → length (transitionNumbers c t) ≡ transitionFields + arcFields * (transitionAt c t) .arcs
   unfolding transitionNumbers
   transition-long t =
-      omega (arith, runs-length 0 (λ j. arcNumbers (arcAt c t j)) ((transitionAt c t) .arcs), sum-times ((transitionAt c t) .arcs) 4 (λ j. length (arcNumbers (arcAt c t (0 + j)))) (λ i. refl))
+      omega (arith, runs-length 0 (λ j. arcNumbers (arcAt c t j)) ((transitionAt c t) .arcs), sum-times ((transitionAt c t) .arcs) arcFields (λ j. length (arcNumbers (arcAt c t (0 + j)))) (λ i. refl))
 
   -- the numbers of k transitions from t on
-  transitions-long : (t k : ℕ) → sumTo k (λ u. length (transitionNumbers c (t + u))) + 4 * firstArc c t ≡ 2 * k + 4 * firstArc c (t + k)
+  transitions-long : (t k : ℕ) → sumTo k (λ u. length (transitionNumbers c (t + u))) + arcFields * firstArc c t ≡ transitionFields * k + arcFields * firstArc c (t + k)
   unfolding sumTo
   transitions-long t zero = rw add-zero (omega arith)
   transitions-long t (suc k) =
       let z : firstArc c (suc (t + k)) ≡ firstArc c (t + k) + (transitionAt c (t + k)) .arcs = (unfold firstArc sumTo in refl) in
       rw add-suc (omega (arith, transitions-long t k, transition-long (t + k), z))
 
-  places-long : (p k : ℕ) → length (runs p k (λ i. placeNumbers (placeAt c i))) ≡ 3 * k
-  places-long p k = runs-length p (λ i. placeNumbers (placeAt c i)) k ∙ sum-times k 3 (λ j. length (placeNumbers (placeAt c (p + j)))) (λ i. refl)
+  places-long : (p k : ℕ) → length (runs p k (λ i. placeNumbers (placeAt c i))) ≡ placeFields * k
+  places-long p k = runs-length p (λ i. placeNumbers (placeAt c i)) k ∙ sum-times k placeFields (λ j. length (placeNumbers (placeAt c (p + j)))) (λ i. refl)
 
-  subnet-long : (s : ℕ) → length (subnetNumbers c s) + 4 * firstArc c (firstTransition c s) ≡ 4 + 3 * (subnetAt c s) .places + 2 * (subnetAt c s) .transitions + 4 * firstArc c (firstTransition c (suc s))
+  subnet-long : (s : ℕ) → length (subnetNumbers c s) + arcFields * firstArc c (firstTransition c s) ≡ subnetFields + placeFields * (subnetAt c s) .places + transitionFields * (subnetAt c s) .transitions + arcFields * firstArc c (firstTransition c (suc s))
   unfolding subnetNumbers
   subnet-long s =
       let t = firstTransition c s in
@@ -87,7 +87,7 @@ module _ (c : Card) where
       rw z (omega (arith, e, places-long (firstPlace c s) ((subnetAt c s) .places), runs-length t (transitionNumbers c) k, transitions-long t k))
 
   -- the numbers of the subnets before s
-  subnets-long : (s : ℕ) → sumTo s (λ r. length (subnetNumbers c (0 + r))) ≡ 4 * s + 3 * firstPlace c s + 2 * firstTransition c s + 4 * firstArc c (firstTransition c s)
+  subnets-long : (s : ℕ) → sumTo s (λ r. length (subnetNumbers c (0 + r))) ≡ subnetFields * s + placeFields * firstPlace c s + transitionFields * firstTransition c s + arcFields * firstArc c (firstTransition c s)
   unfolding sumTo
   subnets-long zero = (unfold firstPlace firstTransition firstArc sumTo in refl)
   subnets-long (suc s) =
@@ -99,9 +99,9 @@ module _ (c : Card) (n : Counted c) where
   in-subnet : (s k : ℕ) → s < length (c .subnets) → k < length (subnetNumbers c s) → getD (numbersOf c) (subnetRow c s + k) 0 ≡ getD (subnetNumbers c s) k 0
   unfolding subnetRow count header subnet place transition arc
   in-subnet s k l h =
-      let e : subnetRow c s + k ≡ 3 + (sumTo s (λ r. length (subnetNumbers c (0 + r))) + k) = omega (arith, subnets-long c s) in
-      rw e (ap (λ xs. getD xs (3 + (sumTo s (λ r. length (subnetNumbers c (0 + r))) + k)) 0) (numbers-rows c n)
-      ∙ behind (c .version ∷ length (c .subnets) ∷ c .signals ∷ []) (runs 0 (length (c .subnets)) (subnetNumbers c)) 3 _ refl
+      let e : subnetRow c s + k ≡ headerFields + (sumTo s (λ r. length (subnetNumbers c (0 + r))) + k) = omega (arith, subnets-long c s) in
+      rw e (ap (λ xs. getD xs (headerFields + (sumTo s (λ r. length (subnetNumbers c (0 + r))) + k)) 0) (numbers-rows c n)
+      ∙ behind (c .version ∷ length (c .subnets) ∷ c .signals ∷ c .limit ∷ c .scale ∷ []) (runs 0 (length (c .subnets)) (subnetNumbers c)) headerFields _ refl
       ∙ run-at 0 (subnetNumbers c) (length (c .subnets)) s k l (rw (zero-add s) h)
       ∙ ap (λ (i : ℕ). getD (subnetNumbers c i) k 0) (zero-add s))
 
@@ -139,7 +139,7 @@ module _ (c : Card) (n : Counted c) where
       let zp : firstPlace c (suc s) ≡ p + (subnetAt c s) .places = (unfold firstPlace sumTo in refl) in
       let zt : firstTransition c (suc s) ≡ v + (subnetAt c s) .transitions = (unfold firstTransition sumTo in refl) in
       let za : firstArc c (suc t) ≡ firstArc c t + (transitionAt c t) .arcs = (unfold firstArc sumTo in refl) in
-      let b : sumTo u (λ i. length (transitionNumbers c (v + i))) + 4 * firstArc c v ≡ 2 * u + 4 * firstArc c t = rw d at (transitions-long c v u) in
+      let b : sumTo u (λ i. length (transitionNumbers c (v + i))) + arcFields * firstArc c v ≡ transitionFields * u + arcFields * firstArc c t = rw d at (transitions-long c v u) in
       let x = sumTo u (λ i. length (transitionNumbers c (v + i))) + k in
       let y = 3 * (subnetAt c s) .places in
       let e : transitionRow c s t + k ≡ subnetRow c s + (4 + (y + x)) = omega (arith, b, zp, d, arc-order c v t (l .first)) in
@@ -152,53 +152,53 @@ module _ (c : Card) (n : Counted c) where
       ∙ ap (λ (j : ℕ). getD (transitionNumbers c j) k 0) d
 
   -- behind a transition's own row: its arcs
-  arcs-tail : (t k : ℕ) → getD (transitionNumbers c t) (2 + k) 0 ≡ getD (runs 0 ((transitionAt c t) .arcs) (λ i. arcNumbers (arcAt c t i))) k 0
+  arcs-tail : (t k : ℕ) → getD (transitionNumbers c t) (transitionFields + k) 0 ≡ getD (runs 0 ((transitionAt c t) .arcs) (λ i. arcNumbers (arcAt c t i))) k 0
   unfolding transitionNumbers
-  arcs-tail t k = behind ((transitionAt c t) .signal ∷ (transitionAt c t) .arcs ∷ []) (runs 0 ((transitionAt c t) .arcs) (λ i. arcNumbers (arcAt c t i))) 2 k refl
+  arcs-tail t k = behind ((transitionAt c t) .signal ∷ (transitionAt c t) .arcs ∷ (transitionAt c t) .rank ∷ []) (runs 0 ((transitionAt c t) .arcs) (λ i. arcNumbers (arcAt c t i))) transitionFields k refl
 
   in-arc : (s t j k : ℕ) → Lists c s t → j < (transitionAt c t) .arcs → k < 4 → getD (numbersOf c) (arcField (transitionRow c s t) j k) 0 ≡ getD (arcNumbers (arcAt c t j)) k 0
   unfolding arcField count transition arc
   in-arc s t j k l h lk =
       let x = sumTo j (λ i. length (arcNumbers (arcAt c t (0 + i)))) + k in
-      let b : sumTo j (λ i. length (arcNumbers (arcAt c t (0 + i)))) ≡ 4 * j = sum-times j 4 (λ i. length (arcNumbers (arcAt c t (0 + i)))) (λ i. refl) in
-      let e : transitionRow c s t + 2 + 4 * j + k ≡ transitionRow c s t + (2 + x) = omega (arith, b) in
+      let b : sumTo j (λ i. length (arcNumbers (arcAt c t (0 + i)))) ≡ arcFields * j = sum-times j arcFields (λ i. length (arcNumbers (arcAt c t (0 + i)))) (λ i. refl) in
+      let e : transitionRow c s t + transitionFields + arcFields * j + k ≡ transitionRow c s t + (transitionFields + x) = omega (arith, b) in
       ap (λ (i : ℕ). getD (numbersOf c) i 0) e
-      ∙ in-transition s t (2 + x) l (omega (arith, transition-long c t, b))
+      ∙ in-transition s t (transitionFields + x) l (omega (arith, transition-long c t, b))
       ∙ arcs-tail t x
       ∙ run-at 0 (λ i. arcNumbers (arcAt c t i)) ((transitionAt c t) .arcs) j k h lk
       ∙ ap (λ (i : ℕ). getD (arcNumbers (arcAt c t i)) k 0) (zero-add j)
 
-  numbers-long : length (numbersOf c) ≡ 3 + 4 * length (c .subnets) + 3 * length (c .places) + 2 * length (c .transitions) + 4 * length (c .arcs)
+  numbers-long : length (numbersOf c) ≡ headerFields + subnetFields * length (c .subnets) + placeFields * length (c .places) + transitionFields * length (c .transitions) + arcFields * length (c .arcs)
   numbers-long =
       let e = ap length (numbers-rows c n) in
       let f = runs-length 0 (subnetNumbers c) (length (c .subnets)) in
       rw (n .arcs, n .places, n .transitions) (omega (arith, e, f, subnets-long c (length (c .subnets))))
 
 -- a card that is well formed has no more numbers than the table has entries
-pub arcs-few : (c : Card) (k : ℕ) → All (TransitionRow (c .signals)) (c .transitions) → k ≤ length (c .transitions) → firstArc c k ≤ 31 * k
+pub arcs-few : (c : Card) (k : ℕ) → All (TransitionRow (c .version) (c .signals)) (c .transitions) → k ≤ length (c .transitions) → firstArc c k ≤ maxArcs * k
 unfolding firstArc sumTo
 arcs-few c zero h l = omega arith
 arcs-few c (suc k) h l =
-    let ih : firstArc c k ≤ 31 * k = unfold firstArc in arcs-few c k h (omega arith) in
-    omega (arith, ih, (all-at (TransitionRow (c .signals)) (c .transitions) (record { signal = 0; arcs = 0 }) h k l) .arcs)
+    let ih : firstArc c k ≤ maxArcs * k = unfold firstArc in arcs-few c k h (omega arith) in
+    omega (arith, ih, (all-at (TransitionRow (c .version) (c .signals)) (c .transitions) noTransition h k l) .arcs)
 
 module _ (c : Card) (w : Wellformed c) where
   pub counted : Counted c
   counted = record { places = w .rows .placeCount; transitions = w .rows .transitionCount; arcs = w .rows .arcCount }
 
-  pub numbers-few : length (numbersOf c) ≤ 33026
+  pub numbers-few : length (numbersOf c) ≤ tableSize
   numbers-few =
       omega (arith, numbers-long c counted, w .fewSubnets, w .rows .fewPlaces, w .rows .fewTransitions, w .rows .arcCount, arcs-few c (length (c .transitions)) (w .rows .transitions) (omega arith))
 
   -- the table holds each of them
   entered : (i : ℕ) → getD (numbersTable c) i 0 ≡ getD (numbersOf c) i 0
   unfolding numbersTable
-  entered i = go (lt-or-ge i 33026)
+  entered i = go (lt-or-ge i tableSize)
     where
-      go : (i < 33026) ⊎ (33026 ≤ i) → getD (numbersTable c) i 0 ≡ getD (numbersOf c) i 0
-      go (inl l) = table-at 33026 (λ j. getD (numbersOf c) j 0) 0 i l
+      go : (i < tableSize) ⊎ (tableSize ≤ i) → getD (numbersTable c) i 0 ≡ getD (numbersOf c) i 0
+      go (inl l) = table-at tableSize (λ j. getD (numbersOf c) j 0) 0 i l
       go (inr l) =
-          List·getD-eq-default (numbersTable c) 0 (omega (arith, table-length 0 33026 (λ j. getD (numbersOf c) j 0)))
+          List·getD-eq-default (numbersTable c) 0 (omega (arith, table-length 0 tableSize (λ j. getD (numbersOf c) j 0)))
           ∙ sym (List·getD-eq-default (numbersOf c) 0 (omega (arith, numbers-few)))
 
   abbrev numbers : List ℕ
@@ -225,9 +225,9 @@ module _ (c : Card) (w : Wellformed c) where
 
   there-transition : (s t : ℕ) → Lists c s t → TransitionThere numbers (transitionRow c s t) (transitionAt c t)
   unfolding transitionNumbers
-  there-transition s t l = record { signal = ap (λ (i : ℕ). getD numbers i 0) (sym (add-zero (transitionRow c s t))) ∙ at 0 (omega arith); arcs = at 1 (omega arith) }
+  there-transition s t l = record { signal = ap (λ (i : ℕ). getD numbers i 0) (sym (add-zero (transitionRow c s t))) ∙ at 0 (omega arith); arcs = at 1 (omega arith); rank = at 2 (omega arith) }
     where
-      at : (k : ℕ) → k < 2 → getD numbers (transitionRow c s t + k) 0 ≡ getD (transitionNumbers c t) k 0
+      at : (k : ℕ) → k < transitionFields → getD numbers (transitionRow c s t + k) 0 ≡ getD (transitionNumbers c t) k 0
       at k b = entered (transitionRow c s t + k) ∙ in-transition c counted s t k l (omega arith)
 
   there-arc : (s t j : ℕ) → Lists c s t → j < (transitionAt c t) .arcs → ArcThere numbers (transitionRow c s t) j (arcAt c t j)
@@ -241,6 +241,8 @@ module _ (c : Card) (w : Wellformed c) where
   laid = record {
     version = entered 0 ∙ ap (λ xs. getD xs 0 0) (numbers-rows c counted);
     signals = entered 2 ∙ ap (λ xs. getD xs 2 0) (numbers-rows c counted);
+    limit = entered 3 ∙ ap (λ xs. getD xs 3 0) (numbers-rows c counted);
+    scale = entered 4 ∙ ap (λ xs. getD xs 4 0) (numbers-rows c counted);
     subnet = there-subnet;
     place = there-place;
     transition = there-transition;

@@ -7,9 +7,9 @@ use native.Mathlib.Nat.{zero-add, add-zero, add-suc}
 use lib.ListN.{length, getD, take, drop}
 use lib.Seq.{take-suc, take-add, take-all, drop-cons, length-take-le}
 use Rattle.card.specs.Finite.{sumTo, table}
-use Rattle.card.specs.Card.{Header, Subnet, Place, Transition, Arc, Card, headerOf, subnetAt, placeAt, transitionAt, arcAt, firstPlace, firstTransition, firstArc}
+use Rattle.card.specs.Card.{Header, Subnet, Place, Transition, Arc, Card, headerOf, subnetAt, placeAt, transitionAt, arcAt, firstPlace, firstTransition, firstArc, noSubnet, noPlace, noTransition, noArc}
 use Rattle.card.specs.Format.{of, each, grow, _>>=_}
-use Rattle.card.specs.Grammar.{header, subnet, place, transition, arc, wholeTransition, with, wholeSubnet, card}
+use Rattle.card.specs.Grammar.{header, subnet, place, transition, arc, wholeTransition, with, wholeSubnet, card, headerAlone}
 use Rattle.card.proofs.Sums.{sum-mono}
 use Rattle.card.proofs.Walk.{built, built-then, built-of, built-each}
 
@@ -25,6 +25,8 @@ prefix c i =
     record {
       version = c .version;
       signals = c .signals;
+      limit = c .limit;
+      scale = c .scale;
       subnets = take i (c .subnets);
       places = take (firstPlace c i) (c .places);
       transitions = take (firstTransition c i) (c .transitions);
@@ -57,7 +59,7 @@ module _ (c : Card) (n : Counted c) where
   arcs-more : (t : ℕ) → t < length (c .transitions) → take (firstArc c t) (c .arcs) ++ arcsOf c t ≡ take (firstArc c (suc t)) (c .arcs)
   unfolding arcsOf firstArc sumTo
   arcs-more t l =
-      rw (table-shift 0 ((transitionAt c t) .arcs) (firstArc c t) (λ k. getD (c .arcs) k (record { direction = 0; subnet = 0; place = 0; weight = 0 })), add-zero)
+      rw (table-shift 0 ((transitionAt c t) .arcs) (firstArc c t) (λ k. getD (c .arcs) k noArc), add-zero)
       (take-more (c .arcs) _ (firstArc c t) ((transitionAt c t) .arcs) (omega (arith, arcs-below (suc t) (omega arith))))
 
   arcs-several : (t m : ℕ) → t + m ≤ length (c .transitions)
@@ -74,9 +76,9 @@ firsts from zero f g = refl
 firsts from (suc n) f g = ap (λ xs. f from ∷ xs) (firsts (suc from) n f g)
 
 -- the numbers of one row
-pub built-transition : (g : ℕ) (r : Transition) → built (transition g) r ≡ r
+pub built-transition : (v g : ℕ) (r : Transition) → built (transition v g) r ≡ r
 unfolding transition
-built-transition g r = refl
+built-transition v g r = refl
 
 pub built-arc : (a : Arc) → built arc a ≡ a
 unfolding arc
@@ -101,11 +103,11 @@ table-same from zero f g h = refl
 table-same from (suc n) f g h = ap₂ (λ x xs. x ∷ xs) (h from) (table-same (suc from) n f g h)
 
 module _ (c : Card) where
-  pub built-wholeTransition : (g t : ℕ) → built (wholeTransition g t) c ≡ (transitionAt c t, arcsOf c t)
+  pub built-wholeTransition : (v g t : ℕ) → built (wholeTransition v g t) c ≡ (transitionAt c t, arcsOf c t)
   unfolding wholeTransition arcsOf
-  built-wholeTransition g t =
-      built-then (of (λ d. transitionAt d t) (transition g)) _ c
-      ∙ rw (built-of (λ d. transitionAt d t) (transition g) c, built-transition g (transitionAt c t)) (
+  built-wholeTransition v g t =
+      built-then (of (λ d. transitionAt d t) (transition v g)) _ c
+      ∙ rw (built-of (λ d. transitionAt d t) (transition v g) c, built-transition v g (transitionAt c t)) (
       built-then (each 0 ((transitionAt c t) .arcs) (λ j. of (λ (d : Card). arcAt d t j) arc)) _ c
       ∙ ap (λ xs. (transitionAt c t, xs)) (built-each 0 ((transitionAt c t) .arcs) _ c ∙ table-same 0 _ _ _ (λ j. built-of (λ (d : Card). arcAt d t j) arc c ∙ built-arc (arcAt c t j))))
 
@@ -151,10 +153,10 @@ module _ (c : Card) (n : Counted c) where
   prefix-more i l =
       let fits : firstTransition c i + (subnetAt c i) .transitions ≤ length (c .transitions) = omega (arith, first-transition i, transitions-below (suc i) (omega arith)) in
       rw (
-        sym (take-suc (c .subnets) i (record { parent = 0; type = 0; places = 0; transitions = 0 }) l),
-        take-more (c .places) (record { kind = 0; capacity = 0; tokens = 0 }) (firstPlace c i) ((subnetAt c i) .places) (omega (arith, first-place i, places-below (suc i) (omega arith))),
+        sym (take-suc (c .subnets) i noSubnet l),
+        take-more (c .places) noPlace (firstPlace c i) ((subnetAt c i) .places) (omega (arith, first-place i, places-below (suc i) (omega arith))),
         firsts (firstTransition c i) ((subnetAt c i) .transitions) (transitionAt c) (arcsOf c),
-        take-more (c .transitions) (record { signal = 0; arcs = 0 }) (firstTransition c i) ((subnetAt c i) .transitions) fits,
+        take-more (c .transitions) noTransition (firstTransition c i) ((subnetAt c i) .transitions) fits,
         arcs-several c n (firstTransition c i) ((subnetAt c i) .transitions) fits,
         first-place i,
         first-transition i,
@@ -173,9 +175,9 @@ built-wholeSubnet c sofar =
       built-each p ((subnetAt c s) .places) (λ i. of (λ (d : Card). placeAt d i) (place s)) c,
       table-same p ((subnetAt c s) .places) _ (placeAt c) (λ i. built-of (λ (d : Card). placeAt d i) (place s) c ∙ built-place s (placeAt c i)),
     ) (
-    built-then (each t ((subnetAt c s) .transitions) (wholeTransition (sofar .signals))) _ c
-    ∙ ap (with sofar (subnetAt c s) (table p ((subnetAt c s) .places) (placeAt c))) (built-each t ((subnetAt c s) .transitions) (wholeTransition (sofar .signals)) c
-    ∙ table-same t ((subnetAt c s) .transitions) _ _ (λ u. built-wholeTransition c (sofar .signals) u))))
+    built-then (each t ((subnetAt c s) .transitions) (wholeTransition (sofar .version) (sofar .signals))) _ c
+    ∙ ap (with sofar (subnetAt c s) (table p ((subnetAt c s) .places) (placeAt c))) (built-each t ((subnetAt c s) .transitions) (wholeTransition (sofar .version) (sofar .signals)) c
+    ∙ table-same t ((subnetAt c s) .transitions) _ _ (λ u. built-wholeTransition c (sofar .version) (sofar .signals) u))))
   where
     s : ℕ
     s = length (sofar .subnets)
@@ -200,7 +202,7 @@ module _ (c : Card) (n : Counted c) where
       built-then (wholeSubnet (prefix c i)) _ c
       ∙ rw (built-more i (omega arith)) (built-grow k (suc i) (omega arith) ∙ ap (prefix c) (let e : suc i + k ≡ i + suc k = omega arith in e))
 
-  pub prefix-none : prefix c 0 ≡ record { version = c .version; signals = c .signals; subnets = []; places = []; transitions = []; arcs = [] }
+  pub prefix-none : prefix c 0 ≡ headerAlone (headerOf c)
   unfolding prefix firstPlace firstTransition firstArc sumTo
   prefix-none = refl
 

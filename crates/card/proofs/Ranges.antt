@@ -1,5 +1,5 @@
 -- What is read is well formed: pass one asks all that 'The card' says of a card's rows. Assumes nothing.
-use Prim.Native.Nat.{ℕ, suc, _+_, _-_, _≤_, _<_}
+use Prim.Native.Nat.{ℕ, suc, _+_, _-_, _≤_, _<_, _^_}
 use mathlib.Core.Path.{_≡_, refl, ap, _∙_}
 use mathlib.Core.Bool.{Bool, true, false}
 use mathlib.Core.List.{List, [], _∷_, _++_, map, flatten}
@@ -10,9 +10,9 @@ use lib.Seq.{getD-append-seam, getD-append-add}
 use lib.Dec.{eqb}
 use borrow.Author.Tests.{eqb-true, eqb-false}
 use Rattle.card.specs.Finite.{sumTo, All}
-use Rattle.card.specs.Card.{Header, Subnet, Place, Transition, Arc, Card, normal, headerOf, subnetAt, placeAt, transitionAt, arcAt, firstPlace, firstTransition, firstArc}
+use Rattle.card.specs.Card.{Header, Subnet, Place, Transition, Arc, Card, normal, headerOf, subnetAt, placeAt, transitionAt, arcAt, firstPlace, firstTransition, firstArc, noPlace, noTransition}
 use Rattle.card.specs.Format.{of, each, grow}
-use Rattle.card.specs.Grammar.{maxCount, header, subnet, place, transition, arc, wholeTransition, with, wholeSubnet, card}
+use Rattle.card.specs.Grammar.{maxCount, header, subnet, place, transition, arc, wholeTransition, with, wholeSubnet, card, maxSubnets, maxSignals, limitWidth, scaleWidth, headerAlone}
 use Rattle.card.specs.Parsing.{Parsing, refused, whole, read, excess, closed, ended, readCard}
 use Rattle.card.specs.Wellformed.{SubnetRow, PlaceRow, TransitionRow, ArcRow, Rows, Wellformed}
 use Rattle.card.proofs.Decides.{eq-is, lt-is, le-is, and-is, implies-is, cond-is, someUnless-is}
@@ -23,21 +23,25 @@ use Rattle.card.proofs.Yields.{Yields, Listed, not-whole, yields-read, 
 pub record HeaderRow (h : Header) : Type 0 where
   pub version : h .version ≡ 1
   pub someSubnets : 1 ≤ h .subnets
-  pub fewSubnets : h .subnets ≤ 32
+  pub fewSubnets : h .subnets ≤ maxSubnets
   pub someSignals : 1 ≤ h .signals
-  pub fewSignals : h .signals ≤ 63
+  pub fewSignals : h .signals ≤ maxSignals
+  pub limit : h .limit < 2 ^ limitWidth (h .version)
+  pub scale : h .scale < 2 ^ scaleWidth (h .version)
 
 header-yields : Yields header HeaderRow
 unfolding header
 header-yields =
-    λ v lv ev s ls es g lg eg.
-    let k = someUnless-is _ _ _ (and-is _ _ _ _ (le-is 1 s) (le-is s 32)) .0 es in
+    λ v lv ev s ls es g lg eg m lm em q lq eq.
+    let k = someUnless-is _ _ _ (and-is _ _ _ _ (le-is 1 s) (le-is s maxSubnets)) .0 es in
     record {
       version = someUnless-is _ _ _ (eq-is v 1) .0 ev;
       someSubnets = k .0;
       fewSubnets = k .1;
       someSignals = someUnless-is _ _ _ (le-is 1 g) .0 eg;
-      fewSignals = omega arith;
+      fewSignals = omega (arith, lg);
+      limit = lm;
+      scale = lq;
     }
 
 pub record SubnetAfter (s p t : ℕ) (r : Subnet) : Type 0 where
@@ -71,14 +75,15 @@ place-yields s =
       tokens = someUnless-is _ _ _ (le-is tokens capacity) .0 etokens;
     }
 
-transition-yields : (signals : ℕ) → Yields (transition signals) (TransitionRow signals)
+transition-yields : (version signals : ℕ) → Yields (transition version signals) (TransitionRow version signals)
 unfolding transition
-transition-yields signals =
-    λ signal lsignal esignal arcs larcs earcs.
+transition-yields version signals =
+    λ signal lsignal esignal arcs larcs earcs rank lrank erank.
     record {
       signal = someUnless-is _ _ _ (lt-is signal signals) .0 esignal;
       positive = someUnless-is _ _ _ (le-is 1 arcs) .0 earcs;
-      arcs = omega arith;
+      arcs = omega (arith, larcs);
+      rank = lrank;
     }
 
 arc-yields : Yields arc ArcRow
@@ -86,30 +91,30 @@ unfolding arc
 arc-yields = λ d ld ed s ls es p lp ep w lw ew. record { direction = omega arith; subnet = ls; place = lp; weight = lw }
 
 -- a transition with its arcs
-pub record TransitionArcs (signals : ℕ) (x : Transition × List Arc) : Type 0 where
-  pub row : TransitionRow signals (x .0)
+pub record TransitionArcs (version signals : ℕ) (x : Transition × List Arc) : Type 0 where
+  pub row : TransitionRow version signals (x .0)
   pub arcs : Listed ArcRow ((x .0) .arcs) (x .1)
 
-pub wholeTransition-yields : (signals t : ℕ) → Yields (wholeTransition signals t) (TransitionArcs signals)
+pub wholeTransition-yields : (version signals t : ℕ) → Yields (wholeTransition version signals t) (TransitionArcs version signals)
 unfolding wholeTransition
-wholeTransition-yields signals t =
-    yields-then (of (λ c. transitionAt c t) (transition signals)) _ (TransitionRow signals) (TransitionArcs signals)
-    (yields-of _ (transition signals) _ (transition-yields signals))
-    (λ row h. yields-then (each 0 (row .arcs) (λ j. of (λ (c : Card). arcAt c t j) arc)) _ (Listed ArcRow (row .arcs)) (TransitionArcs signals)
+wholeTransition-yields version signals t =
+    yields-then (of (λ c. transitionAt c t) (transition version signals)) _ (TransitionRow version signals) (TransitionArcs version signals)
+    (yields-of _ (transition version signals) _ (transition-yields version signals))
+    (λ row h. yields-then (each 0 (row .arcs) (λ j. of (λ (c : Card). arcAt c t j) arc)) _ (Listed ArcRow (row .arcs)) (TransitionArcs version signals)
     (yields-each 0 (row .arcs) _ ArcRow (λ j. yields-of _ arc _ arc-yields)) (λ arcs k. record { row = h; arcs = k }))
 
 -- one subnet more: the rows so far keep their places
-flatten-length : (signals : ℕ) (ts : List (Transition × List Arc)) → All (TransitionArcs signals) ts
+flatten-length : (version signals : ℕ) (ts : List (Transition × List Arc)) → All (TransitionArcs version signals) ts
     → length (flatten (map (λ t. t .1) ts)) ≡ total (λ t. t .arcs) (map (λ t. t .0) ts)
 unfolding flatten
-flatten-length signals [] h = refl
-flatten-length signals (x ∷ ts) h =
-    length-append (x .1) (flatten (map (λ t. t .1) ts)) ∙ omega (arith, h .0 .arcs .long, flatten-length signals ts (h .1))
+flatten-length version signals [] h = refl
+flatten-length version signals (x ∷ ts) h =
+    length-append (x .1) (flatten (map (λ t. t .1) ts)) ∙ omega (arith, h .0 .arcs .long, flatten-length version signals ts (h .1))
 
-flatten-all : (signals : ℕ) (ts : List (Transition × List Arc)) → All (TransitionArcs signals) ts → All ArcRow (flatten (map (λ t. t .1) ts))
+flatten-all : (version signals : ℕ) (ts : List (Transition × List Arc)) → All (TransitionArcs version signals) ts → All ArcRow (flatten (map (λ t. t .1) ts))
 unfolding flatten
-flatten-all signals [] h = tt
-flatten-all signals (x ∷ ts) h = all-append ArcRow (x .1) _ (h .0 .arcs .members) (flatten-all signals ts (h .1))
+flatten-all version signals [] h = tt
+flatten-all version signals (x ∷ ts) h = all-append ArcRow (x .1) _ (h .0 .arcs .members) (flatten-all version signals ts (h .1))
 
 module _ (c : Card) (r : Subnet) (ps : List Place) (ts : List (Transition × List Arc)) where
   more : Card
@@ -142,12 +147,12 @@ module _ (c : Card) (r : Subnet) (ps : List Place) (ts : List (Transition × Lis
   unfolding more
   place-old p l = List·getD-append (c .places) ps _ p l
 
-  place-new : (k : ℕ) → placeAt more (length (c .places) + k) ≡ getD ps k (record { kind = 0; capacity = 0; tokens = 0 })
+  place-new : (k : ℕ) → placeAt more (length (c .places) + k) ≡ getD ps k noPlace
   unfolding more
   place-new k = getD-append-add (c .places) ps k _
 
   module _ (old : Rows c) (new : SubnetAfter S (length (c .places)) (length (c .transitions)) r)
-      (nps : Listed (PlaceRow S) (r .places) ps) (nts : Listed (TransitionArcs (c .signals)) (r .transitions) ts) where
+      (nps : Listed (PlaceRow S) (r .places) ps) (nts : Listed (TransitionArcs (c .version) (c .signals)) (r .transitions) ts) where
     places-long : length (more .places) ≡ length (c .places) + r .places
     unfolding more
     places-long = length-append (c .places) ps ∙ ap (λ (n : ℕ). length (c .places) + n) (nps .long)
@@ -172,10 +177,10 @@ module _ (c : Card) (r : Subnet) (ps : List Place) (ts : List (Transition × Lis
         length-append (c .arcs) (flatten (map (λ t. t .1) ts)) ∙ omega (
           arith,
           old .arcCount,
-          flatten-length (c .signals) ts (nts .members),
-          sum-list (λ t. t .arcs) (c .transitions) (record { signal = 0; arcs = 0 }),
+          flatten-length (c .version) (c .signals) ts (nts .members),
+          sum-list (λ t. t .arcs) (c .transitions) noTransition,
           total-append (λ t. t .arcs) (c .transitions) (map (λ t. t .0) ts),
-          sum-list (λ t. t .arcs) (c .transitions ++ map (λ t. t .0) ts) (record { signal = 0; arcs = 0 }),
+          sum-list (λ t. t .arcs) (c .transitions ++ map (λ t. t .0) ts) noTransition,
         )
 
     more-subnet : (s : ℕ) → s < length (more .subnets) → SubnetRow s (subnetAt more s)
@@ -218,13 +223,15 @@ module _ (c : Card) (r : Subnet) (ps : List Place) (ts : List (Transition × Lis
           subnet = more-subnet;
           place = more-place;
           transitions = all-append _ (c .transitions) _ (old .transitions) (all-map _ _ ts (all-more _ _ (λ x h. h .row) ts (nts .members)));
-          arcs = all-append ArcRow (c .arcs) _ (old .arcs) (flatten-all (c .signals) ts (nts .members));
+          arcs = all-append ArcRow (c .arcs) _ (old .arcs) (flatten-all (c .version) (c .signals) ts (nts .members));
         }
 
 -- after i subnets
 pub record After (h : Header) (i : ℕ) (c : Card) : Type 0 where
   pub version : c .version ≡ h .version
   pub signals : c .signals ≡ h .signals
+  pub limit : c .limit ≡ h .limit
+  pub scale : c .scale ≡ h .scale
   pub subnets : length (c .subnets) ≡ i
   pub rows : Rows c
 
@@ -234,11 +241,13 @@ wholeSubnet-yields h i c a =
     yields-then (of (λ (k : Card). subnetAt k s) (subnet s p t)) _ (SubnetAfter s p t) (After h (suc i)) (yields-of _ (subnet s p t) _ (subnet-yields s p t))
     (λ r new. yields-then (each p (r .places) (λ k. of (λ (d : Card). placeAt d k) (place s))) _ (Listed (PlaceRow s) (r .places)) (After h (suc i))
     (yields-each p (r .places) _ (PlaceRow s) (λ k. yields-of _ (place s) _ (place-yields s)))
-    (λ ps nps. yields-then (each t (r .transitions) (wholeTransition (c .signals))) _ (Listed (TransitionArcs (c .signals)) (r .transitions)) (After h (suc i))
-    (yields-each t (r .transitions) _ (TransitionArcs (c .signals)) (wholeTransition-yields (c .signals)))
+    (λ ps nps. yields-then (each t (r .transitions) (wholeTransition (c .version) (c .signals))) _ (Listed (TransitionArcs (c .version) (c .signals)) (r .transitions)) (After h (suc i))
+    (yields-each t (r .transitions) _ (TransitionArcs (c .version) (c .signals)) (wholeTransition-yields (c .version) (c .signals)))
     (λ ts nts. record {
       version = a .version;
       signals = a .signals;
+      limit = a .limit;
+      scale = a .scale;
       subnets = unfold more in subnets-long c r ps ts ∙ ap suc (a .subnets);
       rows = unfold more in more-rows c r ps ts (a .rows) new nps nts;
     })))
@@ -253,7 +262,7 @@ wholeSubnet-yields h i c a =
     t = length (c .transitions)
 
 unfoldable pub start : Header → Card
-start h = record { version = h .version; signals = h .signals; subnets = []; places = []; transitions = []; arcs = [] }
+start h = headerAlone h
 
 pub no-rows : (h : Header) → Rows (start h)
 unfolding start firstPlace firstTransition firstArc sumTo
@@ -272,7 +281,7 @@ no-rows h =
 
 pub no-subnets : (h : Header) → After h 0 (start h)
 unfolding start
-no-subnets h = record { version = refl; signals = refl; subnets = refl; rows = no-rows h }
+no-subnets h = record { version = refl; signals = refl; limit = refl; scale = refl; subnets = refl; rows = no-rows h }
 
 pub grow-yields : (h : Header) → Yields (grow (h .subnets) wholeSubnet (start h)) (After h (0 + h .subnets))
 grow-yields h = yields-grow (h .subnets) wholeSubnet (After h) (wholeSubnet-yields h) 0 (start h) (no-subnets h)
@@ -287,6 +296,8 @@ card-yields =
       fewSubnets = omega (arith, a .subnets, row .fewSubnets);
       someSignals = omega (arith, a .signals, row .someSignals);
       fewSignals = omega (arith, a .signals, row .fewSignals);
+      limit = rw (a .limit, a .version) (row .limit);
+      scale = rw (a .scale, a .version) (row .scale);
       rows = a .rows;
     }) (grow-yields h))
 

@@ -19,7 +19,7 @@ use Rattle.card.specs.Format.{Format, done, get}
 use Rattle.card.specs.Grammar.{card}
 use Rattle.card.specs.Parsing.{Parsing, refused, whole, read, excess, readCard}
 use Rattle.card.specs.Writing.{fields}
-use Rattle.card.specs.Tables.{numbersOf, numbersTable, ReadOutcome, readOutcome, outcomeOf, IsRead}
+use Rattle.card.specs.Tables.{numbersOf, numbersTable, ReadOutcome, readOutcome, outcomeOf, IsRead, tableSize}
 use Rattle.card.specs.declared.reader.ReadAnswer.{ReadAnswer}
 use Rattle.card.specs.declared.reader.ReadAnswer.the-variants.{Whole, Refused}
 use Rattle.card.specs.inner.Reader.{IsRefused, endedAs, IsFilled}
@@ -91,12 +91,12 @@ module _ (bytes : List ℕ) where
       rw (f .is, x) (record { answer = refl; table = λ c m q. absurd (not-whole _ _ _ _ q) })
 
   -- the table is that of the card's numbers
-  table-is : (t : List ℕ) (n : ℕ) (c : Card) → length t ≡ 33026 → ((i : ℕ) → n ≤ i → getD t i 0 ≡ 0) → take n t ≡ numbersOf c → t ≡ numbersTable c
+  table-is : (t : List ℕ) (n : ℕ) (c : Card) → length t ≡ tableSize → ((i : ℕ) → n ≤ i → getD t i 0 ≡ 0) → take n t ≡ numbersOf c → t ≡ numbersTable c
   unfolding numbersTable
   table-is t n c long zeros e =
-      ext-getD 0 t _ (long ∙ sym (table-length 0 33026 _)) (λ i l. at i (omega (arith, long)) (lt-or-ge i n) ∙ sym (table-at 33026 (λ j. getD (numbersOf c) j 0) 0 i (omega (arith, long))))
+      ext-getD 0 t _ (long ∙ sym (table-length 0 tableSize _)) (λ i l. at i (omega (arith, long)) (lt-or-ge i n) ∙ sym (table-at tableSize (λ j. getD (numbersOf c) j 0) 0 i (omega (arith, long))))
     where
-      at : (i : ℕ) → i < 33026 → (i < n) ⊎ (n ≤ i) → getD t i 0 ≡ getD (numbersOf c) i 0
+      at : (i : ℕ) → i < tableSize → (i < n) ⊎ (n ≤ i) → getD t i 0 ≡ getD (numbersOf c) i 0
       at i l (inl m) = sym (getD-take n t i 0 m) ∙ ap (λ xs. getD xs i 0) e
       at i l (inr m) = zeros i m ∙ sym (ap (λ xs. getD xs i 0) (sym e) ∙ List·getD-eq-default (take n t) 0 (omega (arith, length-take n t)))
 
@@ -104,7 +104,7 @@ module _ (bytes : List ℕ) where
   unfolding numbersOf
   numbers-are c end r = spelt-numbers bytes card c 0 (tied-card bytes c end r .spelt)
 
-  whole-is : (k : Counts) (end n : ℕ) (t : List ℕ) → read bytes cardS 0 ≡ whole k end → excess bytes end ≡ none → length t ≡ 33026 → ((i : ℕ) → n ≤ i → getD t i 0 ≡ 0)
+  whole-is : (k : Counts) (end n : ℕ) (t : List ℕ) → read bytes cardS 0 ≡ whole k end → excess bytes end ≡ none → length t ≡ tableSize → ((i : ℕ) → n ≤ i → getD t i 0 ≡ 0)
       → take n t ≡ numbersIn bytes cardS 0 → IsFilled (readCard bytes) (Whole k) t
   unfolding readCard
   whole-is k end n t e x long zeros v =
@@ -116,7 +116,7 @@ module _ (bytes : List ℕ) where
         table = λ c m q. is ∙ ap numbersTable (let z : f .value ≡ c = cc in z);
       })
 
-  pub ended-is : (k : Counts) (end n : ℕ) (t : List ℕ) (r : ReadAnswer) → read bytes cardS 0 ≡ whole k end → length t ≡ 33026 → ((i : ℕ) → n ≤ i → getD t i 0 ≡ 0)
+  pub ended-is : (k : Counts) (end n : ℕ) (t : List ℕ) (r : ReadAnswer) → read bytes cardS 0 ≡ whole k end → length t ≡ tableSize → ((i : ℕ) → n ≤ i → getD t i 0 ≡ 0)
       → take n t ≡ numbersIn bytes cardS 0 → r ≡ endedAs (excess bytes end) k → IsFilled (readCard bytes) r t
   ended-is k end n t r e long zeros v h = rw h (go (excess bytes end) refl)
     where

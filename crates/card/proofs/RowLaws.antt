@@ -76,7 +76,7 @@ module _ (rows widths : List ℕ) where
   fit-done i h l = (λ e j m. h .before j (omega arith), λ r. refl)
 
 -- widths of fields are small
-pub widths-small : (ws : List ℕ) → All (λ w. w ≤ 8) ws → (k : ℕ) → getD ws k 0 < 32
+pub widths-small : (ws : List ℕ) → All (λ w. w ≤ 16) ws → (k : ℕ) → getD ws k 0 < 32
 widths-small [] h k = omega arith
 widths-small (w ∷ ws) h zero = omega (arith, h .0)
 widths-small (w ∷ ws) h (suc k) = widths-small ws (h .1) k

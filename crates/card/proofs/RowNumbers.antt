@@ -57,7 +57,7 @@ arcNumbers a = a .direction ∷ a .subnet ∷ a .place ∷ a .weight ∷ []
 
 module _ (c : Card) where
   unfoldable pub transitionNumbers : ℕ → List ℕ
-  transitionNumbers t = (transitionAt c t) .signal ∷ (transitionAt c t) .arcs ∷ runs 0 ((transitionAt c t) .arcs) (λ j. arcNumbers (arcAt c t j))
+  transitionNumbers t = (transitionAt c t) .signal ∷ (transitionAt c t) .arcs ∷ (transitionAt c t) .rank ∷ runs 0 ((transitionAt c t) .arcs) (λ j. arcNumbers (arcAt c t j))
 
   unfoldable pub subnetNumbers : ℕ → List ℕ
   subnetNumbers s =
@@ -68,9 +68,9 @@ module _ (c : Card) where
   unfolding arc
   one-arc t j = refl
 
-  one-transition : (g t : ℕ) → values (of (λ (d : Card). transitionAt d t) (transition g)) c ≡ (transitionAt c t) .signal ∷ (transitionAt c t) .arcs ∷ []
+  one-transition : (v g t : ℕ) → values (of (λ (d : Card). transitionAt d t) (transition v g)) c ≡ (transitionAt c t) .signal ∷ (transitionAt c t) .arcs ∷ (transitionAt c t) .rank ∷ []
   unfolding transition
-  one-transition g t = refl
+  one-transition v g t = refl
 
   one-place : (s p : ℕ) → values (of (λ (d : Card). placeAt d p) (place s)) c ≡ placeNumbers (placeAt c p)
   unfolding place
@@ -80,12 +80,12 @@ module _ (c : Card) where
   unfolding subnet
   one-subnet s p t = refl
 
-  transition-values : (g t : ℕ) → values (wholeTransition g t) c ≡ transitionNumbers t
+  transition-values : (v g t : ℕ) → values (wholeTransition v g t) c ≡ transitionNumbers t
   unfolding wholeTransition transitionNumbers
-  transition-values g t =
-      values-then (of (λ (d : Card). transitionAt d t) (transition g)) _ c
-      ∙ ap₂ (λ xs ys. xs ++ ys) (one-transition g t)
-      (rw (built-of (λ (d : Card). transitionAt d t) (transition g) c, built-transition g (transitionAt c t))
+  transition-values v g t =
+      values-then (of (λ (d : Card). transitionAt d t) (transition v g)) _ c
+      ∙ ap₂ (λ xs ys. xs ++ ys) (one-transition v g t)
+      (rw (built-of (λ (d : Card). transitionAt d t) (transition v g) c, built-transition v g (transitionAt c t))
       (values-then (each 0 ((transitionAt c t) .arcs) (λ j. of (λ (d : Card). arcAt d t j) arc)) _ c
       ∙ append-nil _
       ∙ values-each 0 ((transitionAt c t) .arcs) _ c
@@ -94,8 +94,8 @@ module _ (c : Card) where
   places-values : (s p k : ℕ) → values (each p k (λ i. of (λ (d : Card). placeAt d i) (place s))) c ≡ runs p k (λ i. placeNumbers (placeAt c i))
   places-values s p k = values-each p k _ c ∙ runs-same p k _ (λ i. placeNumbers (placeAt c i)) (λ i a b. one-place s i)
 
-  transitions-values : (g t k : ℕ) → values (each t k (wholeTransition g)) c ≡ runs t k transitionNumbers
-  transitions-values g t k = values-each t k (wholeTransition g) c ∙ runs-same t k _ transitionNumbers (λ i a b. transition-values g i)
+  transitions-values : (v g t k : ℕ) → values (each t k (wholeTransition v g)) c ≡ runs t k transitionNumbers
+  transitions-values v g t k = values-each t k (wholeTransition v g) c ∙ runs-same t k _ transitionNumbers (λ i a b. transition-values v g i)
 
   subnet-values : (sofar : Card) (i : ℕ) → length (sofar .subnets) ≡ i → length (sofar .places) ≡ firstPlace c i → length (sofar .transitions) ≡ firstTransition c i
       → values (wholeSubnet sofar) c ≡ subnetNumbers i
@@ -107,9 +107,9 @@ module _ (c : Card) where
       (rw (built-of (λ (d : Card). subnetAt d i) (subnet i (firstPlace c i) (firstTransition c i)) c, built-subnet i (firstPlace c i) (firstTransition c i) (subnetAt c i))
       (values-then (each (firstPlace c i) ((subnetAt c i) .places) (λ k. of (λ (d : Card). placeAt d k) (place i))) _ c
       ∙ ap₂ (λ xs ys. xs ++ ys) (places-values i (firstPlace c i) ((subnetAt c i) .places))
-      (values-then (each (firstTransition c i) ((subnetAt c i) .transitions) (wholeTransition (sofar .signals))) _ c
+      (values-then (each (firstTransition c i) ((subnetAt c i) .transitions) (wholeTransition (sofar .version) (sofar .signals))) _ c
       ∙ append-nil _
-      ∙ transitions-values (sofar .signals) (firstTransition c i) ((subnetAt c i) .transitions)))))
+      ∙ transitions-values (sofar .version) (sofar .signals) (firstTransition c i) ((subnetAt c i) .transitions)))))
 
 module _ (c : Card) (n : Counted c) where
   grow-values : (k i : ℕ) → i + k ≤ length (c .subnets) → values (grow k wholeSubnet (prefix c i)) c ≡ runs i k (subnetNumbers c)
@@ -121,12 +121,12 @@ module _ (c : Card) (n : Counted c) where
       (subnet-values c (prefix c i) i (prefix-subnets c n i (omega arith)) (prefix-places c n i (omega arith)) (prefix-transitions c n i (omega arith)))
       (rw (built-more c n i (omega arith)) (unfold runs in grow-values k (suc i) (omega arith)))
 
-  header-numbers : values (of headerOf header) c ≡ c .version ∷ length (c .subnets) ∷ c .signals ∷ []
+  header-numbers : values (of headerOf header) c ≡ c .version ∷ length (c .subnets) ∷ c .signals ∷ c .limit ∷ c .scale ∷ []
   unfolding header
   header-numbers = refl
 
   -- THE NUMBERS OF A CARD ARE THOSE OF ITS ROWS
-  pub numbers-rows : numbersOf c ≡ c .version ∷ length (c .subnets) ∷ c .signals ∷ runs 0 (length (c .subnets)) (subnetNumbers c)
+  pub numbers-rows : numbersOf c ≡ c .version ∷ length (c .subnets) ∷ c .signals ∷ c .limit ∷ c .scale ∷ runs 0 (length (c .subnets)) (subnetNumbers c)
   unfolding numbersOf card
   numbers-rows =
       values-fields card c

@@ -9,6 +9,7 @@ use lib.ListN.{length, take, drop}
 use Rattle.card.specs.Finite.{sumTo, table}
 use Rattle.card.specs.Rows.{entry}
 use Rattle.card.specs.inner.Runs.{Leads, arcsBefore, transitionRun, runs, RunsInside, placesBefore, transitionsBefore, subnetRun, TablesInside}
+use Rattle.card.specs.Card.{subnetFields, placeFields, transitionFields, arcFields}
 use Rattle.card.proofs.Sums.{sum-mono}
 
 pub runs-suc : (from n : ℕ) (run : ℕ → List ℕ) → runs from (suc n) run ≡ runs from n run ++ run (from + n)
@@ -39,20 +40,20 @@ module _ (transitions arcs old : List ℕ) (n first count arc : ℕ) (r : RunsIn
 
   module _ (numbers : List ℕ) (m b t : ℕ) (x : Placing numbers m b t) where
     -- what the next transition takes lies within the slices
-    pub place-rows : t < first + count → 2 * t + 2 ≤ length transitions
+    pub place-rows : t < first + count → transitionFields * t + transitionFields ≤ length transitions
     place-rows l = omega (arith, r .rows)
 
-    pub place-arcs : t < first + count → 4 * (b + entry transitions 2 t 1) ≤ length arcs
+    pub place-arcs : t < first + count → arcFields * (b + entry transitions transitionFields t 1) ≤ length arcs
     place-arcs l =
-        let q : sumTo (suc t) (λ u. entry transitions 2 u 1) ≡ arcsBefore transitions t + entry transitions 2 t 1 = unfold sumTo in refl in
-        omega (arith, x .is, q, r .ends, sum-mono (suc t) (first + count) (λ u. entry transitions 2 u 1) l)
+        let q : sumTo (suc t) (λ u. entry transitions transitionFields u 1) ≡ arcsBefore transitions t + entry transitions transitionFields t 1 = unfold sumTo in refl in
+        omega (arith, x .is, q, r .ends, sum-mono (suc t) (first + count) (λ u. entry transitions transitionFields u 1) l)
 
-    pub place-more : t < first + count → (one two s1 s2 : List ℕ) (m1 m2 k : ℕ) → k ≡ entry transitions 2 t 1 → s1 ≡ take 2 (drop (2 * t) transitions) → s2 ≡ take (4 * k) (drop (4 * b) arcs)
+    pub place-more : t < first + count → (one two s1 s2 : List ℕ) (m1 m2 k : ℕ) → k ≡ entry transitions transitionFields t 1 → s1 ≡ take transitionFields (drop (transitionFields * t) transitions) → s2 ≡ take (arcFields * k) (drop (arcFields * b) arcs)
         → length one ≡ length numbers → length two ≡ length one → ((ys : List ℕ) → Leads ys numbers m → Leads (ys ++ s1) one m1) → ((ys : List ℕ) → Leads ys one m1 → Leads (ys ++ s2) two m2)
         → Placing two m2 (b + k) (t + 1)
     unfolding transitionRun
     place-more l one two s1 s2 m1 m2 k ek e1 e2 l1 l2 f g =
-        let q : sumTo (suc t) (λ u. entry transitions 2 u 1) ≡ arcsBefore transitions t + entry transitions 2 t 1 = unfold sumTo in refl in
+        let q : sumTo (suc t) (λ u. entry transitions transitionFields u 1) ≡ arcsBefore transitions t + entry transitions transitionFields t 1 = unfold sumTo in refl in
         let z : t + 1 ≡ suc t = add-one t in
         let d : t + 1 - first ≡ suc (t - first) = omega (arith, x .low) in
         let w : first + (t - first) ≡ t = omega (arith, x .low) in
@@ -80,7 +81,7 @@ module _ (subnets places transitions arcs old : List ℕ) (n : ℕ) (r : TablesI
   netRun = subnetRun subnets places transitions arcs
 
   pub record Laying (numbers : List ℕ) (m place transition arc s : ℕ) : Type 0 where
-    pub inside : s ≤ length subnets / 4
+    pub inside : s ≤ length subnets / subnetFields
     pub isPlace : place ≡ placesBefore subnets s
     pub isTransition : transition ≡ transitionsBefore subnets s
     pub isArc : arc ≡ arcsBefore transitions transition
@@ -92,33 +93,33 @@ module _ (subnets places transitions arcs old : List ℕ) (n : ℕ) (r : TablesI
   lay-start = record { inside = omega arith; isPlace = refl; isTransition = refl; isArc = refl; long = refl; leads = λ xs h. rw (append-nil xs) h }
 
   module _ (numbers : List ℕ) (m place transition arc s : ℕ) (x : Laying numbers m place transition arc s) where
-    pub lay-rows : s < length subnets / 4 → 4 * s + 4 ≤ length subnets
+    pub lay-rows : s < length subnets / subnetFields → subnetFields * s + subnetFields ≤ length subnets
     lay-rows l = omega arith
 
-    pub lay-places : s < length subnets / 4 → 3 * (place + entry subnets 4 s 2) ≤ length places
+    pub lay-places : s < length subnets / subnetFields → placeFields * (place + entry subnets subnetFields s 2) ≤ length places
     lay-places l =
-        let q : sumTo (suc s) (λ u. entry subnets 4 u 2) ≡ placesBefore subnets s + entry subnets 4 s 2 = unfold sumTo in refl in
-        omega (arith, x .isPlace, q, r .placeRows, sum-mono (suc s) (length subnets / 4) (λ u. entry subnets 4 u 2) l)
+        let q : sumTo (suc s) (λ u. entry subnets subnetFields u 2) ≡ placesBefore subnets s + entry subnets subnetFields s 2 = unfold sumTo in refl in
+        omega (arith, x .isPlace, q, r .placeRows, sum-mono (suc s) (length subnets / subnetFields) (λ u. entry subnets subnetFields u 2) l)
 
-    pub lay-inside : s < length subnets / 4 → (k : ℕ) → k ≡ entry subnets 4 s 3 → RunsInside transitions arcs transition k arc
+    pub lay-inside : s < length subnets / subnetFields → (k : ℕ) → k ≡ entry subnets subnetFields s 3 → RunsInside transitions arcs transition k arc
     lay-inside l k e =
-        let q : sumTo (suc s) (λ u. entry subnets 4 u 3) ≡ transitionsBefore subnets s + entry subnets 4 s 3 = unfold sumTo in refl in
-        let w : transition + k ≤ transitionsBefore subnets (length subnets / 4) = omega (arith, x .isTransition, q, e, sum-mono (suc s) (length subnets / 4) (λ u. entry subnets 4 u 3) l) in
+        let q : sumTo (suc s) (λ u. entry subnets subnetFields u 3) ≡ transitionsBefore subnets s + entry subnets subnetFields s 3 = unfold sumTo in refl in
+        let w : transition + k ≤ transitionsBefore subnets (length subnets / subnetFields) = omega (arith, x .isTransition, q, e, sum-mono (suc s) (length subnets / subnetFields) (λ u. entry subnets subnetFields u 3) l) in
         record {
           begins = x .isArc;
           rows = omega (arith, r .transitionRows);
-          ends = omega (arith, r .arcRows, sum-mono (transition + k) (transitionsBefore subnets (length subnets / 4)) (λ u. entry transitions 2 u 1) w);
+          ends = omega (arith, r .arcRows, sum-mono (transition + k) (transitionsBefore subnets (length subnets / subnetFields)) (λ u. entry transitions transitionFields u 1) w);
         }
 
-    pub lay-more : s < length subnets / 4 → (one two three s1 s2 : List ℕ) (m1 m2 m3 p k end : ℕ) → p ≡ entry subnets 4 s 2 → k ≡ entry subnets 4 s 3 → s1 ≡ take 4 (drop (4 * s) subnets)
-        → s2 ≡ take (3 * p) (drop (3 * place) places) → end ≡ arcsBefore transitions (transition + k)
+    pub lay-more : s < length subnets / subnetFields → (one two three s1 s2 : List ℕ) (m1 m2 m3 p k end : ℕ) → p ≡ entry subnets subnetFields s 2 → k ≡ entry subnets subnetFields s 3 → s1 ≡ take subnetFields (drop (subnetFields * s) subnets)
+        → s2 ≡ take (placeFields * p) (drop (placeFields * place) places) → end ≡ arcsBefore transitions (transition + k)
         → length one ≡ length numbers → length two ≡ length one → length three ≡ length two
         → ((ys : List ℕ) → Leads ys numbers m → Leads (ys ++ s1) one m1) → ((ys : List ℕ) → Leads ys one m1 → Leads (ys ++ s2) two m2)
         → ((ys : List ℕ) → Leads ys two m2 → Leads (ys ++ runs transition k (transitionRun transitions arcs)) three m3) → Laying three m3 (place + p) (transition + k) end (s + 1)
     unfolding subnetRun
     lay-more l one two three s1 s2 m1 m2 m3 p k end ep ek e1 e2 ee l1 l2 l3 f g h =
-        let q : sumTo (suc s) (λ u. entry subnets 4 u 2) ≡ placesBefore subnets s + entry subnets 4 s 2 = unfold sumTo in refl in
-        let t : sumTo (suc s) (λ u. entry subnets 4 u 3) ≡ transitionsBefore subnets s + entry subnets 4 s 3 = unfold sumTo in refl in
+        let q : sumTo (suc s) (λ u. entry subnets subnetFields u 2) ≡ placesBefore subnets s + entry subnets subnetFields s 2 = unfold sumTo in refl in
+        let t : sumTo (suc s) (λ u. entry subnets subnetFields u 3) ≡ transitionsBefore subnets s + entry subnets subnetFields s 3 = unfold sumTo in refl in
         let z : s + 1 ≡ suc s = add-one s in
         let w : netRun s ≡ s1 ++ (s2 ++ runs transition k (transitionRun transitions arcs)) = rw (e1, e2, ep, ek, x .isPlace, x .isTransition) in
         record {
@@ -136,5 +137,5 @@ module _ (subnets places transitions arcs old : List ℕ) (n : ℕ) (r : TablesI
               subst (λ ys. Leads ys three m3) v (h _ (g _ (f _ (x .leads xs a))));
         }
 
-    pub lay-done : length subnets / 4 ≤ s → (xs : List ℕ) → Leads xs old n → Leads (xs ++ runs 0 (length subnets / 4) netRun) numbers m
-    lay-done l xs h = let e : s ≡ length subnets / 4 = omega (arith, x .inside) in rw e at (x .leads xs h)
+    pub lay-done : length subnets / subnetFields ≤ s → (xs : List ℕ) → Leads xs old n → Leads (xs ++ runs 0 (length subnets / subnetFields) netRun) numbers m
+    lay-done l xs h = let e : s ≡ length subnets / subnetFields = omega (arith, x .inside) in rw e at (x .leads xs h)

@@ -93,18 +93,18 @@ arcS k = strip arc >>= (λ a. k)
 abbrev pub placeS : {C : Type 0} → (s : ℕ) → Format One C → Format One C
 placeS s k = strip (place s) >>= (λ p. k)
 
-abbrev pub transitionS : {C : Type 0} → (g : ℕ) → Format One C → Format One C
-transitionS g k = strip (transition g) >>= (λ r. times (r .arcs) arcS k)
+abbrev pub transitionS : {C : Type 0} → (v g : ℕ) → Format One C → Format One C
+transitionS v g k = strip (transition v g) >>= (λ r. times (r .arcs) arcS k)
 
-abbrev pub subnetS : {C : Type 0} → (g s p t : ℕ) → (ℕ → ℕ → Format One C) → Format One C
-subnetS g s p t k = strip (subnet s p t) >>= (λ r. times (r .places) (placeS s) (times (r .transitions) (transitionS g) (k (p + r .places) (t + r .transitions))))
+abbrev pub subnetS : {C : Type 0} → (v g s p t : ℕ) → (ℕ → ℕ → Format One C) → Format One C
+subnetS v g s p t k = strip (subnet s p t) >>= (λ r. times (r .places) (placeS s) (times (r .transitions) (transitionS v g) (k (p + r .places) (t + r .transitions))))
 
-unfoldable pub subnetsS : (g n s p t : ℕ) → Format One Counts
-subnetsS g zero s p t = done (record { subnets = s; places = p; transitions = t })
-subnetsS g (suc n) s p t = subnetS g s p t (λ q u. subnetsS g n (suc s) q u)
+unfoldable pub subnetsS : (v g n s p t : ℕ) → Format One Counts
+subnetsS v g zero s p t = done (record { subnets = s; places = p; transitions = t })
+subnetsS v g (suc n) s p t = subnetS v g s p t (λ q u. subnetsS v g n (suc s) q u)
 
 unfoldable pub cardS : Format One Counts
-cardS = strip header >>= (λ h. subnetsS (h .signals) (h .subnets) 0 0 0)
+cardS = strip header >>= (λ h. subnetsS (h .version) (h .signals) (h .subnets) 0 0 0)
 
 abbrev pub countsOf : Card → Counts
 countsOf c = record { subnets = length (c .subnets); places = length (c .places); transitions = length (c .transitions) }
@@ -113,29 +113,29 @@ module _ {B C : Type 0} (f : B → C) where
   erase-row : {U A : Type 0} (p : Card → U) (m : Format U A) (k : A → Format Card B) (K : Format One C) → ((a : A) → erase f (k a) ≡ K) → erase f (of p m >>= k) ≡ strip m >>= (λ a. K)
   erase-row p m k K h = erase-then f (of p m) k (λ a. K) h ∙ ap (λ (x : Format One _). x >>= (λ a. K)) (strip-of p m)
 
-  erase-wholeTransition : (g t : ℕ) (k : Transition × List Arc → Format Card B) (K : Format One C) → ((x : Transition × List Arc) → erase f (k x) ≡ K)
-      → erase f (wholeTransition g t >>= k) ≡ transitionS g K
+  erase-wholeTransition : (v g t : ℕ) (k : Transition × List Arc → Format Card B) (K : Format One C) → ((x : Transition × List Arc) → erase f (k x) ≡ K)
+      → erase f (wholeTransition v g t >>= k) ≡ transitionS v g K
   unfolding wholeTransition
-  erase-wholeTransition g t k K h =
-      ap (erase f) (then-then (of (λ (c : Card). transitionAt c t) (transition g)) _ k)
-      ∙ erase-then f (of (λ (c : Card). transitionAt c t) (transition g)) _ (λ r. times (r .arcs) arcS K)
+  erase-wholeTransition v g t k K h =
+      ap (erase f) (then-then (of (λ (c : Card). transitionAt c t) (transition v g)) _ k)
+      ∙ erase-then f (of (λ (c : Card). transitionAt c t) (transition v g)) _ (λ r. times (r .arcs) arcS K)
       (λ r. ap (erase f) (then-then (each 0 (r .arcs) (λ j. of (λ (c : Card). arcAt c t j) arc)) _ k)
       ∙ erase-each f (λ j. of (λ (c : Card). arcAt c t j) arc) arcS (λ j. erase-row (λ (c : Card). arcAt c t j) arc) (r .arcs) 0 (λ xs. k (r, xs)) K (λ xs l. h (r, xs)))
-      ∙ ap (λ (x : Format One Transition). x >>= (λ r. times (r .arcs) arcS K)) (strip-of (λ (c : Card). transitionAt c t) (transition g))
+      ∙ ap (λ (x : Format One Transition). x >>= (λ r. times (r .arcs) arcS K)) (strip-of (λ (c : Card). transitionAt c t) (transition v g))
 
   erase-wholeSubnet : (c : Card) (k : Card → Format Card B) (K : ℕ → ℕ → Format One C)
       → ((r : Subnet) (ps : List Place) (ts : List (Transition × List Arc)) → length ps ≡ r .places → length ts ≡ r .transitions
       → erase f (k (with c r ps ts)) ≡ K (length (c .places) + r .places) (length (c .transitions) + r .transitions))
-      → erase f (wholeSubnet c >>= k) ≡ subnetS (c .signals) (length (c .subnets)) (length (c .places)) (length (c .transitions)) K
+      → erase f (wholeSubnet c >>= k) ≡ subnetS (c .version) (c .signals) (length (c .subnets)) (length (c .places)) (length (c .transitions)) K
   unfolding wholeSubnet
   erase-wholeSubnet c k K h =
       ap (erase f) (then-then (of (λ (d : Card). subnetAt d s) (subnet s p t)) _ k)
-      ∙ erase-then f (of (λ (d : Card). subnetAt d s) (subnet s p t)) _ (λ r. times (r .places) (placeS s) (times (r .transitions) (transitionS (c .signals)) (K (p + r .places) (t + r .transitions))))
+      ∙ erase-then f (of (λ (d : Card). subnetAt d s) (subnet s p t)) _ (λ r. times (r .places) (placeS s) (times (r .transitions) (transitionS (c .version) (c .signals)) (K (p + r .places) (t + r .transitions))))
       (λ r. ap (erase f) (then-then (each p (r .places) (λ i. of (λ (d : Card). placeAt d i) (place s))) _ k)
       ∙ erase-each f (λ i. of (λ (d : Card). placeAt d i) (place s)) (placeS s) (λ i. erase-row (λ (d : Card). placeAt d i) (place s)) (r .places) p _ _
-      (λ ps lp. ap (erase f) (then-then (each t (r .transitions) (wholeTransition (c .signals))) _ k)
-      ∙ erase-each f (wholeTransition (c .signals)) (transitionS (c .signals)) (λ u. erase-wholeTransition (c .signals) u) (r .transitions) t _ _ (λ ts lt. h r ps ts lp lt)))
-      ∙ ap (λ (x : Format One Subnet). x >>= (λ r. times (r .places) (placeS s) (times (r .transitions) (transitionS (c .signals)) (K (p + r .places) (t + r .transitions)))))
+      (λ ps lp. ap (erase f) (then-then (each t (r .transitions) (wholeTransition (c .version) (c .signals))) _ k)
+      ∙ erase-each f (wholeTransition (c .version) (c .signals)) (transitionS (c .version) (c .signals)) (λ u. erase-wholeTransition (c .version) (c .signals) u) (r .transitions) t _ _ (λ ts lt. h r ps ts lp lt)))
+      ∙ ap (λ (x : Format One Subnet). x >>= (λ r. times (r .places) (placeS s) (times (r .transitions) (transitionS (c .version) (c .signals)) (K (p + r .places) (t + r .transitions)))))
       (strip-of (λ (d : Card). subnetAt d s) (subnet s p t))
     where
       s : ℕ
@@ -147,11 +147,11 @@ module _ {B C : Type 0} (f : B → C) where
       t : ℕ
       t = length (c .transitions)
 
-erase-grow : (n : ℕ) (c : Card) → erase countsOf (grow n wholeSubnet c) ≡ subnetsS (c .signals) n (length (c .subnets)) (length (c .places)) (length (c .transitions))
+erase-grow : (n : ℕ) (c : Card) → erase countsOf (grow n wholeSubnet c) ≡ subnetsS (c .version) (c .signals) n (length (c .subnets)) (length (c .places)) (length (c .transitions))
 unfolding grow subnetsS
 erase-grow zero c = refl
 erase-grow (suc n) c =
-    erase-wholeSubnet countsOf c (grow n wholeSubnet) (λ q u. subnetsS (c .signals) n (suc (length (c .subnets))) q u)
+    erase-wholeSubnet countsOf c (grow n wholeSubnet) (λ q u. subnetsS (c .version) (c .signals) n (suc (length (c .subnets))) q u)
     (λ r ps ts lp lt.
     let a : length (c .subnets ++ (r ∷ [])) ≡ suc (length (c .subnets)) = length-append (c .subnets) (r ∷ []) ∙ omega arith in
     let b : length (c .places ++ ps) ≡ length (c .places) + r .places = length-append (c .places) ps ∙ ap (λ (x : ℕ). length (c .places) + x) lp in
@@ -163,8 +163,8 @@ erase-grow (suc n) c =
 pub erase-card : erase countsOf card ≡ cardS
 unfolding card cardS
 erase-card =
-    erase-then countsOf (of headerOf header) _ (λ h. subnetsS (h .signals) (h .subnets) 0 0 0) (λ h. erase-grow (h .subnets) _)
-    ∙ ap (λ (x : Format One Header). x >>= (λ h. subnetsS (h .signals) (h .subnets) 0 0 0)) (strip-of headerOf header)
+    erase-then countsOf (of headerOf header) _ (λ h. subnetsS (h .version) (h .signals) (h .subnets) 0 0 0) (λ h. erase-grow (h .subnets) _)
+    ∙ ap (λ (x : Format One Header). x >>= (λ h. subnetsS (h .version) (h .signals) (h .subnets) 0 0 0)) (strip-of headerOf header)
 
 pub read-shape : (bytes : List ℕ) → read bytes cardS 0 ≡ part countsOf (read bytes card 0)
 read-shape bytes = ap (λ (m : Format One Counts). read bytes m 0) (sym erase-card) ∙ read-erase countsOf bytes card 0

@@ -8,7 +8,7 @@ use native.Mathlib.Nat.{mul-zero, zero-mod, add-mod-left, div-add-mod}
 use lib.ListN.{length, take, drop, length-append}
 use lib.Seq.{take-length, take-at, drop-at}
 use Rattle.card.specs.Finite.{table}
-use Rattle.card.specs.Card.{Card}
+use Rattle.card.specs.Card.{Card, subnetFields, placeFields, transitionFields, arcFields}
 use Rattle.card.specs.Writing.{readTables}
 use Rattle.card.specs.Rows.{entry, subnetIn, placeIn, transitionIn, arcIn, tablesIn, CardSlices, onSlices, rowsOf, wholeRows, readRows}
 use Rattle.card.specs.inner.Runs.{runs}
@@ -62,32 +62,32 @@ pub rows-whole : (c : Card) → wholeRows ((rowsOf c) .subnets) ((rowsOf c) .pla
 unfolding rowsOf wholeRows table
 rows-whole c =
     rw (
-      flat-whole 4 _ subnetIn (omega arith) (λ s i. refl) (λ a. refl) (c .subnets),
-      flat-whole 3 _ placeIn (omega arith) (λ s i. refl) (λ a. refl) (c .places),
-      flat-whole 2 _ transitionIn (omega arith) (λ s i. refl) (λ a. refl) (c .transitions),
-      flat-whole 4 _ arcIn (omega arith) (λ s i. refl) (λ a. refl) (c .arcs),
+      flat-whole subnetFields _ subnetIn (omega arith) (λ s i. refl) (λ a. refl) (c .subnets),
+      flat-whole placeFields _ placeIn (omega arith) (λ s i. refl) (λ a. refl) (c .places),
+      flat-whole transitionFields _ transitionIn (omega arith) (λ s i. refl) (λ a. refl) (c .transitions),
+      flat-whole arcFields _ arcIn (omega arith) (λ s i. refl) (λ a. refl) (c .arcs),
     )
 
 pub rows-tables : (c : Card) → onSlices tablesIn (rowsOf c) ≡ c
 unfolding rowsOf tablesIn table
 rows-tables c =
     rw (
-      rows-table 4 _ subnetIn (omega arith) (λ s i. refl) (λ a. refl) (c .subnets),
-      rows-table 3 _ placeIn (omega arith) (λ s i. refl) (λ a. refl) (c .places),
-      rows-table 2 _ transitionIn (omega arith) (λ s i. refl) (λ a. refl) (c .transitions),
-      rows-table 4 _ arcIn (omega arith) (λ s i. refl) (λ a. refl) (c .arcs),
+      rows-table subnetFields _ subnetIn (omega arith) (λ s i. refl) (λ a. refl) (c .subnets),
+      rows-table placeFields _ placeIn (omega arith) (λ s i. refl) (λ a. refl) (c .places),
+      rows-table transitionFields _ transitionIn (omega arith) (λ s i. refl) (λ a. refl) (c .transitions),
+      rows-table arcFields _ arcIn (omega arith) (λ s i. refl) (λ a. refl) (c .arcs),
     )
 
 -- SLICES OF WHOLE ROWS ARE THOSE OF THE TABLES THAT THEY HOLD
 pub tables-rows : (x : CardSlices) → wholeRows (x .subnets) (x .places) (x .transitions) (x .arcs) ≡ true → rowsOf (onSlices tablesIn x) ≡ x
 unfolding rowsOf tablesIn table
 tables-rows x e =
-    let h = whole-is (x .version) (x .signals) (x .subnets) (x .places) (x .transitions) (x .arcs) e in
+    let h = whole-is (x .head) (x .subnets) (x .places) (x .transitions) (x .arcs) e in
     rw (
-      table-rows 4 _ subnetIn (omega arith) (λ s i. refl) (λ a. refl) (x .subnets) (h .subnetsEnd),
-      table-rows 3 _ placeIn (omega arith) (λ s i. refl) (λ a. refl) (x .places) (h .placesEnd),
-      table-rows 2 _ transitionIn (omega arith) (λ s i. refl) (λ a. refl) (x .transitions) (h .transitionsEnd),
-      table-rows 4 _ arcIn (omega arith) (λ s i. refl) (λ a. refl) (x .arcs) (h .arcsEnd),
+      table-rows subnetFields _ subnetIn (omega arith) (λ s i. refl) (λ a. refl) (x .subnets) (h .subnetsEnd),
+      table-rows placeFields _ placeIn (omega arith) (λ s i. refl) (λ a. refl) (x .places) (h .placesEnd),
+      table-rows transitionFields _ transitionIn (omega arith) (λ s i. refl) (λ a. refl) (x .transitions) (h .transitionsEnd),
+      table-rows arcFields _ arcIn (omega arith) (λ s i. refl) (λ a. refl) (x .arcs) (h .arcsEnd),
     )
 
 -- so the writer reads them as these tables

@@ -7,7 +7,7 @@ use lib.ListN.{length}
 use lib.Dec.{eqb}
 use borrow.Author.Tests.{eqb-true, eqb-false}
 use Rattle.card.specs.Card.{Header, Subnet, Place, Transition, Arc, Card, normal, headerOf, subnetAt, placeAt, transitionAt, arcAt, firstPlace, firstTransition, firstArc}
-use Rattle.card.specs.Grammar.{maxCount, header, subnet, place, transition, arc, card}
+use Rattle.card.specs.Grammar.{maxCount, header, subnet, place, transition, arc, card, maxSubnets, maxSignals}
 use Rattle.card.specs.Wellformed.{PlaceRow, TransitionRow, ArcRow, Rows, Wellformed}
 use Rattle.card.proofs.Decides.{eq-is, lt-is, le-is, and-is, implies-is, cond-is, someUnless-is}
 use Rattle.card.proofs.Sums.{sum-below, all-at}
@@ -21,8 +21,8 @@ unfolding header
 clean-header h r = (
   (someUnless-is _ _ _ (eq-is (h .version) 1) .1 (r .version), omega (arith, r .version)),
   (
-    (someUnless-is _ _ _ (and-is _ _ _ _ (le-is 1 (h .subnets)) (le-is (h .subnets) 32)) .1 (r .someSubnets, r .fewSubnets), omega (arith, r .fewSubnets)),
-    ((someUnless-is _ _ _ (le-is 1 (h .signals)) .1 (r .someSignals), omega (arith, r .fewSignals)), tt),
+    (someUnless-is _ _ _ (and-is _ _ _ _ (le-is 1 (h .subnets)) (le-is (h .subnets) maxSubnets)) .1 (r .someSubnets, r .fewSubnets), omega (arith, r .fewSubnets)),
+    ((someUnless-is _ _ _ (le-is 1 (h .signals)) .1 (r .someSignals), omega (arith, r .fewSignals)), ((refl, r .limit), ((refl, r .scale), tt))),
   ),
 )
 
@@ -53,11 +53,11 @@ clean-place s x r = (
   ),
 )
 
-clean-transition : (g : ℕ) (x : Transition) → g ≤ 63 → TransitionRow g x → Every Proper (transition g) x
+clean-transition : (v g : ℕ) (x : Transition) → g ≤ maxSignals → TransitionRow v g x → Every Proper (transition v g) x
 unfolding transition
-clean-transition g x l r = (
+clean-transition v g x l r = (
   (someUnless-is _ _ _ (lt-is (x .signal) g) .1 (r .signal), omega (arith, r .signal)),
-  ((someUnless-is _ _ _ (le-is 1 (x .arcs)) .1 (r .positive), omega (arith, r .arcs)), tt),
+  ((someUnless-is _ _ _ (le-is 1 (x .arcs)) .1 (r .positive), omega (arith, r .arcs)), ((refl, r .rank), tt)),
 )
 
 clean-arc : (x : Arc) → ArcRow x → Every Proper arc x
@@ -76,16 +76,16 @@ module _ (c : Card) (w : Wellformed c) where
   arc-row u j l m = all-at ArcRow (c .arcs) _ (w .rows .arcs) (firstArc c u + j) (omega (arith, w .rows .arcCount, sum-below (length (c .transitions)) (λ v. (transitionAt c v) .arcs) u j l m))
 
   header-row : HeaderRow (headerOf c)
-  header-row = record { version = w .version; someSubnets = w .someSubnets; fewSubnets = w .fewSubnets; someSignals = w .someSignals; fewSignals = w .fewSignals }
+  header-row = record { version = w .version; someSubnets = w .someSubnets; fewSubnets = w .fewSubnets; someSignals = w .someSignals; fewSignals = w .fewSignals; limit = w .limit; scale = w .scale }
 
-  transition-clean : (u : ℕ) → u < length (c .transitions) → TransitionHas Proper c (c .signals) u
+  transition-clean : (u : ℕ) → u < length (c .transitions) → TransitionHas Proper c (c .version) (c .signals) u
   transition-clean u l =
       record {
-        row = clean-transition (c .signals) (transitionAt c u) (w .fewSignals) (all-at (TransitionRow (c .signals)) (c .transitions) _ (w .rows .transitions) u l);
+        row = clean-transition (c .version) (c .signals) (transitionAt c u) (w .fewSignals) (all-at (TransitionRow (c .version) (c .signals)) (c .transitions) _ (w .rows .transitions) u l);
         arcs = λ j m. clean-arc (arcAt c u j) (arc-row u j l m);
       }
 
-  subnet-clean : (i : ℕ) → i < length (c .subnets) → SubnetHas Proper c (c .signals) i (firstPlace c i) (firstTransition c i)
+  subnet-clean : (i : ℕ) → i < length (c .subnets) → SubnetHas Proper c (c .version) (c .signals) i (firstPlace c i) (firstTransition c i)
   subnet-clean i l =
       let after : SubnetAfter i (firstPlace c i) (firstTransition c i) (subnetAt c i) = record {
         row = w .rows .subnet i l;

@@ -7,7 +7,7 @@ use mathlib.Core.List.{List, []}
 use native.Mathlib.Omega.{arith}
 use lib.ListN.{length, getD}
 use Rattle.card.specs.Numbers.{number}
-use Rattle.card.specs.Card.{Card}
+use Rattle.card.specs.Card.{Card, subnetFields, placeFields, transitionFields, arcFields}
 use Rattle.card.specs.Grammar.{card}
 use Rattle.card.specs.Parsing.{readCard}
 use Rattle.card.specs.Writing.{fields, encode, allFit, counted, readTables}
@@ -16,6 +16,8 @@ use Rattle.card.specs.inner.Runs.{Tells, ValuesFit, Leads, TablesInside,
 use Rattle.card.specs.Spelling.{Lines, IsSpelt, IsUnspelt}
 use Rattle.card.specs.declared.FormatFault.the-variants.{BadTable}
 use Rattle.card.specs.declared.writer.CardSpelt.{CardSpelt}
+use Rattle.card.specs.declared.Head.{Head}
+use Rattle.card.specs.Tables.{tableSize}
 use Rattle.card.proofs.Decides.{and-is, eq-is}
 use Rattle.card.proofs.BitLaws.{lt-or-ge}
 use Rattle.card.proofs.RoundTrip.{counted-is}
@@ -24,63 +26,62 @@ use Rattle.card.proofs.TableLaws.{subnet-count, place-count, transition
 use Rattle.card.proofs.FitLaws.{Whole, fits-fields, fields-fit}
 use Rattle.card.proofs.NumberLaws.{numbers-runs}
 
-pub leads-gathered : (xs numbers : List ℕ) (m : ℕ) → length numbers ≡ 33026 → Leads xs numbers m → Gathered xs numbers
+pub leads-gathered : (xs numbers : List ℕ) (m : ℕ) → length numbers ≡ tableSize → Leads xs numbers m → Gathered xs numbers
 leads-gathered xs numbers m e h = record { entries = λ i l k. go i l k (lt-or-ge i m) }
   where
-    go : (i : ℕ) → i < 33026 → i < length xs → (i < m) ⊎ (m ≤ i) → getD numbers i 0 ≡ getD xs i 0
+    go : (i : ℕ) → i < tableSize → i < length xs → (i < m) ⊎ (m ≤ i) → getD numbers i 0 ≡ getD xs i 0
     go i l k (inl a) = h .same i a
     go i l k (inr a) = absurd (omega (arith, h .all (omega arith)))
 
 pub leads-none : (numbers : List ℕ) → Leads [] numbers 0
 leads-none numbers = record { same = λ i l. absurd (omega arith); inside = omega arith; all = λ l. refl }
 
-module _ (v g : ℕ) (subnets places transitions arcs : List ℕ) where
+module _ (head : Head) (subnets places transitions arcs : List ℕ) where
   abbrev c : Card
-  c = tablesIn v g subnets places transitions arcs
+  c = tablesIn head subnets places transitions arcs
 
   pub whole-is : wholeRows subnets places transitions arcs ≡ true → Whole subnets places transitions arcs
   unfolding wholeRows
   whole-is e =
-      let x = and-is _ _ _ _ (and-is _ _ _ _ (and-is _ _ _ _ (eq-is (length subnets % 4) 0) (eq-is (length places % 3) 0)) (eq-is (length transitions % 2) 0)) (eq-is (length arcs % 4) 0) .0 e in
+      let x = and-is _ _ _ _ (and-is _ _ _ _ (and-is _ _ _ _ (eq-is (length subnets % subnetFields) 0) (eq-is (length places % placeFields) 0)) (eq-is (length transitions % transitionFields) 0)) (eq-is (length arcs % arcFields) 0) .0 e in
       record { subnetsEnd = x .0 .0 .0; placesEnd = x .0 .0 .1; transitionsEnd = x .0 .1; arcsEnd = x .1 }
 
   pub tables-inside : Counted c → TablesInside subnets places transitions arcs
   tables-inside n =
-      let s = subnet-count v g subnets places transitions arcs in
-      let t = transition-count v g subnets places transitions arcs in
-      let a = rw (s, place-count v g subnets places transitions arcs, place-sum v g subnets places transitions arcs (length subnets / 4) (omega arith)) at (n .places) in
-      let b = rw (s, t, transition-sum v g subnets places transitions arcs (length subnets / 4) (omega arith)) at (n .transitions) in
-      let d = rw (t, arc-count v g subnets places transitions arcs, arc-sum v g subnets places transitions arcs (length transitions / 2) (omega arith)) at (n .arcs) in
+      let s = subnet-count head subnets places transitions arcs in
+      let t = transition-count head subnets places transitions arcs in
+      let a = rw (s, place-count head subnets places transitions arcs, place-sum head subnets places transitions arcs (length subnets / subnetFields) (omega arith)) at (n .places) in
+      let b = rw (s, t, transition-sum head subnets places transitions arcs (length subnets / subnetFields) (omega arith)) at (n .transitions) in
+      let d = rw (t, arc-count head subnets places transitions arcs, arc-sum head subnets places transitions arcs (length transitions / transitionFields) (omega arith)) at (n .arcs) in
       record { placeRows = omega (arith, a); transitionRows = omega (arith, b); arcRows = rw (← b) (omega (arith, d)) }
 
   -- 17
   module _ (r : CardSpelt) (u : IsUnspelt BadTable 0 r) where
-    pub rows-ragged : wholeRows subnets places transitions arcs ≡ false → IsSpelt (readRows v g subnets places transitions arcs) r
+    pub rows-ragged : wholeRows subnets places transitions arcs ≡ false → IsSpelt (readRows head subnets places transitions arcs) r
     unfolding readRows
     rows-ragged e = rw e (record { answer = rw (u .answer); bytes = u .bytes })
 
-    pub rows-uncounted : wholeRows subnets places transitions arcs ≡ true → counted c ≡ false → IsSpelt (readRows v g subnets places transitions arcs) r
+    pub rows-uncounted : wholeRows subnets places transitions arcs ≡ true → counted c ≡ false → IsSpelt (readRows head subnets places transitions arcs) r
     unfolding readRows readTables
     rows-uncounted e k = rw (e, k) (record { answer = rw (u .answer); bytes = u .bytes })
 
-    pub rows-unfit : wholeRows subnets places transitions arcs ≡ true → counted c ≡ true → (b : Bool) → Tells b (ValuesFit v g subnets places transitions arcs) → b ≡ false
-        → IsSpelt (readRows v g subnets places transitions arcs) r
+    pub rows-unfit : wholeRows subnets places transitions arcs ≡ true → counted c ≡ true → (b : Bool) → Tells b (ValuesFit head subnets places transitions arcs) → b ≡ false
+        → IsSpelt (readRows head subnets places transitions arcs) r
     unfolding readRows readTables
     rows-unfit e k b t q = go (allFit (fields card c)) refl
       where
         go : (x : Bool) → allFit (fields card c) ≡ x → IsSpelt (cond (wholeRows subnets places transitions arcs) (cond (counted c && allFit (fields card c)) (readCard (encode c)) (Rattle.card.specs.Parsing.refused (number BadTable) 0)) (Rattle.card.specs.Parsing.refused (number BadTable) 0)) r
         go false p = rw (e, k, p) (record { answer = rw (u .answer); bytes = u .bytes })
-        go true p = absurd (let z = sym q ∙ t .1 (fields-fit v g subnets places transitions arcs (counted-is c .0 k) (whole-is e) p) in let y : _≡_ {A = ℕ} 0 1 = cc in omega arith)
+        go true p = absurd (let z = sym q ∙ t .1 (fields-fit head subnets places transitions arcs (counted-is c .0 k) (whole-is e) p) in let y : _≡_ {A = ℕ} 0 1 = cc in omega arith)
 
   -- else the card
-  pub rows-lines : (numbers : List ℕ) → counted c ≡ true → ValuesFit v g subnets places transitions arcs → Gathered (inOrder v g subnets places transitions arcs) numbers → Lines c numbers
-  unfolding inOrder
+  pub rows-lines : (numbers : List ℕ) → counted c ≡ true → ValuesFit head subnets places transitions arcs → Gathered (inOrder head subnets places transitions arcs) numbers → Lines c numbers
   rows-lines numbers k f h =
       let n = counted-is c .0 k in
-      let q = numbers-runs v g subnets places transitions arcs n in
-      record { counts = k; fit = fits-fields v g subnets places transitions arcs n f; entries = λ i l m. h .entries i l (rw q at m) ∙ ap (λ xs. getD xs i 0) (sym q) }
+      let q = numbers-runs head subnets places transitions arcs n in
+      record { counts = k; fit = fits-fields head subnets places transitions arcs n f; entries = λ i l m. h .entries i l (rw q at m) ∙ ap (λ xs. getD xs i 0) (sym q) }
 
   pub rows-spelt : wholeRows subnets places transitions arcs ≡ true → counted c ≡ true → allFit (fields card c) ≡ true → (r : CardSpelt) → IsSpelt (readCard (encode c)) r
-      → IsSpelt (readRows v g subnets places transitions arcs) r
+      → IsSpelt (readRows head subnets places transitions arcs) r
   unfolding readRows readTables
   rows-spelt e k f r h = rw (e, k, f) h

@@ -13,7 +13,7 @@ use Rattle.card.specs.Numbers.{number}
 use Rattle.card.specs.Bits.{bit, bitField}
 use Rattle.card.specs.Card.{Header, Subnet, Place, Transition, Arc, Card, headerOf, subnetAt, placeAt, transitionAt, arcAt}
 use Rattle.card.specs.Format.{Format, done, get, of, each, grow, _>>=_}
-use Rattle.card.specs.Grammar.{header, subnet, place, transition, arc, wholeTransition, with, wholeSubnet, card}
+use Rattle.card.specs.Grammar.{header, subnet, place, transition, arc, wholeTransition, with, wholeSubnet, card, rankWidth, limitWidth, scaleWidth}
 use Rattle.card.specs.Wellformed.{Wellformed}
 use Rattle.card.specs.Parsing.{refused, whole, read, unlessFault}
 use Rattle.card.specs.Writing.{Field, fields}
@@ -123,13 +123,17 @@ module _ (bytes : List ℕ) where
         ends = omega (arith, d .1);
       }
 
-  tied-transition : (g at : ℕ) (r : Transition) (end : ℕ) → read bytes (transition g) at ≡ whole r end → Spells (transition g) r at end
+  tied-transition : (v g at : ℕ) (r : Transition) (end : ℕ) → read bytes (transition v g) at ≡ whole r end → Spells (transition v g) r at end
   unfolding transition fields
-  tied-transition g at r end e =
+  tied-transition v g at r end e =
       let a = read-get _ _ _ _ at r end e in
       let b = read-get _ _ _ _ (at + 6) r end (a .rest) in
-      let d = read-done Transition _ r (at + 6 + 5) end (b .rest) in
-      record { spelt = (ap (λ (x : Transition). x .signal) (d .0), (ap (λ (x : Transition). x .arcs) (d .0), tt)); ends = omega (arith, d .1) }
+      let c = read-get _ _ _ _ (at + 6 + 5) r end (b .rest) in
+      let d = read-done Transition _ r (at + 6 + 5 + rankWidth v) end (c .rest) in
+      record {
+        spelt = (ap (λ (x : Transition). x .signal) (d .0), (ap (λ (x : Transition). x .arcs) (d .0), (ap (λ (x : Transition). x .rank) (d .0), tt)));
+        ends = omega (arith, d .1);
+      }
 
   tied-arc : (at : ℕ) (r : Arc) (end : ℕ) → read bytes arc at ≡ whole r end → Spells arc r at end
   unfolding arc fields
@@ -163,10 +167,14 @@ module _ (bytes : List ℕ) where
       let a = read-get _ _ _ _ at r end e in
       let b = read-get _ _ _ _ (at + 4) r end (a .rest) in
       let c = read-get _ _ _ _ (at + 4 + 6) r end (b .rest) in
-      let d = read-done Header _ r (at + 4 + 6 + 6) end (c .rest) in
+      let l = read-get _ _ _ _ (at + 4 + 6 + 6) r end (c .rest) in
+      let v = bitField (bit bytes) at 4 in
+      let m = read-get _ _ _ _ (at + 4 + 6 + 6 + limitWidth v) r end (l .rest) in
+      let d = read-done Header _ r (at + 4 + 6 + 6 + limitWidth v + scaleWidth v) end (m .rest) in
+      let ev : v ≡ r .version = ap (λ (x : Header). x .version) (d .0) in
       record {
-        spelt = (ap (λ (x : Header). x .version) (d .0), (ap (λ (x : Header). x .subnets) (d .0), (ap (λ (x : Header). x .signals) (d .0), tt)));
-        ends = omega (arith, d .1);
+        spelt = (ev, (ap (λ (x : Header). x .subnets) (d .0), (ap (λ (x : Header). x .signals) (d .0), rw (← ev) (ap (λ (x : Header). x .limit) (d .0), (ap (λ (x : Header). x .scale) (d .0), tt)))));
+        ends = rw (← ev) (omega (arith, d .1));
       }
 
   -- a row that is the one of u is spelt as the one of u
@@ -192,20 +200,20 @@ module _ (bytes : List ℕ) where
       let y = tied-each (suc from) n one u h (s .seam) (t .value) (t .seam) (t .first) b in
       spells-then (one from) _ u at (s .seam) end x (spells-then (each (suc from) n one) _ u (s .seam) (t .seam) end y (spells-done _ u (t .seam) end (d .1)))
 
-  tied-wholeTransition : (c : Card) (g t at : ℕ) (x : Transition × List Arc) (end : ℕ) → read bytes (wholeTransition g t) at ≡ whole x end
-      → x ≡ (transitionAt c t, arcsOf c t) → Spells (wholeTransition g t) c at end
+  tied-wholeTransition : (c : Card) (v g t at : ℕ) (x : Transition × List Arc) (end : ℕ) → read bytes (wholeTransition v g t) at ≡ whole x end
+      → x ≡ (transitionAt c t, arcsOf c t) → Spells (wholeTransition v g t) c at end
   unfolding wholeTransition arcsOf
-  tied-wholeTransition c g t at x end e q =
-      let s = split (of (λ (d : Card). transitionAt d t) (transition g)) _ at x end e in
+  tied-wholeTransition c v g t at x end e q =
+      let s = split (of (λ (d : Card). transitionAt d t) (transition v g)) _ at x end e in
       let f = split (each 0 ((s .value) .arcs) (λ j. of (λ (d : Card). arcAt d t j) arc)) _ (s .seam) x end (s .second) in
       let d = read-done Card (s .value, f .value) x (f .seam) end (f .second) in
       let a : s .value ≡ transitionAt c t = ap (λ (y : Transition × List Arc). y .0) (d .0 ∙ q) in
       let b : f .value ≡ table 0 ((transitionAt c t) .arcs) (λ j. arcAt c t j) = ap (λ (y : Transition × List Arc). y .1) (d .0 ∙ q) in
       let r : read bytes (each 0 ((transitionAt c t) .arcs) (λ j. of (λ (d : Card). arcAt d t j) arc)) (s .seam) ≡ whole (f .value) (f .seam) =
       subst (λ (y : Transition). read bytes (each 0 (y .arcs) (λ j. of (λ (d : Card). arcAt d t j) arc)) (s .seam) ≡ whole (f .value) (f .seam)) a (f .first) in
-      spells-then (of (λ (d : Card). transitionAt d t) (transition g)) _ c at (s .seam) end
-      (tied-of (λ (d : Card). transitionAt d t) (transition g) c at (s .value) (s .seam) (λ y. tied-transition g at y (s .seam)) (s .first) a)
-      (rw (built-of (λ (d : Card). transitionAt d t) (transition g) c, built-transition g (transitionAt c t))
+      spells-then (of (λ (d : Card). transitionAt d t) (transition v g)) _ c at (s .seam) end
+      (tied-of (λ (d : Card). transitionAt d t) (transition v g) c at (s .value) (s .seam) (λ y. tied-transition v g at y (s .seam)) (s .first) a)
+      (rw (built-of (λ (d : Card). transitionAt d t) (transition v g) c, built-transition v g (transitionAt c t))
       (spells-then (each 0 ((transitionAt c t) .arcs) (λ j. of (λ (d : Card). arcAt d t j) arc)) _ c (s .seam) (f .seam) end
       (tied-each 0 ((transitionAt c t) .arcs) _ c
       (λ j k y h p l. tied-of (λ (d : Card). arcAt d t j) arc c k y h (λ z. tied-arc k z h) p (l ∙ built-of (λ (d : Card). arcAt d t j) arc c ∙ built-arc (arcAt c t j)))
@@ -263,6 +271,9 @@ module _ (bytes : List ℕ) (c sofar : Card) where
   t : ℕ
   t = length (sofar .transitions)
 
+  v : ℕ
+  v = sofar .version
+
   g : ℕ
   g = sofar .signals
 
@@ -273,13 +284,13 @@ module _ (bytes : List ℕ) (c sofar : Card) where
   placesFormat n = each p n (λ i. of (λ (d : Card). placeAt d i) (place s))
 
   abbrev transitionsFormat : ℕ → Format Card (List (Transition × List Arc))
-  transitionsFormat n = each t n (wholeTransition g)
+  transitionsFormat n = each t n (wholeTransition v g)
 
   tied-parts : (at e1 e2 e3 end : ℕ) (r : Subnet) (ps : List Place) (ts : List (Transition × List Arc)) → read bytes rowFormat at ≡ whole r e1
       → read bytes (placesFormat (r .places)) e1 ≡ whole ps e2 → read bytes (transitionsFormat (r .transitions)) e2 ≡ whole ts e3 → e3 ≡ end
       → r ≡ subnetAt c s → ps ≡ table p ((subnetAt c s) .places) (placeAt c) → ts ≡ table t ((subnetAt c s) .transitions) (λ u. (transitionAt c u, arcsOf c u))
       → Spells bytes (wholeSubnet sofar) c at end
-  unfolding wholeSubnet s p t g
+  unfolding wholeSubnet s p t v g
   tied-parts at e1 e2 e3 end r ps ts x y z w er eps ets =
       let y′ = subst (λ (k : Subnet). read bytes (placesFormat (k .places)) e1 ≡ whole ps e2) er y in
       let z′ = subst (λ (k : Subnet). read bytes (transitionsFormat (k .transitions)) e2 ≡ whole ts e3) er z in
@@ -290,23 +301,23 @@ module _ (bytes : List ℕ) (c sofar : Card) where
       (λ i k v h q l. tied-of bytes (λ (d : Card). placeAt d i) (place s) c k v h (λ m. tied-place bytes s k m h) q (l ∙ built-of (λ (d : Card). placeAt d i) (place s) c ∙ built-place s (placeAt c i)))
       e1 ps e2 y′ (eps ∙ table-same p _ _ _ (λ i. sym (built-of (λ (d : Card). placeAt d i) (place s) c ∙ built-place s (placeAt c i)))))
       (spells-then bytes (transitionsFormat ((subnetAt c s) .transitions)) _ c e2 e3 end
-      (tied-each bytes t ((subnetAt c s) .transitions) _ c (λ u k v h q l. tied-wholeTransition bytes c g u k v h q (l ∙ built-wholeTransition c g u))
-      e2 ts e3 z′ (ets ∙ table-same t _ _ _ (λ u. sym (built-wholeTransition c g u))))
+      (tied-each bytes t ((subnetAt c s) .transitions) _ c (λ u k y h q l. tied-wholeTransition bytes c v g u k y h q (l ∙ built-wholeTransition c v g u))
+      e2 ts e3 z′ (ets ∙ table-same t _ _ _ (λ u. sym (built-wholeTransition c v g u))))
       (spells-done bytes _ c e3 end w))))
 
   row-known : (at e1 e2 e3 : ℕ) (b : Card) (r : Subnet) (ps : List Place) (ts : List (Transition × List Arc)) → read bytes (transitionsFormat (r .transitions)) e2 ≡ whole ts e3
       → with sofar r ps ts ≡ b → b ≡ built (wholeSubnet sofar) c
       → (r ≡ subnetAt c s) × (ps ≡ table p ((subnetAt c s) .places) (placeAt c)) × (ts ≡ table t ((subnetAt c s) .transitions) (λ u. (transitionAt c u, arcsOf c u)))
-  unfolding s p t g Long
+  unfolding s p t v g Long
   row-known at e1 e2 e3 b r ps ts z e q =
       with-same sofar r (subnetAt c s) ps (table p ((subnetAt c s) .places) (placeAt c)) ts (table t ((subnetAt c s) .transitions) (λ u. (transitionAt c u, arcsOf c u)))
-      (all-more (TransitionArcs g) Long (λ k h. h .arcs .long) ts
-      (yields-read bytes (transitionsFormat (r .transitions)) (Listed (TransitionArcs g) (r .transitions))
-      (yields-each t (r .transitions) (wholeTransition g) (TransitionArcs g) (wholeTransition-yields g)) e2 e3 ts z .members))
+      (all-more (TransitionArcs v g) Long (λ k h. h .arcs .long) ts
+      (yields-read bytes (transitionsFormat (r .transitions)) (Listed (TransitionArcs v g) (r .transitions))
+      (yields-each t (r .transitions) (wholeTransition v g) (TransitionArcs v g) (wholeTransition-yields v g)) e2 e3 ts z .members))
       (all-table Long t _ _ (arcsOf-long c)) (e ∙ (q ∙ built-wholeSubnet c sofar))
 
   pub tied-wholeSubnet : (at : ℕ) (b : Card) (end : ℕ) → read bytes (wholeSubnet sofar) at ≡ whole b end → b ≡ built (wholeSubnet sofar) c → Spells bytes (wholeSubnet sofar) c at end
-  unfolding wholeSubnet s p t g
+  unfolding wholeSubnet s p t v g
   tied-wholeSubnet at b end e q = go (split bytes rowFormat _ at b end e)
     where
       last : (r : Subnet) (ps : List Place) (e1 e2 : ℕ) → read bytes rowFormat at ≡ whole r e1 → read bytes (placesFormat (r .places)) e1 ≡ whole ps e2
@@ -367,7 +378,9 @@ tied-card bytes c end e = go (split bytes (of headerOf header) (λ h. grow (h .s
         let v : h .version ≡ c .version = sym (a .version) in
         let g : h .signals ≡ c .signals = sym (a .signals) in
         let k : h .subnets ≡ length (c .subnets) = omega (arith, a .subnets) in
-        λ i. record { version = v i; subnets = k i; signals = g i }
+        let m : h .limit ≡ c .limit = sym (a .limit) in
+        let q : h .scale ≡ c .scale = sym (a .scale) in
+        λ i. record { version = v i; subnets = k i; signals = g i; limit = m i; scale = q i }
 
     go : Split bytes (of headerOf header) (λ h. grow (h .subnets) wholeSubnet (start h)) 0 c end → Spells bytes card c 0 end
     go x =

@@ -1,11 +1,10 @@
 -- A turn of the loop that reads a card, over plain values. Assumes nothing.
-use Prim.Native.Nat.{ℕ, zero, suc, _+_, _-_, _*_, _^_, _≤_, _<_}
+use Prim.Native.Nat.{ℕ, zero, suc, _+_, _-_, _*_, _≤_, _<_}
 use mathlib.Core.Path.{_≡_, refl, sym, ap, subst, _∙_}
 use mathlib.Core.Bool.{Bool, true, false}
 use mathlib.Core.List.{List, _∷_, _++_, append-nil}
 use mathlib.Core.Option.{Option, none, some}
 use native.Mathlib.Omega.{arith}
-use lib.Pow.{pow-mono}
 use native.Mathlib.Numerals.{add-one}
 use lib.ListN.{length, getD, take, set, replicate, length-set, length-replicate}
 use lib.Seq.{take-suc-set, append-snoc, getD-set-other}
@@ -20,13 +19,14 @@ use Rattle.card.specs.inner.Layout.{widthAt, widthOf, faultAt, startOf, 
 use Rattle.card.specs.declared.FormatFault.{FormatFault}
 use Rattle.card.specs.declared.FormatFault.the-variants.{Truncated}
 use Rattle.card.specs.declared.layout.Phase.{Phase}
-use Rattle.card.specs.declared.layout.Phase.the-variants.{Version, SubnetCount, SignalCount, Parent, SubnetType, PlaceCount, TransitionCount, Kind, Capacity, Tokens, Signal, ArcCount, Direction, ArcSubnet, ArcPlace, Weight}
+use Rattle.card.specs.declared.layout.Phase.the-variants.{Version, SubnetCount, SignalCount, Limit, Scale, Parent, SubnetType, PlaceCount, TransitionCount, Kind, Capacity, Tokens, Signal, ArcCount, Rank, Direction, ArcSubnet, ArcPlace, Weight}
 use Rattle.card.specs.declared.layout.Layout.{Layout}
 use Rattle.card.specs.declared.Counts.{Counts}
 use Rattle.card.specs.declared.layout.Move.{Move}
 use Rattle.card.specs.declared.layout.Move.the-variants.{More, Done, Bad}
 use Rattle.card.specs.inner.Reader.{arcHeadWidth, IsArcHead}
 use Rattle.card.specs.declared.reader.ArcHead.{ArcHead}
+use Rattle.card.specs.Tables.{tableSize, cardBits}
 use Rattle.card.proofs.Yields.{bit-small, field-small}
 use Rattle.card.proofs.Shape.{One, numbersIn, cardS}
 use Rattle.card.proofs.Simulates.{denote, moveF, nextOf, waits, sim, denote-start}
@@ -46,6 +46,8 @@ good-move : (p : Phase) (l : Layout) (v : ℕ) → Good (moveAt p l v)
 good-move Version l v = tt
 good-move SubnetCount l v = tt
 good-move SignalCount l v = tt
+good-move Limit l v = tt
+good-move Scale l v = tt
 good-move Parent l v = tt
 good-move SubnetType l v = tt
 good-move PlaceCount l v = tt
@@ -55,6 +57,7 @@ good-move Capacity l v = tt
 good-move Tokens l v = good-pick (ltb 0 (l .«place_rows»)) _ _ tt tt
 good-move Signal l v = tt
 good-move ArcCount l v = tt
+good-move Rank l v = tt
 good-move Direction l v = tt
 good-move ArcSubnet l v = tt
 good-move ArcPlace l v = tt
@@ -78,10 +81,6 @@ leads l v r e = go (faultAt (l .phase) l v) refl e
     go none p q = move (moveAt (l .phase) l v) r p (sim (l .phase) l v p) (good-move (l .phase) l v) q
     go (some f) p q = subst (Leads l v) (sym q) p
 
--- a number that fits a field fits a byte
-pub field-byte : (w v : ℕ) → w ≤ 8 → v < 2 ^ w → v < 256
-field-byte w v l h = omega (arith, h, pow-mono {i = w} {j = 8} l)
-
 pub zero-in : (n i : ℕ) → _≡_ {A = ℕ} (getD (replicate n 0) i 0) 0
 zero-in zero i = refl
 zero-in (suc n) zero = refl
@@ -93,22 +92,22 @@ module _ (bytes : List ℕ) where
     pub answer : read bytes (denote l) at ≡ read bytes cardS 0
     pub values : take n numbers ++ numbersIn bytes (denote l) at ≡ numbersIn bytes cardS 0
     pub zeros : (i : ℕ) → n ≤ i → getD numbers i 0 ≡ 0
-    pub long : length numbers ≡ 33026
+    pub long : length numbers ≡ tableSize
     pub sane : Sane l
-    pub budget : Budget (denote l) (33026 - n)
-    pub low : at ≤ 8 * n
+    pub budget : Budget (denote l) (tableSize - n) (cardBits - at)
+    pub low : at ≤ cardBits
     pub inside : at ≤ 8 * length bytes
-    pub few : n ≤ 33026
+    pub few : n ≤ tableSize
 
-  pub left-start : Left startOf 0 0 (replicate 33026 0)
+  pub left-start : Left startOf 0 0 (replicate tableSize 0)
   left-start =
       record {
         answer = ap (λ (m : Format One Counts). read bytes m 0) denote-start;
         values = ap (λ (m : Format One Counts). numbersIn bytes m 0) denote-start;
-        zeros = λ i h. zero-in 33026 i;
-        long = length-replicate {A = ℕ} 33026 0;
+        zeros = λ i h. zero-in tableSize i;
+        long = length-replicate {A = ℕ} tableSize 0;
         sane = sane-start;
-        budget = subst (λ (m : Format One Counts). Budget m 33026) (sym denote-start) budget-card;
+        budget = subst (λ (m : Format One Counts). Budget m tableSize cardBits) (sym denote-start) budget-card;
         low = omega arith;
         inside = omega arith;
         few = omega arith;
@@ -118,13 +117,16 @@ module _ (bytes : List ℕ) where
     wait : denote l ≡ get w (λ u. 0) (faultAt (l .phase) l) (nextOf (denote l))
     wait = waits (l .phase) l ∙ ap (λ (k : ℕ). get k (λ u. 0) (faultAt (l .phase) l) (nextOf (denote l))) (sym ew)
 
-    -- there is room in the table
-    pub left-room : n < 33026
-    left-room = go (33026 - n) refl (subst (λ (m : Format One Counts). Budget m (33026 - n)) wait (h .budget))
+    waited : Budget (get w (λ u. 0) (faultAt (l .phase) l) (nextOf (denote l))) (tableSize - n) (cardBits - at)
+    waited = subst (λ (m : Format One Counts). Budget m (tableSize - n) (cardBits - at)) wait (h .budget)
+
+    -- there is room in the table, and on the card
+    pub left-room : (n < tableSize) × (at + w ≤ cardBits)
+    left-room = go (tableSize - n) refl waited
       where
-        go : (k : ℕ) → 33026 - n ≡ k → Budget (get w (λ u. 0) (faultAt (l .phase) l) (nextOf (denote l))) k → n < 33026
+        go : (k : ℕ) → tableSize - n ≡ k → Budget (get w (λ u. 0) (faultAt (l .phase) l) (nextOf (denote l))) k (cardBits - at) → (n < tableSize) × (at + w ≤ cardBits)
         go zero e b = absurd b
-        go (suc k) e b = omega arith
+        go (suc k) e b = (omega arith, omega (arith, b .0, h .low))
 
     waiting : read bytes (get w (λ u. 0) (faultAt (l .phase) l) (nextOf (denote l))) at ≡ read bytes cardS 0
     waiting = ap (λ (m : Format One Counts). read bytes m at) (sym wait) ∙ h .answer
@@ -148,13 +150,13 @@ module _ (bytes : List ℕ) where
       more-values k e =
           let a : numbersIn bytes (denote l) at ≡ v ∷ numbersIn bytes k (at + w) =
           ap (λ (m : Format One Counts). numbersIn bytes m at) wait ∙ rw (← ev, e) in
-          rw (add-one, take-suc-set t n v (omega (arith, h .long, left-room))) (append-snoc (take n t) v (numbersIn bytes k (at + w)) ∙ ap (λ xs. take n t ++ xs) (sym a) ∙ h .values)
+          rw (add-one, take-suc-set t n v (omega (arith, h .long, left-room .0))) (append-snoc (take n t) v (numbersIn bytes k (at + w)) ∙ ap (λ xs. take n t ++ xs) (sym a) ∙ h .values)
 
       more-zeros : (i : ℕ) → n + 1 ≤ i → getD (set t n v) i 0 ≡ 0
       more-zeros i m = getD-set-other t n i v 0 (λ e. omega arith) ∙ h .zeros i (omega arith)
 
-      pub left-more : (m : Layout) → r ≡ More m → w ≤ 8 → Left m (at + w) (n + 1) (set t n v)
-      left-more m e lw =
+      pub left-more : (m : Layout) → r ≡ More m → Left m (at + w) (n + 1) (set t n v)
+      left-more m e =
           let k = subst (Leads l v) e (leads l v r er) in
           record {
             answer = ap (λ (x : Format One Counts). read bytes x (at + w)) (sym (k .1)) ∙ sym (on none (k .0)) ∙ waiting;
@@ -162,19 +164,20 @@ module _ (bytes : List ℕ) where
             zeros = more-zeros;
             long = length-set t n v ∙ h .long;
             sane = sane-step l m v (h .sane) (sym er ∙ e);
-            budget = subst (λ (x : Format One Counts). Budget x (33026 - (n + 1))) (k .1) (spent (k .0));
-            low = omega (arith, h .low);
+            budget = subst (λ (x : Format One Counts). Budget x (tableSize - (n + 1)) (cardBits - (at + w))) (k .1) (spent (k .0));
+            low = left-room .1;
             inside = g;
-            few = omega (arith, left-room);
+            few = omega (arith, left-room .0);
           }
         where
-          spent : faultAt (l .phase) l v ≡ none → Budget (nextOf (denote l) v) (33026 - (n + 1))
+          spent : faultAt (l .phase) l v ≡ none → Budget (nextOf (denote l) v) (tableSize - (n + 1)) (cardBits - (at + w))
           spent e =
-              let q : 33026 - n ≡ suc (33026 - (n + 1)) = omega (arith, left-room) in
-              let b : Budget (get w (λ u. 0) (faultAt (l .phase) l) (nextOf (denote l))) (suc (33026 - (n + 1))) = rw q at (subst (λ (x : Format One Counts). Budget x (33026 - n)) wait (h .budget)) in
-              b v (rw ev (field-small (bit bytes) (bit-small bytes) at w)) e
+              let q : tableSize - n ≡ suc (tableSize - (n + 1)) = omega (arith, left-room .0) in
+              let p : cardBits - at - w ≡ cardBits - (at + w) = omega arith in
+              let b : Budget (get w (λ u. 0) (faultAt (l .phase) l) (nextOf (denote l))) (suc (tableSize - (n + 1))) (cardBits - at) = rw q at waited in
+              rw p at (b .1 v (rw ev (field-small (bit bytes) (bit-small bytes) at w)) e)
 
-      pub left-done : (k : Counts) → r ≡ Done k → (read bytes cardS 0 ≡ whole k (at + w)) × (take (n + 1) (set t n v) ≡ numbersIn bytes cardS 0) × (length (set t n v) ≡ 33026)
+      pub left-done : (k : Counts) → r ≡ Done k → (read bytes cardS 0 ≡ whole k (at + w)) × (take (n + 1) (set t n v) ≡ numbersIn bytes cardS 0) × (length (set t n v) ≡ tableSize)
           × ((i : ℕ) → n + 1 ≤ i → getD (set t n v) i 0 ≡ 0)
       unfolding read
       left-done k e =
@@ -192,19 +195,19 @@ module _ (bytes : List ℕ) where
 
     first : Left (to l ArcSubnet) (at + 1) (n + 1) (set t n (x .direction))
     unfolding arc
-    first = left-more l at n t 1 h (sym (ap widthAt e)) (x .direction) (More (to l ArcSubnet)) (omega arith) (ex .direction) (untested Direction ArcSubnet (x .direction) e refl) (to l ArcSubnet) refl (omega arith)
+    first = left-more l at n t 1 h (sym (ap (λ (p : Phase). widthAt p (l .version)) e)) (x .direction) (More (to l ArcSubnet)) (omega arith) (ex .direction) (untested Direction ArcSubnet (x .direction) e refl) (to l ArcSubnet) refl
 
     second : Left (to l ArcPlace) (at + 1 + 5) (n + 1 + 1) (set (set t n (x .direction)) (n + 1) (x .subnet))
     unfolding arc
-    second = left-more (to l ArcSubnet) (at + 1) (n + 1) _ 5 first refl (x .subnet) (More (to l ArcPlace)) (omega arith) (ex .subnet) refl (to l ArcPlace) refl (omega arith)
+    second = left-more (to l ArcSubnet) (at + 1) (n + 1) _ 5 first refl (x .subnet) (More (to l ArcPlace)) (omega arith) (ex .subnet) refl (to l ArcPlace) refl
 
     third : Left (to l Weight) (at + 1 + 5 + 8) (n + 1 + 1 + 1) (set (set (set t n (x .direction)) (n + 1) (x .subnet)) (n + 1 + 1) (x .place))
     unfolding arc
-    third = left-more (to l ArcPlace) (at + 1 + 5) (n + 1 + 1) _ 8 second refl (x .place) (More (to l Weight)) (omega arith) (ex .place) refl (to l Weight) refl (omega arith)
+    third = left-more (to l ArcPlace) (at + 1 + 5) (n + 1 + 1) _ 8 second refl (x .place) (More (to l Weight)) (omega arith) (ex .place) refl (to l Weight) refl
 
-    pub arc-room : n + 2 < 33026
+    pub arc-room : n + 2 < tableSize
     unfolding arc
-    arc-room = omega (arith, left-room (to l ArcPlace) (at + 1 + 5) (n + 1 + 1) _ 8 second refl)
+    arc-room = omega (arith, left-room (to l ArcPlace) (at + 1 + 5) (n + 1 + 1) _ 8 second refl .0)
 
     pub left-arc : Left (to l Weight) (at + arcHeadWidth) (n + 3) (set (set (set t n (x .direction)) (n + 1) (x .subnet)) (n + 2) (x .place))
     unfolding arc

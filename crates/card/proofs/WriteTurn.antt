@@ -20,7 +20,7 @@ use Rattle.card.specs.Format.{Format, done, get}
 use Rattle.card.specs.Grammar.{card}
 use Rattle.card.specs.Parsing.{refused, whole, readCard}
 use Rattle.card.specs.Writing.{Field, fields, encode, allFit, counted}
-use Rattle.card.specs.Tables.{numbersOf}
+use Rattle.card.specs.Tables.{numbersOf, tableSize, cardBits, cardBytes}
 use Rattle.card.specs.Spelling.{Lines, IsSpelt, IsUnspelt}
 use Rattle.card.specs.Spelling
 use Rattle.card.specs.inner.Layout.{widthOf, faultAt, startOf, stepOf, Sane}
@@ -55,10 +55,10 @@ pub record Rest (c : Card) (l : Layout) (at n : ℕ) (bytes : List ℕ) : Type 0
 module _ (numbers : List ℕ) where
   pub record Behind (l : Layout) (at n : ℕ) (bytes : List ℕ) : Type 0 where
     pub sane : Sane l
-    pub budget : Budget (denote l) (33026 - n)
-    pub low : at ≤ 8 * n
-    pub few : n ≤ 33026
-    pub long : length bytes ≡ 33026
+    pub budget : Budget (denote l) (tableSize - n) (cardBits - at)
+    pub low : at ≤ cardBits
+    pub few : n ≤ tableSize
+    pub long : length bytes ≡ cardBytes
     pub small : (k : ℕ) → getD bytes k 0 < 256
     pub zeros : (i : ℕ) → at ≤ i → bit bytes i ≡ 0
     pub rest : (c : Card) → Lines c numbers → Rest c l at n bytes
@@ -96,7 +96,7 @@ length-front : (front back : List Field) (f : Field) → length front < length (
 length-front [] back f = omega arith
 length-front (x ∷ front) back f = omega (arith, length-front front back f)
 
-module _ (numbers : List ℕ) (c : Card) (k : Lines c numbers) (l : Layout) (at n : ℕ) (bytes : List ℕ) (w v : ℕ) (room : n < 33026) (ew : w ≡ widthOf l) (ev : v ≡ getD numbers n 0) where
+module _ (numbers : List ℕ) (c : Card) (k : Lines c numbers) (l : Layout) (at n : ℕ) (bytes : List ℕ) (w v : ℕ) (room : n < tableSize) (ew : w ≡ widthOf l) (ev : v ≡ getD numbers n 0) where
   pub next-of : Rest c l at n bytes → Next numbers c l at n bytes w v
   unfolding fields numbersOf
   next-of r = go (r .format) (r .shape) (r .walks) (r .joined)
@@ -144,22 +144,22 @@ zero-bit : (n i : ℕ) → bit (replicate n 0) i ≡ 0
 unfolding bit
 zero-bit n i = rw (zero-in n (i / 8), zero-div)
 
-pub behind-start : (numbers : List ℕ) → Behind numbers startOf 0 0 (replicate 33026 0)
+pub behind-start : (numbers : List ℕ) → Behind numbers startOf 0 0 (replicate cardBytes 0)
 behind-start numbers =
     record {
       sane = sane-start;
-      budget = subst (λ (m : Format One Counts). Budget m 33026) (sym denote-start) budget-card;
+      budget = subst (λ (m : Format One Counts). Budget m tableSize cardBits) (sym denote-start) budget-card;
       low = omega arith;
       few = omega arith;
-      long = length-replicate {A = ℕ} 33026 0;
-      small = λ k. rw (zero-in 33026 k) (omega arith);
-      zeros = λ i h. zero-bit 33026 i;
+      long = length-replicate {A = ℕ} cardBytes 0;
+      small = λ k. rw (zero-in cardBytes k) (omega arith);
+      zeros = λ i h. zero-bit cardBytes i;
       rest = λ c k. record { format = card; shape = erase-card ∙ sym denote-start; walks = refl; front = []; joined = refl; count = refl; wide = refl; spelt = tt };
     }
 
 -- bytes that spell the fields of c, with zeros behind, are the bytes of its card
 module _ (c : Card) (bytes : List ℕ) (end : ℕ) (k : allFit (fields card c) ≡ true) (e : end ≡ bits (fields card c))
-    (long : length bytes ≡ 33026) (small : (i : ℕ) → getD bytes i 0 < 256) (zeros : (i : ℕ) → end ≤ i → bit bytes i ≡ 0) (s : Spelt bytes 0 (fields card c)) where
+    (long : length bytes ≡ cardBytes) (small : (i : ℕ) → getD bytes i 0 < 256) (zeros : (i : ℕ) → end ≤ i → bit bytes i ≡ 0) (s : Spelt bytes 0 (fields card c)) where
   whole-bit : (i : ℕ) → bit bytes i ≡ bit (encode c) i
   unfolding encode
   whole-bit i = go (lt-or-ge i end)
@@ -175,10 +175,10 @@ module _ (c : Card) (bytes : List ℕ) (end : ℕ) (k : allFit (fields card c) �
       ∙ field-local (bit bytes) (bit (encode c)) (8 * i) 8 (λ j a b. whole-bit j)
       ∙ sym (byte-field (encode c) (spell-bytes (fields card c)) i)
 
-  whole-bytes : bytes ≡ table 0 33026 (λ i. getD (encode c) i 0)
+  whole-bytes : bytes ≡ table 0 cardBytes (λ i. getD (encode c) i 0)
   whole-bytes =
-      ext-getD 0 bytes (table 0 33026 (λ i. getD (encode c) i 0)) (long ∙ sym (table-length 0 33026 (λ i. getD (encode c) i 0)))
-      (λ i l. whole-byte i ∙ sym (table-at 33026 (λ j. getD (encode c) j 0) 0 i (omega (arith, long))))
+      ext-getD 0 bytes (table 0 cardBytes (λ i. getD (encode c) i 0)) (long ∙ sym (table-length 0 cardBytes (λ i. getD (encode c) i 0)))
+      (λ i l. whole-byte i ∙ sym (table-at cardBytes (λ j. getD (encode c) j 0) 0 i (omega (arith, long))))
 
   pub whole-spelt : counted c ≡ true → (d : Card) → walk card c 0 ≡ whole d end → (r : CardSpelt) → r .answer ≡ Whole ((end + 7) / 8) → r .bytes ≡ bytes → IsSpelt (readCard (encode c)) r
   unfolding encode
@@ -202,20 +202,23 @@ module _ (numbers : List ℕ) (l : Layout) (at n : ℕ) (bytes : List ℕ) (w v 
   wait : denote l ≡ get w (λ u. 0) (faultAt (l .phase) l) (nextOf (denote l))
   wait = waits (l .phase) l ∙ ap (λ (i : ℕ). get i (λ u. 0) (faultAt (l .phase) l) (nextOf (denote l))) (sym ew)
 
-  pub behind-room : n < 33026
-  behind-room = go (33026 - n) refl (subst (λ (m : Format One Counts). Budget m (33026 - n)) wait (b .budget))
+  waited : Budget (get w (λ u. 0) (faultAt (l .phase) l) (nextOf (denote l))) (tableSize - n) (cardBits - at)
+  waited = subst (λ (m : Format One Counts). Budget m (tableSize - n) (cardBits - at)) wait (b .budget)
+
+  pub behind-room : (n < tableSize) × (at + w ≤ cardBits)
+  behind-room = go (tableSize - n) refl waited
     where
-      go : (k : ℕ) → 33026 - n ≡ k → Budget (get w (λ u. 0) (faultAt (l .phase) l) (nextOf (denote l))) k → n < 33026
+      go : (k : ℕ) → tableSize - n ≡ k → Budget (get w (λ u. 0) (faultAt (l .phase) l) (nextOf (denote l))) k (cardBits - at) → (n < tableSize) × (at + w ≤ cardBits)
       go zero e h = absurd h
-      go (suc k) e h = omega arith
+      go (suc k) e h = (omega arith, omega (arith, h .0, b .low))
 
   -- a number that does not fit is none of a card's
   pub behind-wide : v ≡ getD numbers n 0 → 2 ^ w ≤ v → (c : Card) → Lines c numbers → (r : CardSpelt) → IsSpelt (readCard (encode c)) r
-  behind-wide ev h c k r = let x = next-of numbers c k l at n bytes w v behind-room ew ev (b .rest c k) in absurd (omega (arith, x .fits))
+  behind-wide ev h c k r = let x = next-of numbers c k l at n bytes w v (behind-room .0) ew ev (b .rest c k) in absurd (omega (arith, x .fits))
 
   module _ (r : Move) (new : List ℕ) (ev : v ≡ getD numbers n 0) (fits : v < 2 ^ w) (put : Put bytes at w v new) (er : r ≡ stepOf l v) where
     next : (c : Card) → Lines c numbers → Next numbers c l at n bytes w v
-    next c k = next-of numbers c k l at n bytes w v behind-room ew ev (b .rest c k)
+    next c k = next-of numbers c k l at n bytes w v (behind-room .0) ew ev (b .rest c k)
 
     pub behind-bad : (f : FormatFault) → r ≡ Bad f → (c : Card) → Lines c numbers → (s : CardSpelt) → IsUnspelt f at s → IsSpelt (readCard (encode c)) s
     behind-bad f e c k s u =
@@ -233,25 +236,26 @@ module _ (numbers : List ℕ) (l : Layout) (at n : ℕ) (bytes : List ℕ) (w v 
         spelt-snoc new 0 front field (spelt-keep bytes new 0 front (λ i m. put .outside i (inl (omega arith))) s)
         (let q : 0 + bits front ≡ at = omega arith in rw q (put .value))
 
-    pub behind-more : (m : Layout) → r ≡ More m → w ≤ 8 → Behind numbers m (at + w) (n + 1) new
-    behind-more m e lw =
+    pub behind-more : (m : Layout) → r ≡ More m → Behind numbers m (at + w) (n + 1) new
+    behind-more m e =
         let y = subst (Leads l v) e (leads l v r er) in
         record {
           sane = sane-step l m v (b .sane) (sym er ∙ e);
-          budget = subst (λ (x : Format One Counts). Budget x (33026 - (n + 1))) (y .1) (spent (y .0));
-          low = omega (arith, b .low);
-          few = omega (arith, behind-room);
+          budget = subst (λ (x : Format One Counts). Budget x (tableSize - (n + 1)) (cardBits - (at + w))) (y .1) (spent (y .0));
+          low = behind-room .1;
+          few = omega (arith, behind-room .0);
           long = put .long ∙ b .long;
           small = put .small (b .small);
           zeros = λ i h. put .outside i (inr h) ∙ b .zeros i (omega arith);
           rest = λ c k. rest-more c (next c k) (y .0) (y .1);
         }
       where
-        spent : faultAt (l .phase) l v ≡ none → Budget (nextOf (denote l) v) (33026 - (n + 1))
+        spent : faultAt (l .phase) l v ≡ none → Budget (nextOf (denote l) v) (tableSize - (n + 1)) (cardBits - (at + w))
         spent e =
-            let q : 33026 - n ≡ suc (33026 - (n + 1)) = omega (arith, behind-room) in
-            let x : Budget (get w (λ u. 0) (faultAt (l .phase) l) (nextOf (denote l))) (suc (33026 - (n + 1))) = rw q at (subst (λ (z : Format One Counts). Budget z (33026 - n)) wait (b .budget)) in
-            x v fits e
+            let q : tableSize - n ≡ suc (tableSize - (n + 1)) = omega (arith, behind-room .0) in
+            let p : cardBits - at - w ≡ cardBits - (at + w) = omega arith in
+            let x : Budget (get w (λ u. 0) (faultAt (l .phase) l) (nextOf (denote l))) (suc (tableSize - (n + 1))) (cardBits - at) = rw q at waited in
+            rw p at (x .1 v fits e)
 
         rest-more : (c : Card) (x : Next numbers c l at n bytes w v) → faultAt (l .phase) l v ≡ none → nextOf (denote l) v ≡ denote m → Rest c m (at + w) (n + 1) new
         rest-more c x p q =

@@ -50,6 +50,11 @@ unfoldable pub size : {U A : Type 0} → Format U A → ℕ
 size (done a) = 0
 size (get w value fault next) = w + size (next 0)
 
+-- the same where the first field holds v, by which the other widths go
+abbrev pub sizeFrom : {U A : Type 0} → (v : ℕ) → Format U A → ℕ
+sizeFrom v (done a) = 0
+sizeFrom v (get w value fault next) = w + size (next v)
+
 -- its fields, where their number does not depend on what they hold
 unfoldable pub count : {U A : Type 0} → Format U A → ℕ
 count (done a) = 0

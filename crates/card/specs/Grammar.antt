@@ -8,17 +8,42 @@ use Rattle.card.specs.Card.{Header, Subnet, Place, Transition, Arc, Card
 use Rattle.card.specs.Format.{Format, done, free, field, of, each, grow, _>>=_}
 use Rattle.card.specs.declared.FormatFault.the-variants.{BadVersion, BadSize, BadParent, BadType, BadCount, BadPlace, BadTransition}
 
--- the most places, and the most transitions, of a card
+-- the most subnets of a card; the most places, and the most transitions
+abbrev pub maxSubnets : ℕ
+maxSubnets = 32
+
 abbrev pub maxCount : ℕ
 maxCount = 255
 
--- Header: version 4 bits (1), subnets S 6 bits (1 to 32), signals G 6 bits (1 to 63).
+-- the most signals of a card, and the most arcs of a transition: what their fields can hold
+abbrev pub maxSignals : ℕ
+maxSignals = 63
+
+abbrev pub maxArcs : ℕ
+maxArcs = 31
+
+-- A field that a version brings: it has no bits below that version. A field of no bits takes none, reads as 0, and no other number fits it.
+unfoldable pub since : (first width version : ℕ) → ℕ
+since first width version = cond (ltb version first) 0 width
+
+abbrev pub rankWidth : (version : ℕ) → ℕ
+rankWidth version = since 3 8 version
+
+abbrev pub limitWidth : (version : ℕ) → ℕ
+limitWidth version = since 4 8 version
+
+abbrev pub scaleWidth : (version : ℕ) → ℕ
+scaleWidth version = since 5 14 version
+
+-- Header: version 4 bits (1), subnets S 6 bits (1 to 32), signals G 6 bits (1 to 63). Then the limit and the scale of later versions.
 unfoldable pub header : Format Header Header
 header = do
   version ← field 4 (λ h. h .version) (λ v. eqb v 1) BadVersion
-  subnets ← field 6 (λ h. h .subnets) (λ v. leb 1 v && leb v 32) BadSize
+  subnets ← field 6 (λ h. h .subnets) (λ v. leb 1 v && leb v maxSubnets) BadSize
   signals ← field 6 (λ h. h .signals) (λ v. leb 1 v) BadSize
-  done (record { version = version; subnets = subnets; signals = signals })
+  limit ← free (limitWidth version) (λ h. h .limit)
+  scale ← free (scaleWidth version) (λ h. h .scale)
+  done (record { version = version; subnets = subnets; signals = signals; limit = limit; scale = scale })
 
 -- Each subnet: parent 5, type 5, places 8, transitions 8. Subnet 0 is the main net: parent 0, type 0. Any other parent is a smaller number
 -- than the subnet's own. Each subnet has at least one place and one transition; over all subnets there are at most 255 of each.
@@ -39,12 +64,13 @@ place s = do
   tokens ← field 8 (λ p. p .tokens) (λ v. leb v capacity) BadPlace
   done (record { kind = kind; capacity = capacity; tokens = tokens })
 
--- Transition: signal 6 (below G), arc count 5 (1 to 31).
-unfoldable pub transition : (signals : ℕ) → Format Transition Transition
-transition signals = do
+-- Transition: signal 6 (below G), arc count 5 (1 to 31). Then the rank of later versions.
+unfoldable pub transition : (version signals : ℕ) → Format Transition Transition
+transition version signals = do
   signal ← field 6 (λ t. t .signal) (λ v. ltb v signals) BadTransition
   arcs ← field 5 (λ t. t .arcs) (λ v. leb 1 v) BadTransition
-  done (record { signal = signal; arcs = arcs })
+  rank ← free (rankWidth version) (λ t. t .rank)
+  done (record { signal = signal; arcs = arcs; rank = rank })
 
 -- Arc: direction 1, subnet 5, place 8, weight 8.
 unfoldable pub arc : Format Arc Arc
@@ -56,9 +82,9 @@ arc = do
   done (record { direction = direction; subnet = subnet; place = place; weight = weight })
 
 -- a transition, then its arcs; t is its flat number
-unfoldable pub wholeTransition : (signals t : ℕ) → Format Card (Transition × List Arc)
-wholeTransition signals t = do
-  row ← of (λ c. transitionAt c t) (transition signals)
+unfoldable pub wholeTransition : (version signals t : ℕ) → Format Card (Transition × List Arc)
+wholeTransition version signals t = do
+  row ← of (λ c. transitionAt c t) (transition version signals)
   arcs ← each 0 (row .arcs) (λ j. of (λ c. arcAt c t j) arc)
   done (row, arcs)
 
@@ -68,6 +94,8 @@ with c s ps ts =
     record {
       version = c .version;
       signals = c .signals;
+      limit = c .limit;
+      scale = c .scale;
       subnets = c .subnets ++ (s ∷ []);
       places = c .places ++ ps;
       transitions = c .transitions ++ map (λ t. t .0) ts;
@@ -79,7 +107,7 @@ unfoldable pub wholeSubnet : (sofar : Card) → Format Card Card
 wholeSubnet sofar = do
   row ← of (λ c. subnetAt c s) (subnet s p t)
   places ← each p (row .places) (λ i. of (λ c. placeAt c i) (place s))
-  transitions ← each t (row .transitions) (wholeTransition (sofar .signals))
+  transitions ← each t (row .transitions) (wholeTransition (sofar .version) (sofar .signals))
   done (with sofar row places transitions)
   where
     s : ℕ
@@ -91,8 +119,12 @@ wholeSubnet sofar = do
     t : ℕ
     t = length (sofar .transitions)
 
+-- a card of which only the header is read
+abbrev pub headerAlone : Header → Card
+headerAlone h = record { version = h .version; signals = h .signals; limit = h .limit; scale = h .scale; subnets = []; places = []; transitions = []; arcs = [] }
+
 -- the header, then each subnet 0 to S - 1
 unfoldable pub card : Format Card Card
 card = do
   h ← of headerOf header
-  grow (h .subnets) wholeSubnet (record { version = h .version; signals = h .signals; subnets = []; places = []; transitions = []; arcs = [] })
+  grow (h .subnets) wholeSubnet (headerAlone h)

@@ -8,13 +8,13 @@ use lib.Dec.{leb, ltb}
 use Rattle.card.specs.Finite.{sumTo, table}
 use Rattle.card.specs.Card.{Subnet, Place, Transition, Arc, Card, subnetAt, placeAt, transitionAt, arcAt, firstPlace, firstTransition, firstArc}
 use Rattle.card.specs.Format.{count}
-use Rattle.card.specs.Grammar.{header, subnet, place, transition, arc}
+use Rattle.card.specs.Grammar.{maxSubnets, maxCount, header, subnet, place, transition, arc}
 use Rattle.card.specs.Writing.{subnetBit, transitionBit}
 use Rattle.card.specs.declared.tables.Arc as declared
 
 -- the fields in front of so many subnets, places, transitions and arcs
 abbrev pub fieldsBefore : (subnets places transitions arcs : ℕ) → ℕ
-fieldsBefore s p t a = count header + count (subnet 0 0 0) * s + count (place 0) * p + count (transition 0) * t + count arc * a
+fieldsBefore s p t a = count header + count (subnet 0 0 0) * s + count (place 0) * p + count (transition 0 0) * t + count arc * a
 
 -- where the row of subnet s begins, and that of transition t, which is one of subnet s
 unfoldable pub subnetRow : Card → (s : ℕ) → ℕ
@@ -28,7 +28,7 @@ unfoldable pub placeField : (row n k : ℕ) → ℕ
 placeField row n k = row + count (subnet 0 0 0) + count (place 0) * n + k
 
 unfoldable pub arcField : (row j k : ℕ) → ℕ
-arcField row j k = row + count (transition 0) + count arc * j + k
+arcField row j k = row + count (transition 0 0) + count arc * j + k
 
 -- a row is there: its fields stand at these positions
 pub record SubnetThere (numbers : List ℕ) (row : ℕ) (r : Subnet) : Type 0 where
@@ -45,6 +45,7 @@ pub record PlaceThere (numbers : List ℕ) (row n : ℕ) (p : Place) : Type 0 wh
 pub record TransitionThere (numbers : List ℕ) (row : ℕ) (t : Transition) : Type 0 where
   pub signal : getD numbers row 0 ≡ t .signal
   pub arcs : getD numbers (row + 1) 0 ≡ t .arcs
+  pub rank : getD numbers (row + 2) 0 ≡ t .rank
 
 pub record ArcThere (numbers : List ℕ) (row j : ℕ) (a : Arc) : Type 0 where
   pub direction : getD numbers (arcField row j 0) 0 ≡ a .direction
@@ -71,6 +72,8 @@ pub record Begins (c : Card) (row i t : ℕ) : Type 0 where
 pub record Laid (c : Card) (numbers : List ℕ) : Type 0 where
   pub version : getD numbers 0 0 ≡ c .version
   pub signals : getD numbers 2 0 ≡ c .signals
+  pub limit : getD numbers 3 0 ≡ c .limit
+  pub scale : getD numbers 4 0 ≡ c .scale
   pub subnet : (s : ℕ) → s < length (c .subnets) → SubnetThere numbers (subnetRow c s) (subnetAt c s)
   pub place : (s n : ℕ) → s < length (c .subnets) → n < (subnetAt c s) .places → PlaceThere numbers (subnetRow c s) n (placeAt c (firstPlace c s + n))
   pub transition : (s t : ℕ) → Lists c s t → TransitionThere numbers (transitionRow c s t) (transitionAt c t)
@@ -78,10 +81,10 @@ pub record Laid (c : Card) (numbers : List ℕ) : Type 0 where
 
 -- A second table has six columns of starts: four with an entry for each subnet and one for the end of the last, two with one for each transition.
 abbrev pub subnetStarts : ℕ
-subnetStarts = 33
+subnetStarts = suc maxSubnets
 
 abbrev pub transitionStarts : ℕ
-transitionStarts = 256
+transitionStarts = suc maxCount
 
 abbrev pub startsSize : ℕ
 startsSize = 4 * subnetStarts + 2 * transitionStarts

@@ -12,7 +12,7 @@ use Rattle.card.specs.Grammar.{card}
 use Rattle.card.specs.Parsing.{Parsing}
 use Rattle.card.specs.Parsing
 use Rattle.card.specs.Writing.{fields, encode, allFit, counted}
-use Rattle.card.specs.Tables.{tableSize, numbersOf}
+use Rattle.card.specs.Tables.{tableSize, cardBytes, numbersOf}
 use Rattle.card.specs.declared.FormatFault.{FormatFault}
 use Rattle.card.specs.declared.writer.SpellAnswer.{SpellAnswer}
 use Rattle.card.specs.declared.writer.SpellAnswer.the-variants.{Whole, Refused}
@@ -33,8 +33,8 @@ outcomeOf (Parsing.refused n at) = refused n at
 
 -- the card's bytes, then zeros; of a refused one, zeros
 abbrev pub bytesOf : Parsing Card → List ℕ
-bytesOf (Parsing.whole c end) = table 0 tableSize (λ k. getD (encode c) k 0)
-bytesOf (Parsing.refused n at) = table 0 tableSize (λ k. 0)
+bytesOf (Parsing.whole c end) = table 0 cardBytes (λ k. getD (encode c) k 0)
+bytesOf (Parsing.refused n at) = table 0 cardBytes (λ k. 0)
 
 pub record IsSpelt (x : Parsing Card) (r : CardSpelt) : Type 0 where
   pub answer : spellOutcome (r .answer) ≡ outcomeOf x
@@ -49,7 +49,7 @@ pub record Lines (c : Card) (numbers : List ℕ) : Type 0 where
 -- a refusal, with no bytes
 pub record IsUnspelt (f : FormatFault) (at : ℕ) (r : CardSpelt) : Type 0 where
   pub answer : r .answer ≡ Refused f at
-  pub bytes : r .bytes ≡ table 0 tableSize (λ k. 0)
+  pub bytes : r .bytes ≡ table 0 cardBytes (λ k. 0)
 
 -- Bytes in a lent buffer, if they have room there: a short buffer stays as it was, and so do bytes past the card's length ('Why a call is
 -- turned back', 24 and its last sentence).

@@ -1,12 +1,12 @@
 -- A card's numbers in one table, as the reader leaves them for the layers above.
-use Prim.Native.Nat.{ℕ}
+use Prim.Native.Nat.{ℕ, _+_, _*_}
 use mathlib.Core.Path.{_≡_}
 use mathlib.Core.List.{List, map}
 use lib.ListN.{length, getD}
 use Rattle.card.specs.Finite.{table}
 use Rattle.card.specs.Numbers.{number}
-use Rattle.card.specs.Card.{Card}
-use Rattle.card.specs.Grammar.{card}
+use Rattle.card.specs.Card.{Card, headerFields, subnetFields, placeFields, transitionFields, arcFields}
+use Rattle.card.specs.Grammar.{maxSubnets, maxCount, maxArcs, card}
 use Rattle.card.specs.Parsing.{Parsing}
 use Rattle.card.specs.Parsing
 use Rattle.card.specs.Writing.{fields}
@@ -15,10 +15,16 @@ use Rattle.card.specs.declared.reader.ReadAnswer.{ReadAnswer}
 use Rattle.card.specs.declared.reader.ReadAnswer.the-variants.{Whole, Refused}
 use Rattle.card.specs.declared.reader.CardRead.{CardRead}
 
--- the most fields of a card: 3 of the header, 4 of each of 32 subnets, 3 of each of 255 places, 2 of each of 255 transitions, 4 of each of
--- its 31 arcs
+-- the most fields of a card: those of its header, and of so many subnets, places, and transitions with their arcs
 abbrev pub tableSize : ℕ
-tableSize = 33026
+tableSize = headerFields + subnetFields * maxSubnets + placeFields * maxCount + (transitionFields + arcFields * maxArcs) * maxCount
+
+-- the most bits and bytes of a card, all of whose rows are there (`most-bits`, `bytes-few`)
+abbrev pub cardBits : ℕ
+cardBits = 182153
+
+abbrev pub cardBytes : ℕ
+cardBytes = 22770
 
 -- the numbers of a card, field after field
 unfoldable pub numbersOf : Card → List ℕ

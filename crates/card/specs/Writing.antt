@@ -7,7 +7,7 @@ use lib.Dec.{ltb, eqb}
 use Rattle.card.specs.Numbers.{number}
 use Rattle.card.specs.Bits.{bitsOf, pack}
 use Rattle.card.specs.Card.{Card, firstPlace, firstTransition, firstArc}
-use Rattle.card.specs.Format.{Format, done, get, size}
+use Rattle.card.specs.Format.{Format, done, get, size, sizeFrom}
 use Rattle.card.specs.Grammar.{header, subnet, place, transition, arc, card}
 use Rattle.card.specs.Parsing.{Parsing, refused, readCard}
 use Rattle.card.specs.declared.FormatFault.the-variants.{BadTable}
@@ -47,16 +47,16 @@ counted c =
 unfoldable pub readTables : (tables : Card) → Parsing Card
 readTables c = cond (counted c && allFit (fields card c)) (readCard (encode c)) (refused (number BadTable) 0)
 
--- the bits in front of so many subnets, places, transitions and arcs
-abbrev pub bitsBefore : (subnets places transitions arcs : ℕ) → ℕ
-bitsBefore s p t a = size header + size (subnet 0 0 0) * s + size (place 0) * p + size (transition 0) * t + size arc * a
+-- the bits in front of so many subnets, places, transitions and arcs of a card of this version
+abbrev pub bitsBefore : (version subnets places transitions arcs : ℕ) → ℕ
+bitsBefore v s p t a = sizeFrom v header + size (subnet 0 0 0) * s + size (place 0) * p + size (transition v 0) * t + size arc * a
 
 -- the first bit of subnet s; of transition t, which is one of subnet s; of its arc j
 unfoldable pub subnetBit : Card → (s : ℕ) → ℕ
-subnetBit c s = bitsBefore s (firstPlace c s) (firstTransition c s) (firstArc c (firstTransition c s))
+subnetBit c s = bitsBefore (c .version) s (firstPlace c s) (firstTransition c s) (firstArc c (firstTransition c s))
 
 unfoldable pub transitionBit : Card → (s t : ℕ) → ℕ
-transitionBit c s t = bitsBefore (suc s) (firstPlace c (suc s)) t (firstArc c t)
+transitionBit c s t = bitsBefore (c .version) (suc s) (firstPlace c (suc s)) t (firstArc c t)
 
 unfoldable pub arcBit : Card → (s t j : ℕ) → ℕ
-arcBit c s t j = transitionBit c s t + size (transition 0) + size arc * j
+arcBit c s t j = transitionBit c s t + size (transition (c .version) 0) + size arc * j

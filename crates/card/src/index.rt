@@ -18,6 +18,7 @@ use crate::layout::transition_width;
 use crate::tables::arc_count;
 use crate::tables::place_count;
 use crate::tables::transition_count;
+use crate::tables::version;
 ghost use mathlib.Core.Path.{_≡_};
 ghost use Prim.Native.Nat.{ℕ, _+_, _*_, _≤_, _<_};
 ghost use lib.ListN.{length, set};
@@ -46,13 +47,13 @@ fn on_card(p: Position) -> bool
 }
 
 // Behind a transition and its arcs.
-fn after_transition(p: Position, arcs: u16) -> Position
+fn after_transition(p: Position, version: u16, arcs: u16) -> Position
     requires { ⌜ OnCard p ⌝ }
-    ensures { λ r. ⌜ Moved p r (count (transition 0) + count arc * arcs) (size (transition 0) + size arc * arcs) ⌝ }
+    ensures { λ r. ⌜ Moved p r (count (transition 0 0) + count arc * arcs) (size (transition version 0) + size arc * arcs) ⌝ }
 {
     Position {
         row: p.row + (transition_fields() + arc_fields() * arcs as u32),
-        bit: p.bit + (transition_width() + arc_width() * arcs as u32),
+        bit: p.bit + (transition_width(version) + arc_width() * arcs as u32),
     }
 }
 
@@ -110,7 +111,7 @@ fn index_transitions(
         }
         put_start(starts, TRANSITION_ROWS + t as usize, p.row);
         put_start(starts, TRANSITION_BITS + t as usize, p.bit);
-        p = after_transition(p, arc_count(numbers, p.row));
+        p = after_transition(p, version(numbers), arc_count(numbers, p.row));
         t += 1;
     }
     p
@@ -123,7 +124,7 @@ pub fn index(numbers: &[u16], subnets: u16) -> [u32; STARTS]
     let mut starts = [0; STARTS];
     let mut p = Position {
         row: header_fields(),
-        bit: header_width(),
+        bit: header_width(version(numbers)),
     };
     let mut place: u32 = 0;
     let mut transition: u32 = 0;

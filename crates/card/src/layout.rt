@@ -1,19 +1,27 @@
 // The order of a card's fields, as a machine that reader and writer share: what comes next, how wide it is, where its number leads.
+use crate::ARC_FIELDS;
 use crate::Counts;
 use crate::FormatFault;
+use crate::HEADER_FIELDS;
+use crate::PLACE_FIELDS;
+use crate::SUBNET_FIELDS;
+use crate::TRANSITION_FIELDS;
 ghost use mathlib.Core.Path.{_≡_};
 ghost use mathlib.Core.Bool.{true};
-ghost use Prim.Native.Nat.{ℕ, _+_, _<_, _≤_};
-ghost use Rattle.card.specs.Format.{count, size};
+ghost use Prim.Native.Nat.{ℕ, _+_, _^_, _<_, _≤_};
+ghost use Rattle.card.specs.Format.{count, size, sizeFrom};
+ghost use Rattle.card.specs.Grammar;
 ghost use Rattle.card.specs.Grammar.{header, subnet, place, transition, arc};
 ghost use Rattle.card.specs.inner.Layout.{startOf, widthAt, widthOf, to, stepAt, stepOf, Sane};
 ghost use Rattle.card.specs.declared.layout.Move.the-variants.{More};
-ghost use Rattle.card.specs.declared.layout.Phase.the-variants.{Version, SubnetCount, SignalCount, Parent, SubnetType, PlaceCount, TransitionCount, Kind, Capacity, Tokens, Signal, ArcCount, Direction, ArcSubnet, ArcPlace, Weight};
+ghost use Rattle.card.specs.declared.layout.Phase.the-variants.{Version, SubnetCount, SignalCount, Limit, Scale, Parent, SubnetType, PlaceCount, TransitionCount, Kind, Capacity, Tokens, Signal, ArcCount, Rank, Direction, ArcSubnet, ArcPlace, Weight};
 
 pub enum Phase {
     Version,
     SubnetCount,
     SignalCount,
+    Limit,
+    Scale,
     Parent,
     SubnetType,
     PlaceCount,
@@ -23,17 +31,19 @@ pub enum Phase {
     Tokens,
     Signal,
     ArcCount,
+    Rank,
     Direction,
     ArcSubnet,
     ArcPlace,
     Weight,
 }
 
-// The field that comes next, and what the fields before it say of those behind it: how many signals there are; how many subnets come
-// after this one, and its number; how many places and transitions are listed so far; how many rows of each kind come after this one;
+// The field that comes next, and what the fields before it say of those behind it: the version; how many signals there are; how many subnets
+// come after this one, and its number; how many places and transitions are listed so far; how many rows of each kind come after this one;
 // the capacity of the place at hand. The phase stands last, so that in Move it does not lie over a count of Counts: else the compiled
 // reader keeps it in memory as one byte, loads two, and waits for that at each field.
 pub struct Layout {
+    pub version: u16,
     pub signals: u16,
     pub subnets: u16,
     pub subnet: u16,
@@ -57,6 +67,7 @@ pub fn start() -> Layout
 {
     Layout {
         phase: Phase::Version,
+        version: 0,
         signals: 0,
         subnets: 0,
         subnet: 0,
@@ -69,13 +80,23 @@ pub fn start() -> Layout
     }
 }
 
-pub fn width_at(p: Phase) -> usize
-    ensures { λ r. ⌜ (r ≡ widthAt p) × (1 ≤ r) × (r ≤ 8) ⌝ }
+// The width of a field that a version brings, and none below that version.
+fn since(first: u16, width: usize, version: u16) -> usize
+    ensures { λ r. ⌜ (r ≡ Grammar.since first width version) × (r ≤ width) ⌝ }
+{
+    if version < first { 0 } else { width }
+}
+
+// No field is wider than 16 bits, which is what a field of bytes can be read and written as (bits.rt).
+pub fn width_at(p: Phase, version: u16) -> usize
+    ensures { λ r. ⌜ (r ≡ widthAt p version) × (r ≤ 16) ⌝ }
 {
     match p {
         Phase::Version => 4,
         Phase::SubnetCount => 6,
         Phase::SignalCount => 6,
+        Phase::Limit => since(4, 8, version),
+        Phase::Scale => since(5, 14, version),
         Phase::Parent => 5,
         Phase::SubnetType => 5,
         Phase::PlaceCount => 8,
@@ -85,6 +106,7 @@ pub fn width_at(p: Phase) -> usize
         Phase::Tokens => 8,
         Phase::Signal => 6,
         Phase::ArcCount => 5,
+        Phase::Rank => since(3, 8, version),
         Phase::Direction => 1,
         Phase::ArcSubnet => 5,
         Phase::ArcPlace => 8,
@@ -93,10 +115,10 @@ pub fn width_at(p: Phase) -> usize
 }
 
 pub fn width(l: Layout) -> usize
-    ensures { λ r. ⌜ (r ≡ widthOf l) × (1 ≤ r) × (r ≤ 8) ⌝ }
+    ensures { λ r. ⌜ (r ≡ widthOf l) × (r ≤ 16) ⌝ }
 {
     let p = l.phase;
-    width_at(p)
+    width_at(p, l.version)
 }
 
 // The same layout at another phase.
@@ -105,6 +127,7 @@ pub fn moved(l: Layout, p: Phase) -> Layout
 {
     Layout {
         phase: p,
+        version: l.version,
         signals: l.signals,
         subnets: l.subnets,
         subnet: l.subnet,
@@ -161,80 +184,88 @@ pub fn arc_again(l: Layout) -> Layout
 
 // How wide an arc's fields before the weight are. Nothing tests them, so that they may be read at once.
 pub fn arc_head_width() -> usize
-    ensures { λ r. ⌜ r ≡ widthAt Direction + (widthAt ArcSubnet + widthAt ArcPlace) ⌝ }
+    ensures { λ r. ⌜ r ≡ widthAt Direction 0 + (widthAt ArcSubnet 0 + widthAt ArcPlace 0) ⌝ }
 {
-    width_at(Phase::Direction) + (width_at(Phase::ArcSubnet) + width_at(Phase::ArcPlace))
+    width_at(Phase::Direction, 0) + (width_at(Phase::ArcSubnet, 0) + width_at(Phase::ArcPlace, 0))
 }
 
 // How many fields the header and a row have, and how many bits.
 pub fn header_fields() -> u32
     ensures { λ r. ⌜ (r ≡ count header) × (r ≤ 8) ⌝ }
 {
-    3
+    HEADER_FIELDS as u32
 }
 
-pub fn header_width() -> u32
-    ensures { λ r. ⌜ (r ≡ size header) × (r ≤ 32) ⌝ }
+pub fn header_width(version: u16) -> u32
+    ensures { λ r. ⌜ (r ≡ sizeFrom version header) × (r ≤ 64) ⌝ }
 {
-    (width_at(Phase::Version) + width_at(Phase::SubnetCount) + width_at(Phase::SignalCount)) as u32
+    (width_at(Phase::Version, version)
+        + width_at(Phase::SubnetCount, version)
+        + width_at(Phase::SignalCount, version)
+        + width_at(Phase::Limit, version)
+        + width_at(Phase::Scale, version)) as u32
 }
 
 pub fn subnet_fields() -> u32
     ensures { λ r. ⌜ (r ≡ count (subnet 0 0 0)) × (r ≤ 8) ⌝ }
 {
-    4
+    SUBNET_FIELDS as u32
 }
 
 pub fn subnet_width() -> u32
     ensures { λ r. ⌜ (r ≡ size (subnet 0 0 0)) × (r ≤ 32) ⌝ }
 {
-    (width_at(Phase::Parent)
-        + width_at(Phase::SubnetType)
-        + width_at(Phase::PlaceCount)
-        + width_at(Phase::TransitionCount)) as u32
+    (width_at(Phase::Parent, 0)
+        + width_at(Phase::SubnetType, 0)
+        + width_at(Phase::PlaceCount, 0)
+        + width_at(Phase::TransitionCount, 0)) as u32
 }
 
 pub fn place_fields() -> u32
     ensures { λ r. ⌜ (r ≡ count (place 0)) × (r ≤ 8) ⌝ }
 {
-    3
+    PLACE_FIELDS as u32
 }
 
 pub fn place_width() -> u32
     ensures { λ r. ⌜ (r ≡ size (place 0)) × (r ≤ 32) ⌝ }
 {
-    (width_at(Phase::Kind) + width_at(Phase::Capacity) + width_at(Phase::Tokens)) as u32
+    (width_at(Phase::Kind, 0) + width_at(Phase::Capacity, 0) + width_at(Phase::Tokens, 0)) as u32
 }
 
 pub fn transition_fields() -> u32
-    ensures { λ r. ⌜ (r ≡ count (transition 0)) × (r ≤ 8) ⌝ }
+    ensures { λ r. ⌜ (r ≡ count (transition 0 0)) × (r ≤ 8) ⌝ }
 {
-    2
+    TRANSITION_FIELDS as u32
 }
 
-pub fn transition_width() -> u32
-    ensures { λ r. ⌜ (r ≡ size (transition 0)) × (r ≤ 32) ⌝ }
+pub fn transition_width(version: u16) -> u32
+    ensures { λ r. ⌜ (r ≡ size (transition version 0)) × (r ≤ 64) ⌝ }
 {
-    (width_at(Phase::Signal) + width_at(Phase::ArcCount)) as u32
+    (width_at(Phase::Signal, version)
+        + width_at(Phase::ArcCount, version)
+        + width_at(Phase::Rank, version)) as u32
 }
 
 pub fn arc_fields() -> u32
     ensures { λ r. ⌜ (r ≡ count arc) × (r ≤ 8) ⌝ }
 {
-    4
+    ARC_FIELDS as u32
 }
 
 pub fn arc_width() -> u32
     ensures { λ r. ⌜ (r ≡ size arc) × (r ≤ 32) ⌝ }
 {
-    (arc_head_width() + width_at(Phase::Weight)) as u32
+    (arc_head_width() + width_at(Phase::Weight, 0)) as u32
 }
 
 fn after_version(l: Layout, v: u16) -> Move
     ensures { λ r. ⌜ r ≡ stepAt Version l v ⌝ }
 {
     if v == 1 {
-        return Move::More(moved(l, Phase::SubnetCount));
+        let mut m = l;
+        m.version = v;
+        return Move::More(moved(m, Phase::SubnetCount));
     }
     Move::Bad(FormatFault::BadVersion)
 }
@@ -261,7 +292,7 @@ fn after_signal_count(l: Layout, v: u16) -> Move
     }
     let mut m = l;
     m.signals = v;
-    Move::More(moved(m, Phase::Parent))
+    Move::More(moved(m, Phase::Limit))
 }
 
 fn after_parent(l: Layout, v: u16) -> Move
@@ -292,7 +323,7 @@ fn after_type(l: Layout, v: u16) -> Move
 }
 
 fn after_place_count(l: Layout, v: u16) -> Move
-    requires { ⌜ Sane l × (v < 256) ⌝ }
+    requires { ⌜ Sane l × (v < 2 ^ widthAt PlaceCount 0) ⌝ }
     ensures { λ r. ⌜ r ≡ stepAt PlaceCount l v ⌝ }
 {
     if v < 1 {
@@ -308,7 +339,7 @@ fn after_place_count(l: Layout, v: u16) -> Move
 }
 
 fn after_transition_count(l: Layout, v: u16) -> Move
-    requires { ⌜ Sane l × (v < 256) ⌝ }
+    requires { ⌜ Sane l × (v < 2 ^ widthAt TransitionCount 0) ⌝ }
     ensures { λ r. ⌜ r ≡ stepAt TransitionCount l v ⌝ }
 {
     if v < 1 {
@@ -377,7 +408,7 @@ fn after_arc_count(l: Layout, v: u16) -> Move
     }
     let mut m = l;
     m.arc_rows = v - 1;
-    Move::More(moved(m, Phase::Direction))
+    Move::More(moved(m, Phase::Rank))
 }
 
 // Behind an arc comes another, or a transition, or a subnet, or nothing.
@@ -410,7 +441,7 @@ fn after_weight(l: Layout, v: u16) -> Move
 
 // Where the number v of the next field leads.
 pub fn step(l: Layout, v: u16) -> Move
-    requires { ⌜ Sane l × (v < 256) ⌝ }
+    requires { ⌜ Sane l × (v < 2 ^ widthOf l) ⌝ }
     ensures { λ r. ⌜ r ≡ stepOf l v ⌝ }
 {
     let p = l.phase;
@@ -418,6 +449,8 @@ pub fn step(l: Layout, v: u16) -> Move
         Phase::Version => after_version(l, v),
         Phase::SubnetCount => after_subnet_count(l, v),
         Phase::SignalCount => after_signal_count(l, v),
+        Phase::Limit => Move::More(moved(l, Phase::Scale)),
+        Phase::Scale => Move::More(moved(l, Phase::Parent)),
         Phase::Parent => after_parent(l, v),
         Phase::SubnetType => after_type(l, v),
         Phase::PlaceCount => after_place_count(l, v),
@@ -427,6 +460,7 @@ pub fn step(l: Layout, v: u16) -> Move
         Phase::Tokens => after_tokens(l, v),
         Phase::Signal => after_signal(l, v),
         Phase::ArcCount => after_arc_count(l, v),
+        Phase::Rank => Move::More(moved(l, Phase::Direction)),
         Phase::Direction => Move::More(moved(l, Phase::ArcSubnet)),
         Phase::ArcSubnet => Move::More(moved(l, Phase::ArcPlace)),
         Phase::ArcPlace => Move::More(moved(l, Phase::Weight)),

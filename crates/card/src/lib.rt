@@ -23,11 +23,28 @@ pub const MOST_SIGNALS: usize = 63;
 
 pub const MOST_ARCS: usize = 31;
 
-// The most numbers of a card; and the most bytes, since no field is wider than one.
-pub const TABLE: usize = 3
-    + 4 * MOST_SUBNETS
-    + 3 * MOST_PLACES
-    + (2 + 4 * MOST_ARCS) * MOST_TRANSITIONS;
+// How many numbers the header and a row have.
+pub const HEADER_FIELDS: usize = 5;
+
+pub const SUBNET_FIELDS: usize = 4;
+
+pub const PLACE_FIELDS: usize = 3;
+
+pub const TRANSITION_FIELDS: usize = 3;
+
+pub const ARC_FIELDS: usize = 4;
+
+// The most numbers of a card.
+pub const TABLE: usize = HEADER_FIELDS
+    + SUBNET_FIELDS * MOST_SUBNETS
+    + PLACE_FIELDS * MOST_PLACES
+    + (TRANSITION_FIELDS + ARC_FIELDS * MOST_ARCS) * MOST_TRANSITIONS;
+
+// The most bytes of a card (`bytes-few` in proofs/Length.antt).
+pub const CARD_BYTES: usize = 22770;
+
+// Of a longer input as many bytes decide (`long-input` in proofs/LongInput.antt).
+pub const INPUT_BYTES: usize = CARD_BYTES + 1;
 
 // The second table, column by column (specs/Index.antt): where each begins behind the rows of subnets, and where the last one ends.
 pub const SUBNET_BITS: usize = MOST_SUBNETS + 1;
@@ -41,6 +58,14 @@ pub const TRANSITION_ROWS: usize = 4 * SUBNET_BITS;
 pub const TRANSITION_BITS: usize = TRANSITION_ROWS + MOST_TRANSITIONS + 1;
 
 pub const STARTS: usize = TRANSITION_BITS + MOST_TRANSITIONS + 1;
+
+// What a card's tables have beside its rows. The limit and the scale are of later versions, and 0 below them.
+pub struct Head {
+    pub version: u16,
+    pub signals: u16,
+    pub limit: u16,
+    pub scale: u16,
+}
 
 // How many subnets, places and transitions a card lists.
 pub struct Counts {

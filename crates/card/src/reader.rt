@@ -23,7 +23,7 @@ ghost use mathlib.Core.Bool.{true};
 ghost use Prim.Native.Nat.{_+_, _*_, _≤_};
 ghost use lib.ListN.{length, replicate};
 ghost use Rattle.card.specs.Parsing.{readCard, excess};
-ghost use Rattle.card.specs.Tables.{IsRead};
+ghost use Rattle.card.specs.Tables.{tableSize, IsRead};
 ghost use Rattle.card.specs.inner.Reader.{IsRefused, excessOf, arcHeadWidth, IsArcHead, endedAs, IsFilled};
 ghost use Rattle.card.specs.declared.layout.Phase.the-variants.{Direction};
 
@@ -88,8 +88,8 @@ fn arc_head(card: &[u8], at: usize) -> ArcHead
 {
     let v = bit_field(card, at, arc_head_width());
     let x = v as u32;
-    let p = pow2(width_at(Phase::ArcPlace));
-    let q = pow2(width_at(Phase::ArcSubnet));
+    let p = pow2(width_at(Phase::ArcPlace, 0));
+    let q = pow2(width_at(Phase::ArcSubnet, 0));
     ArcHead {
         direction: (x / p / q) as u16,
         subnet: (x / p % q) as u16,
@@ -120,7 +120,7 @@ fn ended(card: &[u8], end: usize, k: Counts) -> ReadAnswer
 
 // Reads the fields of a card into a lent table of zeros. Of a card that is refused some numbers may stand there.
 fn fill(card: &[u8], numbers: &mut [u16]) -> ReadAnswer
-    requires { ⌜ now numbers ≡ replicate 33026 0 ⌝ }
+    requires { ⌜ now numbers ≡ replicate tableSize 0 ⌝ }
     ensures { λ r. ⌜ length (now (numbers .exit)) ≡ length (now (numbers .entry)) ⌝ }
     ensures { λ r. ⌜ IsFilled (readCard (now (card .entry))) r (now (numbers .exit)) ⌝ }
 {

@@ -1,5 +1,10 @@
 // A card's tables in lent slices, and what 17 asks of them.
+use crate::ARC_FIELDS;
+use crate::Head;
+use crate::PLACE_FIELDS;
+use crate::SUBNET_FIELDS;
 use crate::TABLE;
+use crate::TRANSITION_FIELDS;
 use crate::bits::pow2;
 use crate::bits::too_wide;
 use crate::layout::Phase;
@@ -9,6 +14,8 @@ ghost use Prim.Native.Nat.{ℕ, _+_, _/_, _<_};
 ghost use mathlib.Core.List.{List, _++_};
 ghost use lib.ListN.{length, getD};
 ghost use lib.Dec.{eqb};
+ghost use Rattle.card.specs.Card.{subnetFields};
+ghost use Rattle.card.specs.declared.Head.{Head};
 ghost use Rattle.card.specs.Rows.{tablesIn, wholeRows};
 ghost use Rattle.card.specs.inner.Runs.{columnSum, RowsFit, Tells, subnetWidths, placeWidths, transitionWidths, arcWidths, HeaderFits, ValuesFit, Leads, arcsBefore, transitionRun, runs, RunsInside, subnetRun, TablesInside, Gathered, inOrder};
 ghost use Rattle.card.specs.Writing.{counted};
@@ -57,39 +64,44 @@ fn rows_fit(rows: &[u16], widths: &[usize]) -> bool
 pub fn whole_rows(subnets: &[u16], places: &[u16], transitions: &[u16], arcs: &[u16]) -> bool
     ensures { λ r. ⌜ r ≡ wholeRows (now (subnets .entry)) (now (places .entry)) (now (transitions .entry)) (now (arcs .entry)) ⌝ }
 {
-    if subnets.len() % 4 != 0 {
+    if subnets.len() % SUBNET_FIELDS != 0 {
         return false;
     }
-    if places.len() % 3 != 0 {
+    if places.len() % PLACE_FIELDS != 0 {
         return false;
     }
-    if transitions.len() % 2 != 0 {
+    if transitions.len() % TRANSITION_FIELDS != 0 {
         return false;
     }
-    arcs.len() % 4 == 0
+    arcs.len() % ARC_FIELDS == 0
 }
 
 // Whether there are as many rows as the counts say.
 pub fn counts_match(subnets: &[u16], places: &[u16], transitions: &[u16], arcs: &[u16]) -> bool
-    ensures { λ r. ⌜ ((v g : ℕ) → r ≡ counted (tablesIn v g (now (subnets .entry)) (now (places .entry)) (now (transitions .entry)) (now (arcs .entry)))) ⌝ }
+    ensures { λ r. ⌜ ((h : Head) → r ≡ counted (tablesIn h (now (subnets .entry)) (now (places .entry)) (now (transitions .entry)) (now (arcs .entry)))) ⌝ }
 {
-    if !adds_up(subnets, 4, 2, places.len() / 3) {
+    if !adds_up(subnets, SUBNET_FIELDS, 2, places.len() / PLACE_FIELDS) {
         return false;
     }
-    if !adds_up(subnets, 4, 3, transitions.len() / 2) {
+    if !adds_up(
+        subnets,
+        SUBNET_FIELDS,
+        3,
+        transitions.len() / TRANSITION_FIELDS,
+    ) {
         return false;
     }
-    adds_up(transitions, 2, 1, arcs.len() / 4)
+    adds_up(transitions, TRANSITION_FIELDS, 1, arcs.len() / ARC_FIELDS)
 }
 
 fn subnets_fit(rows: &[u16]) -> bool
     ensures { λ r. ⌜ Tells r (RowsFit (now (rows .entry)) subnetWidths) ⌝ }
 {
     let widths = [
-        width_at(Phase::Parent),
-        width_at(Phase::SubnetType),
-        width_at(Phase::PlaceCount),
-        width_at(Phase::TransitionCount),
+        width_at(Phase::Parent, 0),
+        width_at(Phase::SubnetType, 0),
+        width_at(Phase::PlaceCount, 0),
+        width_at(Phase::TransitionCount, 0),
     ];
     rows_fit(rows, &widths)
 }
@@ -98,17 +110,21 @@ fn places_fit(rows: &[u16]) -> bool
     ensures { λ r. ⌜ Tells r (RowsFit (now (rows .entry)) placeWidths) ⌝ }
 {
     let widths = [
-        width_at(Phase::Kind),
-        width_at(Phase::Capacity),
-        width_at(Phase::Tokens),
+        width_at(Phase::Kind, 0),
+        width_at(Phase::Capacity, 0),
+        width_at(Phase::Tokens, 0),
     ];
     rows_fit(rows, &widths)
 }
 
-fn transitions_fit(rows: &[u16]) -> bool
-    ensures { λ r. ⌜ Tells r (RowsFit (now (rows .entry)) transitionWidths) ⌝ }
+fn transitions_fit(rows: &[u16], version: u16) -> bool
+    ensures { λ r. ⌜ Tells r (RowsFit (now (rows .entry)) (transitionWidths version)) ⌝ }
 {
-    let widths = [width_at(Phase::Signal), width_at(Phase::ArcCount)];
+    let widths = [
+        width_at(Phase::Signal, version),
+        width_at(Phase::ArcCount, version),
+        width_at(Phase::Rank, version),
+    ];
     rows_fit(rows, &widths)
 }
 
@@ -116,38 +132,44 @@ fn arcs_fit(rows: &[u16]) -> bool
     ensures { λ r. ⌜ Tells r (RowsFit (now (rows .entry)) arcWidths) ⌝ }
 {
     let widths = [
-        width_at(Phase::Direction),
-        width_at(Phase::ArcSubnet),
-        width_at(Phase::ArcPlace),
-        width_at(Phase::Weight),
+        width_at(Phase::Direction, 0),
+        width_at(Phase::ArcSubnet, 0),
+        width_at(Phase::ArcPlace, 0),
+        width_at(Phase::Weight, 0),
     ];
     rows_fit(rows, &widths)
 }
 
-fn header_fits(version: u16, signals: u16, subnets: usize) -> bool
-    ensures { λ r. ⌜ Tells r (HeaderFits version signals subnets) ⌝ }
+fn header_fits(h: Head, subnets: usize) -> bool
+    ensures { λ r. ⌜ Tells r (HeaderFits h subnets) ⌝ }
 {
-    if too_wide(version, width_at(Phase::Version)) {
+    let v = h.version;
+    if too_wide(v, width_at(Phase::Version, v)) {
         return false;
     }
-    if too_wide(signals, width_at(Phase::SignalCount)) {
+    if too_wide(h.signals, width_at(Phase::SignalCount, v)) {
         return false;
     }
-    subnets < pow2(width_at(Phase::SubnetCount)) as usize
+    if too_wide(h.limit, width_at(Phase::Limit, v)) {
+        return false;
+    }
+    if too_wide(h.scale, width_at(Phase::Scale, v)) {
+        return false;
+    }
+    subnets < pow2(width_at(Phase::SubnetCount, v)) as usize
 }
 
 // Whether each number of the tables fits its field.
 pub fn values_fit(
-    version: u16,
-    signals: u16,
+    head: Head,
     subnets: &[u16],
     places: &[u16],
     transitions: &[u16],
     arcs: &[u16],
 ) -> bool
-    ensures { λ r. ⌜ Tells r (ValuesFit version signals (now (subnets .entry)) (now (places .entry)) (now (transitions .entry)) (now (arcs .entry))) ⌝ }
+    ensures { λ r. ⌜ Tells r (ValuesFit head (now (subnets .entry)) (now (places .entry)) (now (transitions .entry)) (now (arcs .entry))) ⌝ }
 {
-    if !header_fits(version, signals, subnets.len() / 4) {
+    if !header_fits(head, subnets.len() / SUBNET_FIELDS) {
         return false;
     }
     if !subnets_fit(subnets) {
@@ -156,7 +178,7 @@ pub fn values_fit(
     if !places_fit(places) {
         return false;
     }
-    if !transitions_fit(transitions) {
+    if !transitions_fit(transitions, head.version) {
         return false;
     }
     arcs_fit(arcs)
@@ -206,12 +228,12 @@ fn push_transitions(
     let mut b = arc;
     let mut t = first;
     while t < end {
-        let from = 2 * t;
-        let to = from + 2;
+        let from = TRANSITION_FIELDS * t;
+        let to = from + TRANSITION_FIELDS;
         m = push(numbers, m, &transitions[from..to]);
-        let low = 4 * b;
-        b += wide(transitions[2 * t + 1]);
-        let high = 4 * b;
+        let low = ARC_FIELDS * b;
+        b += wide(transitions[TRANSITION_FIELDS * t + 1]);
+        let high = ARC_FIELDS * b;
         m = push(numbers, m, &arcs[low..high]);
         t += 1;
     }
@@ -229,23 +251,23 @@ fn push_subnets(
 ) -> usize
     requires { ⌜ TablesInside (now subnets) (now places) (now transitions) (now arcs) ⌝ }
     ensures { λ r. ⌜ length (now (numbers .exit)) ≡ length (now (numbers .entry)) ⌝ }
-    ensures { λ r. ⌜ ((xs : List ℕ) → Leads xs (now (numbers .entry)) n → Leads (xs ++ runs 0 (length (now (subnets .entry)) / 4) (subnetRun (now (subnets .entry)) (now (places .entry)) (now (transitions .entry)) (now (arcs .entry)))) (now (numbers .exit)) r) ⌝ }
+    ensures { λ r. ⌜ ((xs : List ℕ) → Leads xs (now (numbers .entry)) n → Leads (xs ++ runs 0 (length (now (subnets .entry)) / subnetFields) (subnetRun (now (subnets .entry)) (now (places .entry)) (now (transitions .entry)) (now (arcs .entry)))) (now (numbers .exit)) r) ⌝ }
 {
-    let end = subnets.len() / 4;
+    let end = subnets.len() / SUBNET_FIELDS;
     let mut m = n;
     let mut place = 0;
     let mut transition = 0;
     let mut arc = 0;
     let mut s = 0;
     while s < end {
-        let from = 4 * s;
-        let to = from + 4;
+        let from = SUBNET_FIELDS * s;
+        let to = from + SUBNET_FIELDS;
         m = push(numbers, m, &subnets[from..to]);
-        let low = 3 * place;
-        place += wide(subnets[4 * s + 2]);
-        let high = 3 * place;
+        let low = PLACE_FIELDS * place;
+        place += wide(subnets[SUBNET_FIELDS * s + 2]);
+        let high = PLACE_FIELDS * place;
         m = push(numbers, m, &places[low..high]);
-        let k = wide(subnets[4 * s + 3]);
+        let k = wide(subnets[SUBNET_FIELDS * s + 3]);
         let c = push_transitions(numbers, m, transitions, arcs, transition, k, arc);
         m = c.n;
         arc = c.arc;
@@ -257,20 +279,25 @@ fn push_subnets(
 
 // The numbers of tables in the order of the card, as many as a card can have.
 pub fn gather(
-    version: u16,
-    signals: u16,
+    h: Head,
     subnets: &[u16],
     places: &[u16],
     transitions: &[u16],
     arcs: &[u16],
 ) -> [u16; TABLE]
     requires { ⌜ TablesInside (now subnets) (now places) (now transitions) (now arcs) ⌝ }
-    requires { ⌜ length (now subnets) / 4 < 65536 ⌝ }
-    ensures { λ r. ⌜ Gathered (inOrder version signals (now (subnets .entry)) (now (places .entry)) (now (transitions .entry)) (now (arcs .entry))) r ⌝ }
+    requires { ⌜ length (now subnets) / subnetFields < 65536 ⌝ }
+    ensures { λ r. ⌜ Gathered (inOrder h (now (subnets .entry)) (now (places .entry)) (now (transitions .entry)) (now (arcs .entry))) r ⌝ }
 {
     let mut numbers = [0; TABLE];
-    let head = [version, (subnets.len() / 4) as u16, signals];
-    let n = push(&mut numbers, 0, &head);
+    let header = [
+        h.version,
+        (subnets.len() / SUBNET_FIELDS) as u16,
+        h.signals,
+        h.limit,
+        h.scale,
+    ];
+    let n = push(&mut numbers, 0, &header);
     let _m = push_subnets(&mut numbers, n, subnets, places, transitions, arcs);
     numbers
 }

@@ -77,6 +77,19 @@ pub fn signals(numbers: &[u16]) -> u16
     number_at(numbers, 2)
 }
 
+// What later versions bring: 0 below them.
+pub fn limit(numbers: &[u16]) -> u16
+    ensures { λ r. ⌜ r ≡ getD (now (numbers .entry)) 3 0 ⌝ }
+{
+    number_at(numbers, 3)
+}
+
+pub fn scale(numbers: &[u16]) -> u16
+    ensures { λ r. ⌜ r ≡ getD (now (numbers .entry)) 4 0 ⌝ }
+{
+    number_at(numbers, 4)
+}
+
 // The fields of a subnet's row.
 pub fn parent(numbers: &[u16], row: u32) -> u16
     ensures { λ r. ⌜ r ≡ getD (now (numbers .entry)) row 0 ⌝ }
@@ -132,6 +145,12 @@ pub fn arc_count(numbers: &[u16], row: u32) -> u16
     ensures { λ r. ⌜ r ≡ getD (now (numbers .entry)) (row + 1) 0 ⌝ }
 {
     number_at(numbers, row as usize + 1)
+}
+
+pub fn rank(numbers: &[u16], row: u32) -> u16
+    ensures { λ r. ⌜ r ≡ getD (now (numbers .entry)) (row + 2) 0 ⌝ }
+{
+    number_at(numbers, row as usize + 2)
 }
 
 // The fields of an arc.
@@ -227,10 +246,10 @@ pub fn transition_bit(starts: &[u32], t: u32) -> u32
     start_at(starts, TRANSITION_BITS + t as usize)
 }
 
-pub fn arc_bit(starts: &[u32], t: u32, j: u16) -> usize
-    ensures { λ r. ⌜ r ≡ getD (now (starts .entry)) (transitionBitStart t) 0 + size (transition 0) + size arc * j ⌝ }
+pub fn arc_bit(numbers: &[u16], starts: &[u32], t: u32, j: u16) -> usize
+    ensures { λ r. ⌜ r ≡ getD (now (starts .entry)) (transitionBitStart t) 0 + size (transition (getD (now (numbers .entry)) 0 0) 0) + size arc * j ⌝ }
 {
     transition_bit(starts, t) as usize
-        + transition_width() as usize
+        + transition_width(version(numbers)) as usize
         + arc_width() as usize * j as usize
 }

@@ -1,5 +1,7 @@
 // Spelling a card: its numbers, checked as the reader checks them, into bytes.
+use crate::CARD_BYTES;
 use crate::FormatFault;
+use crate::Head;
 use crate::TABLE;
 use crate::bits::put_field;
 use crate::bits::too_wide;
@@ -29,7 +31,7 @@ pub enum SpellAnswer {
 // The answer, and the card's bytes with zeros behind them.
 pub struct CardSpelt {
     pub answer: SpellAnswer,
-    pub bytes: [u8; TABLE],
+    pub bytes: [u8; CARD_BYTES],
 }
 
 fn unspelt(f: FormatFault, at: usize) -> CardSpelt
@@ -37,7 +39,7 @@ fn unspelt(f: FormatFault, at: usize) -> CardSpelt
 {
     CardSpelt {
         answer: SpellAnswer::Refused(f, at),
-        bytes: [0; TABLE],
+        bytes: [0; CARD_BYTES],
     }
 }
 
@@ -46,7 +48,7 @@ fn unspelt(f: FormatFault, at: usize) -> CardSpelt
 fn spell_numbers(numbers: &[u16; TABLE]) -> CardSpelt
     ensures { λ r. ⌜ ((c : Card) → Lines c (now (numbers .entry)) → IsSpelt (readCard (encode c)) r) ⌝ }
 {
-    let mut bytes = [0; TABLE];
+    let mut bytes = [0; CARD_BYTES];
     let mut l = start();
     let mut at = 0;
     let mut n = 0;
@@ -74,17 +76,16 @@ fn spell_numbers(numbers: &[u16; TABLE]) -> CardSpelt
     }
 }
 
-// Spells the card that tables make; the tables are numbers in lent slices, row after row. Two wrong writers that this rules out: one that
+// Spells the card that tables make: a head, and numbers in lent slices, row after row. Two wrong writers that this rules out: one that
 // lets a count differ from the rows, and one that cuts a number down to its field.
 pub fn spell(
-    version: u16,
-    signals: u16,
+    head: Head,
     subnets: &[u16],
     places: &[u16],
     transitions: &[u16],
     arcs: &[u16],
 ) -> CardSpelt
-    ensures { λ r. ⌜ IsSpelt (readRows version signals (now (subnets .entry)) (now (places .entry)) (now (transitions .entry)) (now (arcs .entry))) r ⌝ }
+    ensures { λ r. ⌜ IsSpelt (readRows head (now (subnets .entry)) (now (places .entry)) (now (transitions .entry)) (now (arcs .entry))) r ⌝ }
 {
     if !whole_rows(subnets, places, transitions, arcs) {
         return unspelt(FormatFault::BadTable, 0);
@@ -92,10 +93,10 @@ pub fn spell(
     if !counts_match(subnets, places, transitions, arcs) {
         return unspelt(FormatFault::BadTable, 0);
     }
-    if !values_fit(version, signals, subnets, places, transitions, arcs) {
+    if !values_fit(head, subnets, places, transitions, arcs) {
         return unspelt(FormatFault::BadTable, 0);
     }
-    let numbers = gather(version, signals, subnets, places, transitions, arcs);
+    let numbers = gather(head, subnets, places, transitions, arcs);
     spell_numbers(&numbers)
 }
 

@@ -1,6 +1,12 @@
 // The numbers of a card, in its order, taken apart into tables.
+use crate::tables::LED;
 use crate::tables::wide;
+use card::ARC_FIELDS;
 use card::Counts;
+use card::HEADER_FIELDS;
+use card::PLACE_FIELDS;
+use card::SUBNET_FIELDS;
+use card::TRANSITION_FIELDS;
 ghost use mathlib.Core.Path.{_≡_};
 ghost use Prim.Native.Nat.{_<_, _≤_};
 ghost use lib.ListN.{length};
@@ -56,9 +62,9 @@ fn take_transition(table: &mut [u16], numbers: &[u16], c: Cursor) -> Cursor
     ensures { λ r. ⌜ r .at ≤ length (now (numbers .entry)) ⌝ }
 {
     let at = c.at;
-    let row = end_of(numbers, at, 2);
+    let row = end_of(numbers, at, TRANSITION_FIELDS);
     let arcs = wide(number(&numbers[at..row], 1));
-    let end = end_of(numbers, row, 4 * arcs);
+    let end = end_of(numbers, row, ARC_FIELDS * arcs);
     let mut d = c;
     d.transition = push(table, c.transition, &numbers[at..row]);
     d.arc = push(table, c.arc, &numbers[row..end]);
@@ -86,10 +92,10 @@ fn take_subnet(table: &mut [u16], numbers: &[u16], c: Cursor) -> Cursor
     ensures { λ r. ⌜ r .at ≤ length (now (numbers .entry)) ⌝ }
 {
     let at = c.at;
-    let row = end_of(numbers, at, 4);
+    let row = end_of(numbers, at, SUBNET_FIELDS);
     let places = wide(number(&numbers[at..row], 2));
     let transitions = wide(number(&numbers[at..row], 3));
-    let end = end_of(numbers, row, 3 * places);
+    let end = end_of(numbers, row, PLACE_FIELDS * places);
     let mut d = c;
     d.subnet = push(table, c.subnet, &numbers[at..row]);
     d.place = push(table, c.place, &numbers[row..end]);
@@ -124,12 +130,12 @@ fn span(from: usize, to: usize) -> u16 {
 // The tables of a card that was read, for a buffer of so many bytes.
 pub fn tables_of(k: Counts, numbers: &[u16], room: usize) -> [u16; 40000] {
     let mut table = [0; 40000];
-    let place = 7 + 4 * wide(k.subnets);
-    let transition = place + 3 * wide(k.places);
-    let arc = transition + 2 * wide(k.transitions);
+    let place = LED + SUBNET_FIELDS * wide(k.subnets);
+    let transition = place + PLACE_FIELDS * wide(k.places);
+    let arc = transition + TRANSITION_FIELDS * wide(k.transitions);
     let start = Cursor {
-        at: end_of(numbers, 0, 3),
-        subnet: 7,
+        at: end_of(numbers, 0, HEADER_FIELDS),
+        subnet: LED,
         place: place,
         transition: transition,
         arc: arc,
@@ -138,7 +144,9 @@ pub fn tables_of(k: Counts, numbers: &[u16], room: usize) -> [u16; 40000] {
     let head = [
         number(numbers, 0),
         number(numbers, 2),
-        span(7, place),
+        number(numbers, 3),
+        number(numbers, 4),
+        span(LED, place),
         span(place, transition),
         span(transition, arc),
         span(arc, c.arc),

@@ -1,7 +1,11 @@
-// Tables in one slice of numbers: version, signals, the lengths of the four slices and of the buffer, then the four slices.
+// Tables in one slice of numbers: the head, the lengths of the four slices and of the buffer, then the four slices.
 use crate::writers::put_writers;
+use card::Head;
 ghost use Prim.Native.Nat.{_+_, _<_, _≤_};
 ghost use lib.ListN.{length};
+
+// How many numbers stand in front of the slices.
+pub const LED: usize = 9;
 
 pub fn wide(n: u16) -> usize
     ensures { λ r. ⌜ r < 65536 ⌝ }
@@ -39,23 +43,28 @@ pub fn numbers_in(case: &[u8]) -> [u16; 40000] {
 
 // Slices that are not all there have no line.
 pub fn put_tables(t: &[u16]) {
-    if t.len() < 7 {
+    if t.len() < LED {
         return;
     }
-    let places = 7 + wide(t[2]);
-    let transitions = places + wide(t[3]);
-    let arcs = transitions + wide(t[4]);
-    let end = arcs + wide(t[5]);
+    let places = LED + wide(t[4]);
+    let transitions = places + wide(t[5]);
+    let arcs = transitions + wide(t[6]);
+    let end = arcs + wide(t[7]);
     if t.len() < end {
         return;
     }
+    let head = Head {
+        version: t[0],
+        signals: t[1],
+        limit: t[2],
+        scale: t[3],
+    };
     put_writers(
-        t[0],
-        t[1],
-        &t[7..places],
+        head,
+        &t[LED..places],
         &t[places..transitions],
         &t[transitions..arcs],
         &t[arcs..end],
-        wide(t[6]),
+        wide(t[8]),
     );
 }

@@ -4,6 +4,7 @@ use crate::lines::put_length;
 use crate::lines::put_number;
 use crate::lines::put_refusal;
 use crate::lines::put_text;
+use card::Head;
 use card::writer::CardSpelt;
 use card::writer::SpellAnswer;
 use card::writer::put_card;
@@ -64,21 +65,19 @@ fn put_written(w: Written, out: &[u8]) {
 }
 
 fn put_write(
-    version: u16,
-    signals: u16,
+    head: Head,
     subnets: &[u16],
     places: &[u16],
     transitions: &[u16],
     arcs: &[u16],
     out: &mut [u8],
 ) {
-    let w = write(version, signals, subnets, places, transitions, arcs, out);
+    let w = write(head, subnets, places, transitions, arcs, out);
     put_written(w, out);
 }
 
 pub fn put_writers(
-    version: u16,
-    signals: u16,
+    head: Head,
     subnets: &[u16],
     places: &[u16],
     transitions: &[u16],
@@ -87,18 +86,7 @@ pub fn put_writers(
 )
     requires { ⌜ room < 65536 ⌝ }
 {
-    put_spelt(
-        spell(version, signals, subnets, places, transitions, arcs),
-        room,
-    );
+    put_spelt(spell(head, subnets, places, transitions, arcs), room);
     let mut out = [165; 65536];
-    put_write(
-        version,
-        signals,
-        subnets,
-        places,
-        transitions,
-        arcs,
-        &mut out[..room],
-    );
+    put_write(head, subnets, places, transitions, arcs, &mut out[..room]);
 }

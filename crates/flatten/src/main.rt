@@ -1,6 +1,7 @@
 // Reads a card from standard input and writes the flat card's bytes; of a refused card, one line: no, number, position. Of a longer input
 // the first 33,027 bytes decide (long-input in card/proofs/LongInput.antt), so no more are read.
-use card::TABLE;
+use card::CARD_BYTES;
+use card::INPUT_BYTES;
 use flattening::flatten;
 use hierarchy::Written;
 use hierarchy::fault_number;
@@ -22,7 +23,7 @@ fn put_bytes(bytes: &[u8], n: usize) {
 }
 
 fn put_flat(card: &[u8]) {
-    let mut flat = [0; TABLE];
+    let mut flat = [0; CARD_BYTES];
     match flatten(card, &mut flat) {
         Written::Wrote(n) => put_bytes(&flat, n),
         Written::Refused(f, at) => put_refusal(fault_number(f), at),
@@ -31,7 +32,7 @@ fn put_flat(card: &[u8]) {
 }
 
 fn main() {
-    let mut card = [0; 33027];
+    let mut card = [0; INPUT_BYTES];
     let n = io::read_full(STDIN_FILENO, &mut card);
     put_flat(&card[..n]);
 }

@@ -7,7 +7,7 @@ use native.Mathlib.Omega.{arith}
 use native.Mathlib.Nat.{zero-add}
 use lib.ListN.{length, getD, List·getD-map}
 use Rattle.card.specs.Finite.{sumTo}
-use Rattle.card.specs.Card.{Place, Arc, Card, subnetAt, placeAt, transitionAt, arcAt, firstPlace, firstTransition, firstArc, flatPlace, placeOf}
+use Rattle.card.specs.Card.{Place, Arc, Card, subnetAt, placeAt, transitionAt, arcAt, firstPlace, firstTransition, firstArc, flatPlace, placeOf, noPlace, noArc}
 use Rattle.card.specs.Writing.{encode}
 use Rattle.card.specs.Wellformed.{SubnetRow, PlaceRow, ArcRow, Rows}
 use Rattle.card.proofs.Sums.{sum-owner, sum-below, sum-unique, map-length, all-map, all-of, all-at}
@@ -19,11 +19,11 @@ use Rattle.flattening.specs.Flattening.{flatPlaceRow, flatArc, flatten, 
 -- the rows of the flat card
 pub place-flat : (c : Card) (p : ℕ) → placeAt (flatten c) p ≡ flatPlaceRow (placeAt c p)
 unfolding flatten
-place-flat c p = List·getD-map flatPlaceRow (c .places) p (record { kind = 0; capacity = 0; tokens = 0 })
+place-flat c p = List·getD-map flatPlaceRow (c .places) p noPlace
 
 pub arc-flat : (c : Card) (t j : ℕ) → arcAt (flatten c) t j ≡ flatArc c (arcAt c t j)
 unfolding flatten firstArc firstPlace sumTo
-arc-flat c t j = List·getD-map (flatArc c) (c .arcs) (firstArc c t + j) (record { direction = 0; subnet = 0; place = 0; weight = 0 })
+arc-flat c t j = List·getD-map (flatArc c) (c .arcs) (firstArc c t + j) noArc
 
 pub transition-flat : (c : Card) (t : ℕ) → transitionAt (flatten c) t ≡ transitionAt c t
 unfolding flatten
@@ -65,7 +65,7 @@ pub flatten-bytes : (c : Card) → encode (flatten (flatten c)) ≡ encode (flat
 flatten-bytes c = ap encode (flatten-again c)
 
 abbrev no-arc : Arc
-no-arc = record { direction = 0; subnet = 0; place = 0; weight = 0 }
+no-arc = noArc
 
 within : (c : Card) (t k : ℕ) → firstArc c t ≤ k → k < firstArc c (suc t) → k - firstArc c t < (transitionAt c t) .arcs
 unfolding firstArc sumTo
@@ -210,6 +210,8 @@ flat-meets c m =
         fewSubnets = omega arith;
         someSignals = m .wellformed .someSignals;
         fewSignals = m .wellformed .fewSignals;
+        limit = m .wellformed .limit;
+        scale = m .wellformed .scale;
         rows = flat-rows c m;
       };
       conditions = flat-conditions c m;

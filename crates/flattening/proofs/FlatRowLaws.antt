@@ -7,88 +7,100 @@ use native.Mathlib.Omega.{arith}
 use lib.ListN.{length, getD, set, length-set}
 use lib.Seq.{getD-set-same, getD-set-other}
 use Rattle.card.specs.Finite.{sumTo}
-use Rattle.card.specs.Card.{Arc, Card, subnetAt, placeAt, transitionAt, arcAt, firstPlace, firstTransition, firstArc, flatPlace}
+use Rattle.card.specs.Card.{Arc, Card, subnetAt, placeAt, transitionAt, arcAt, firstPlace, firstTransition, firstArc, flatPlace, noArc}
 use Rattle.card.specs.Index.{subnetRow, transitionRow, placeField, arcField, firstPlaceStart, transitionRowStart, Lists, Loaded}
 use Rattle.card.proofs.Sums.{sum-owner}
 use Rattle.card.proofs.BitLaws.{lt-or-ge}
 use Rattle.card.proofs.Prefix.{places-below, transitions-below}
 use Rattle.card.proofs.Positions.{counted, arcs-few}
 use Rattle.hierarchy.specs.Conditions.{Sees, Meets}
+use Rattle.card.specs.Grammar.{maxCount, maxArcs}
 use Rattle.flattening.proofs.FlatLaws.{there, flat-below}
 use Rattle.flattening.specs.Flattening.{flatPlaceRow, flatArc}
-use Rattle.flattening.specs.inner.FlatRows.{putPlace, putArc, PlaceIs, TransitionIs, ArcIs, PlacesTo, TransitionsTo, ArcsTo}
+use Rattle.flattening.specs.inner.FlatRows.{placeRows, transitionRows, arcRows, putRow, putArc, PlaceIs, TransitionIs, ArcIs, PlacesTo, TransitionsTo, ArcsTo}
 
 -- what an entry holds after two, three, four entries were set
 pub set-long₂ : (xs : List ℕ) (i a j b : ℕ) → length (set (set xs i a) j b) ≡ length xs
 set-long₂ xs i a j b = length-set (set xs i a) j b ∙ length-set xs i a
 
-pub place-long : (rows : List ℕ) (p k m : ℕ) → length (putPlace rows p k m) ≡ length rows
-place-long rows p k m = length-set (set (set rows (3 * p) 0) (3 * p + 1) k) (3 * p + 2) m ∙ set-long₂ rows (3 * p) 0 (3 * p + 1) k
-
 pub arc-long : (rows : List ℕ) (a d p w : ℕ) → length (putArc rows a d p w) ≡ length rows
 arc-long rows a d p w = set-long₂ (set (set rows (4 * a) d) (4 * a + 1) 0) (4 * a + 2) p (4 * a + 3) w ∙ set-long₂ rows (4 * a) d (4 * a + 1) 0
 
-module _ (c : Card) (rows : List ℕ) (p k m : ℕ) (h : PlacesTo c rows p) (l : p < 255) (ek : k ≡ (placeAt c p) .capacity) (em : m ≡ (placeAt c p) .tokens) where
+-- a row of three numbers
+module _ (rows : List ℕ) (i a b d : ℕ) where
   abbrev r₁ : List ℕ
-  r₁ = set rows (3 * p) 0
+  r₁ = set rows (3 * i) a
 
   abbrev r₂ : List ℕ
-  r₂ = set r₁ (3 * p + 1) k
+  r₂ = set r₁ (3 * i + 1) b
 
-  kept : (i : ℕ) → i < 3 * p → getD (putPlace rows p k m) i 0 ≡ getD rows i 0
-  kept i g =
-      getD-set-other r₂ (3 * p + 2) i m 0 (λ e. omega arith) ∙ getD-set-other r₁ (3 * p + 1) i k 0 (λ e. omega arith) ∙ getD-set-other rows (3 * p) i 0 0 (λ e. omega arith)
+  pub row-long : length (putRow rows i a b d) ≡ length rows
+  row-long = length-set r₂ (3 * i + 2) d ∙ set-long₂ rows (3 * i) a (3 * i + 1) b
 
-  stored : PlaceIs (putPlace rows p k m) p (flatPlaceRow (placeAt c p))
-  stored =
-      record {
-        kind =
-            ap (λ (i : ℕ). getD (putPlace rows p k m) i 0) (let e : 3 * p + 0 ≡ 3 * p = omega arith in e)
-            ∙ getD-set-other r₂ (3 * p + 2) (3 * p) m 0 (λ e. omega arith) ∙ getD-set-other r₁ (3 * p + 1) (3 * p) k 0 (λ e. omega arith)
-            ∙ getD-set-same rows (3 * p) 0 0 (omega (arith, h .long));
-        capacity = getD-set-other r₂ (3 * p + 2) (3 * p + 1) m 0 (λ e. omega arith) ∙ getD-set-same r₁ (3 * p + 1) k 0 (omega (arith, h .long, length-set rows (3 * p) 0)) ∙ ek;
-        tokens = getD-set-same r₂ (3 * p + 2) m 0 (omega (arith, h .long, set-long₂ rows (3 * p) 0 (3 * p + 1) k)) ∙ em;
-      }
+  row-kept : (j : ℕ) → j < 3 * i → getD (putRow rows i a b d) j 0 ≡ getD rows j 0
+  row-kept j l =
+      getD-set-other r₂ (3 * i + 2) j d 0 (λ e. omega arith) ∙ getD-set-other r₁ (3 * i + 1) j b 0 (λ e. omega arith) ∙ getD-set-other rows (3 * i) j a 0 (λ e. omega arith)
 
-  pub place-more : PlacesTo c (putPlace rows p k m) (p + 1)
-  place-more =
-      record { long = place-long rows p k m ∙ h .long; held = λ q g. at q g (lt-or-ge q p) }
+  module _ (l : 3 * i + 2 < length rows) where
+    row-first : getD (putRow rows i a b d) (3 * i + 0) 0 ≡ a
+    row-first =
+        ap (λ (j : ℕ). getD (putRow rows i a b d) j 0) (let e : 3 * i + 0 ≡ 3 * i = omega arith in e)
+        ∙ getD-set-other r₂ (3 * i + 2) (3 * i) d 0 (λ e. omega arith) ∙ getD-set-other r₁ (3 * i + 1) (3 * i) b 0 (λ e. omega arith) ∙ getD-set-same rows (3 * i) a 0 (omega arith)
+
+    row-second : getD (putRow rows i a b d) (3 * i + 1) 0 ≡ b
+    row-second = getD-set-other r₂ (3 * i + 2) (3 * i + 1) d 0 (λ e. omega arith) ∙ getD-set-same r₁ (3 * i + 1) b 0 (omega (arith, length-set rows (3 * i) a))
+
+    row-third : getD (putRow rows i a b d) (3 * i + 2) 0 ≡ d
+    row-third = getD-set-same r₂ (3 * i + 2) d 0 (omega (arith, set-long₂ rows (3 * i) a (3 * i + 1) b))
+
+module _ (c : Card) (rows : List ℕ) (p k m : ℕ) (h : PlacesTo c rows p) (l : p < maxCount) (ek : k ≡ (placeAt c p) .capacity) (em : m ≡ (placeAt c p) .tokens) where
+  abbrev places : List ℕ
+  places = putRow rows p 0 k m
+
+  pub place-more : PlacesTo c places (p + 1)
+  place-more = record { long = row-long rows p 0 k m ∙ h .long; held = λ q g. at q g (lt-or-ge q p) }
     where
-      at : (q : ℕ) → q < p + 1 → (q < p) ⊎ (p ≤ q) → PlaceIs (putPlace rows p k m) q (flatPlaceRow (placeAt c q))
+      room : 3 * p + 2 < length rows
+      room = omega (arith, h .long)
+
+      kept : (i : ℕ) → i < 3 * p → getD places i 0 ≡ getD rows i 0
+      kept = row-kept rows p 0 k m
+
+      stored : PlaceIs places p (flatPlaceRow (placeAt c p))
+      stored = record { kind = row-first rows p 0 k m room; capacity = row-second rows p 0 k m room ∙ ek; tokens = row-third rows p 0 k m room ∙ em }
+
+      at : (q : ℕ) → q < p + 1 → (q < p) ⊎ (p ≤ q) → PlaceIs places q (flatPlaceRow (placeAt c q))
       at q g (inl b) =
           let x = h .held q b in
           record { kind = kept (3 * q + 0) (omega arith) ∙ x .kind; capacity = kept (3 * q + 1) (omega arith) ∙ x .capacity; tokens = kept (3 * q + 2) (omega arith) ∙ x .tokens }
-      at q g (inr b) = let e : p ≡ q = omega arith in subst (λ (i : ℕ). PlaceIs (putPlace rows p k m) i (flatPlaceRow (placeAt c i))) e stored
+      at q g (inr b) = let e : p ≡ q = omega arith in subst (λ (i : ℕ). PlaceIs places i (flatPlaceRow (placeAt c i))) e stored
 
-module _ (c : Card) (rows : List ℕ) (t g k : ℕ) (h : TransitionsTo c rows t) (l : t < 255) (eg : g ≡ (transitionAt c t) .signal) (ek : k ≡ (transitionAt c t) .arcs) where
-  abbrev t₁ : List ℕ
-  t₁ = set rows (2 * t) g
+module _ (c : Card) (rows : List ℕ) (t g k r : ℕ) (h : TransitionsTo c rows t) (l : t < maxCount) (eg : g ≡ (transitionAt c t) .signal) (ek : k ≡ (transitionAt c t) .arcs) (er : r ≡ (transitionAt c t) .rank) where
+  abbrev transitions : List ℕ
+  transitions = putRow rows t g k r
 
-  abbrev t₂ : List ℕ
-  t₂ = set t₁ (2 * t + 1) k
-
-  pub transition-more : TransitionsTo c t₂ (t + 1)
-  transition-more = record { long = set-long₂ rows (2 * t) g (2 * t + 1) k ∙ h .long; held = λ u b. at u b (lt-or-ge u t) }
+  pub transition-more : TransitionsTo c transitions (t + 1)
+  transition-more = record { long = row-long rows t g k r ∙ h .long; held = λ u b. at u b (lt-or-ge u t) }
     where
-      kept : (i : ℕ) → i < 2 * t → getD t₂ i 0 ≡ getD rows i 0
-      kept i b = getD-set-other t₁ (2 * t + 1) i k 0 (λ e. omega arith) ∙ getD-set-other rows (2 * t) i g 0 (λ e. omega arith)
+      room : 3 * t + 2 < length rows
+      room = omega (arith, h .long)
 
-      stored : TransitionIs t₂ t (transitionAt c t)
-      stored =
-          let z : 2 * t + 0 ≡ 2 * t = omega arith in
-          record {
-            signal = ap (λ (i : ℕ). getD t₂ i 0) z ∙ getD-set-other t₁ (2 * t + 1) (2 * t) k 0 (λ e. omega arith) ∙ getD-set-same rows (2 * t) g 0 (omega (arith, h .long)) ∙ eg;
-            arcs = getD-set-same t₁ (2 * t + 1) k 0 (omega (arith, h .long, length-set rows (2 * t) g)) ∙ ek;
-          }
+      kept : (i : ℕ) → i < 3 * t → getD transitions i 0 ≡ getD rows i 0
+      kept = row-kept rows t g k r
 
-      at : (u : ℕ) → u < t + 1 → (u < t) ⊎ (t ≤ u) → TransitionIs t₂ u (transitionAt c u)
-      at u b (inl d) = let x = h .held u d in record { signal = kept (2 * u + 0) (omega arith) ∙ x .signal; arcs = kept (2 * u + 1) (omega arith) ∙ x .arcs }
-      at u b (inr d) = let e : t ≡ u = omega arith in subst (λ (i : ℕ). TransitionIs t₂ i (transitionAt c i)) e stored
+      stored : TransitionIs transitions t (transitionAt c t)
+      stored = record { signal = row-first rows t g k r room ∙ eg; arcs = row-second rows t g k r room ∙ ek; rank = row-third rows t g k r room ∙ er }
+
+      at : (u : ℕ) → u < t + 1 → (u < t) ⊎ (t ≤ u) → TransitionIs transitions u (transitionAt c u)
+      at u b (inl d) =
+          let x = h .held u d in
+          record { signal = kept (3 * u + 0) (omega arith) ∙ x .signal; arcs = kept (3 * u + 1) (omega arith) ∙ x .arcs; rank = kept (3 * u + 2) (omega arith) ∙ x .rank }
+      at u b (inr d) = let e : t ≡ u = omega arith in subst (λ (i : ℕ). TransitionIs transitions i (transitionAt c i)) e stored
 
 abbrev pub arcNo : Card → (a : ℕ) → Arc
-arcNo c a = getD (c .arcs) a (record { direction = 0; subnet = 0; place = 0; weight = 0 })
+arcNo c a = getD (c .arcs) a noArc
 
-module _ (c : Card) (rows : List ℕ) (a d p w : ℕ) (h : ArcsTo c rows a) (l : a < 7905) (ed : d ≡ (arcNo c a) .direction) (ep : p ≡ flatPlace c (arcNo c a)) (ew : w ≡ (arcNo c a) .weight) where
+module _ (c : Card) (rows : List ℕ) (a d p w : ℕ) (h : ArcsTo c rows a) (l : a < (maxArcs * maxCount)) (ed : d ≡ (arcNo c a) .direction) (ep : p ≡ flatPlace c (arcNo c a)) (ew : w ≡ (arcNo c a) .weight) where
   abbrev a₁ : List ℕ
   a₁ = set rows (4 * a) d
 
@@ -101,7 +113,7 @@ module _ (c : Card) (rows : List ℕ) (a d p w : ℕ) (h : ArcsTo c rows a) (l :
   pub arc-more : ArcsTo c (putArc rows a d p w) (a + 1)
   arc-more = record { long = arc-long rows a d p w ∙ h .long; held = λ b g. at b g (lt-or-ge b a) }
     where
-      long₂ : length a₂ ≡ 31620
+      long₂ : length a₂ ≡ arcRows
       long₂ = set-long₂ rows (4 * a) d (4 * a + 1) 0 ∙ h .long
 
       kept : (i : ℕ) → i < 4 * a → getD (putArc rows a d p w) i 0 ≡ getD rows i 0
@@ -135,10 +147,10 @@ module _ (c : Card) (m : Meets c) where
   pub few-places : (s : ℕ) → s < length (c .subnets) → firstPlace c (suc s) ≤ 255
   few-places s l = omega (arith, places-below c (counted c (m .wellformed)) (suc s) l, m .wellformed .rows .fewPlaces)
 
-  pub few-arcs : (t : ℕ) → t < length (c .transitions) → firstArc c (suc t) ≤ 7905
+  pub few-arcs : (t : ℕ) → t < length (c .transitions) → firstArc c (suc t) ≤ (maxArcs * maxCount)
   few-arcs t l = omega (arith, arcs-few c (suc t) (m .wellformed .rows .transitions) l, m .wellformed .rows .fewTransitions)
 
-  pub few-all-arcs : length (c .arcs) ≤ 7905
+  pub few-all-arcs : length (c .arcs) ≤ (maxArcs * maxCount)
   few-all-arcs = omega (arith, arcs-few c (length (c .transitions)) (m .wellformed .rows .transitions) (omega arith), m .wellformed .rows .arcCount, m .wellformed .rows .fewTransitions)
 
   pub next-place : (s : ℕ) → firstPlace c (suc s) ≡ firstPlace c s + (subnetAt c s) .places
@@ -156,7 +168,7 @@ module _ (c : Card) (m : Meets c) where
     -- one place more of subnet s
     pub places-turn : (s row first count n : ℕ) (rows : List ℕ) (k w : ℕ) → s < length (c .subnets) → row ≡ subnetRow c s → first ≡ firstPlace c s → count ≡ getD numbers (row + 2) 0
         → PlacesTo c rows (firstPlace c s + n) → n < count → k ≡ getD numbers (placeField row n 1) 0 → w ≡ getD numbers (placeField row n 2) 0
-        → PlacesTo c (putPlace rows (first + n) k w) (firstPlace c s + (n + 1))
+        → PlacesTo c (putRow rows (first + n) 0 k w) (firstPlace c s + (n + 1))
     places-turn s row first count n rows k w l er ef ec x b ek ew =
         let e : count ≡ (subnetAt c s) .places = ec ∙ rw er (h .laid .subnet s l .places) in
         let d : n < (subnetAt c s) .places = omega (arith, e) in
@@ -182,13 +194,13 @@ module _ (c : Card) (m : Meets c) where
         let o = sum-owner (length (c .subnets)) (λ r. (subnetAt c r) .transitions) t (omega (arith, m .wellformed .rows .transitionCount)) in
         record { subnet = o .range; lists = record { subnet = o .below; first = o .low; last = o .high } }
 
-    pub transitions-turn : (t row g k : ℕ) (rows : List ℕ) → TransitionsTo c rows t → t < length (c .transitions) → row ≡ getD starts (transitionRowStart t) 0
-        → g ≡ getD numbers row 0 → k ≡ getD numbers (row + 1) 0 → TransitionsTo c (set (set rows (2 * t) g) (2 * t + 1) k) (t + 1)
-    transitions-turn t row g k rows x l er eg ek =
+    pub transitions-turn : (t row g k v : ℕ) (rows : List ℕ) → TransitionsTo c rows t → t < length (c .transitions) → row ≡ getD starts (transitionRowStart t) 0
+        → g ≡ getD numbers row 0 → k ≡ getD numbers (row + 1) 0 → v ≡ getD numbers (row + 2) 0 → TransitionsTo c (putRow rows t g k v) (t + 1)
+    transitions-turn t row g k v rows x l er eg ek ev =
         let o = owned t l in
         let r : row ≡ transitionRow c (o .subnet) t = er ∙ h .indexed .transitionRow (o .subnet) t (o .lists) in
         let y = h .laid .transition (o .subnet) t (o .lists) in
-        transition-more c rows t g k x (omega (arith, m .wellformed .rows .fewTransitions)) (eg ∙ rw r (y .signal)) (ek ∙ rw r (y .arcs))
+        transition-more c rows t g k v x (omega (arith, m .wellformed .rows .fewTransitions)) (eg ∙ rw r (y .signal)) (ek ∙ rw r (y .arcs)) (ev ∙ rw r (y .rank))
 
     module _ (i t row j : ℕ) (l : Lists c i t) (er : row ≡ transitionRow c i t) (b : j < (transitionAt c t) .arcs) where
       sees : Sees c i ((arcAt c t j) .subnet) ((arcAt c t j) .place)
@@ -238,13 +250,13 @@ pub no-arc : (c : Card) → 0 ≡ firstArc c 0
 unfolding firstArc sumTo
 no-arc c = refl
 
-pub no-places : (c : Card) (rows : List ℕ) → length rows ≡ 765 → PlacesTo c rows (firstPlace c 0)
+pub no-places : (c : Card) (rows : List ℕ) → length rows ≡ placeRows → PlacesTo c rows (firstPlace c 0)
 unfolding firstPlace sumTo
 no-places c rows l = record { long = l; held = λ p g. absurd (omega arith) }
 
-pub no-transitions : (c : Card) (rows : List ℕ) → length rows ≡ 510 → TransitionsTo c rows 0
+pub no-transitions : (c : Card) (rows : List ℕ) → length rows ≡ transitionRows → TransitionsTo c rows 0
 no-transitions c rows l = record { long = l; held = λ p g. absurd (omega arith) }
 
-pub no-arcs : (c : Card) (rows : List ℕ) → length rows ≡ 31620 → ArcsTo c rows (firstArc c 0)
+pub no-arcs : (c : Card) (rows : List ℕ) → length rows ≡ arcRows → ArcsTo c rows (firstArc c 0)
 unfolding firstArc sumTo
 no-arcs c rows l = record { long = l; held = λ p g. absurd (omega arith) }

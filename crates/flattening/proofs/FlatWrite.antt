@@ -7,8 +7,8 @@ use lib.ListN.{length, getD, take, List·getD-map}
 use lib.Seq.{ext-getD, getD-take, length-take-le}
 use borrow.Author.Tests.{eq-eqb}
 use Rattle.card.specs.Finite.{table}
-use Rattle.card.specs.Card.{Place, Transition, Arc, Card, placeAt, transitionAt}
-use Rattle.card.specs.Rows.{entry, tablesIn, wholeRows, readRows}
+use Rattle.card.specs.Card.{Place, Transition, Arc, Card, placeAt, transitionAt, noPlace, noTransition, noArc, transitionFields}
+use Rattle.card.specs.Rows.{entry, tablesIn, wholeRows, readRows, headOf}
 use Rattle.card.specs.Writing.{encode}
 use Rattle.card.proofs.Sums.{table-length, table-at, map-length}
 use Rattle.hierarchy.specs.Conditions.{Meets}
@@ -24,6 +24,7 @@ use Rattle.hierarchy.specs.declared.check.CheckedCard.{CheckedCard}
 use Rattle.hierarchy.proofs.Accepted.{accepted-meets, accepted-loaded, meets-written}
 use Rattle.flattening.specs.Flattening.{flatPlaceRow, flatArc, flatten, flattenCall}
 use Rattle.flattening.specs.inner.FlatRows.{Sizes, PlacesTo, TransitionsTo, ArcsTo}
+use Rattle.card.specs.Grammar.{maxCount, maxArcs}
 use Rattle.flattening.proofs.FlatLaws.{flat-meets}
 
 map-same : {A : Type 0} (xs : List A) → map (λ x. x) xs ≡ xs
@@ -47,7 +48,7 @@ rows-map f xs d n row e h =
     (λ i l. let b : i < n = omega (arith, table-length 0 n row) in table-at n row (f d) i b ∙ h i (omega arith) ∙ sym (List·getD-map f xs i d))
 
 module _ (c : Card) (m : Meets c) (ps ts arcs : List ℕ) (hp : PlacesTo c ps (length (c .places))) (ht : TransitionsTo c ts (length (c .transitions))) (ha : ArcsTo c arcs (length (c .arcs)))
-    (few : length (c .arcs) ≤ 7905) where
+    (few : length (c .arcs) ≤ maxArcs * maxCount) where
   abbrev P : ℕ
   P = length (c .places)
 
@@ -60,8 +61,8 @@ module _ (c : Card) (m : Meets c) (ps ts arcs : List ℕ) (hp : PlacesTo c ps (l
   places-long : length (take (3 * P) ps) ≡ 3 * P
   places-long = cut-long 3 P ps (omega (arith, hp .long, m .wellformed .rows .fewPlaces))
 
-  transitions-long : length (take (2 * T) ts) ≡ 2 * T
-  transitions-long = cut-long 2 T ts (omega (arith, ht .long, m .wellformed .rows .fewTransitions))
+  transitions-long : length (take (transitionFields * T) ts) ≡ transitionFields * T
+  transitions-long = cut-long transitionFields T ts (omega (arith, ht .long, m .wellformed .rows .fewTransitions))
 
   arcs-long : length (take (4 * A) arcs) ≡ 4 * A
   arcs-long = cut-long 4 A arcs (omega (arith, ha .long, few))
@@ -71,43 +72,43 @@ module _ (c : Card) (m : Meets c) (ps ts arcs : List ℕ) (hp : PlacesTo c ps (l
       let x = hp .held i l in
       rw (cut-entry 3 P ps i 0 (omega arith), cut-entry 3 P ps i 1 (omega arith), cut-entry 3 P ps i 2 (omega arith), x .kind, x .capacity, x .tokens)
 
-  same-transition : (i : ℕ) → i < T → _≡_ {A = Transition} (record { signal = entry (take (2 * T) ts) 2 i 0; arcs = entry (take (2 * T) ts) 2 i 1 }) (transitionAt c i)
+  same-transition : (i : ℕ) → i < T → _≡_ {A = Transition} (record { signal = entry (take (transitionFields * T) ts) transitionFields i 0; arcs = entry (take (transitionFields * T) ts) transitionFields i 1; rank = entry (take (transitionFields * T) ts) transitionFields i 2 }) (transitionAt c i)
   same-transition i l =
       let x = ht .held i l in
-      rw (cut-entry 2 T ts i 0 (omega arith), cut-entry 2 T ts i 1 (omega arith), x .signal, x .arcs)
+      rw (cut-entry transitionFields T ts i 0 (omega arith), cut-entry transitionFields T ts i 1 (omega arith), cut-entry transitionFields T ts i 2 (omega arith), x .signal, x .arcs, x .rank)
 
   same-arc : (i : ℕ) → i < A
       → _≡_ {A = Arc} (record { direction = entry (take (4 * A) arcs) 4 i 0; subnet = entry (take (4 * A) arcs) 4 i 1; place = entry (take (4 * A) arcs) 4 i 2; weight = entry (take (4 * A) arcs) 4 i 3 })
-      (flatArc c (getD (c .arcs) i (record { direction = 0; subnet = 0; place = 0; weight = 0 })))
+      (flatArc c (getD (c .arcs) i noArc))
   same-arc i l =
       let x = ha .held i l in
       rw (cut-entry 4 A arcs i 0 (omega arith), cut-entry 4 A arcs i 1 (omega arith), cut-entry 4 A arcs i 2 (omega arith), cut-entry 4 A arcs i 3 (omega arith), x .direction, x .subnet, x .place, x .weight)
 
   -- THE ROWS ARE THE FLAT CARD'S TABLES
-  flat-tables : tablesIn (c .version) (c .signals) (0 ∷ 0 ∷ P ∷ T ∷ []) (take (3 * P) ps) (take (2 * T) ts) (take (4 * A) arcs) ≡ flatten c
+  flat-tables : tablesIn (headOf c) (0 ∷ 0 ∷ P ∷ T ∷ []) (take (3 * P) ps) (take (transitionFields * T) ts) (take (4 * A) arcs) ≡ flatten c
   unfolding tablesIn flatten table
   flat-tables =
       rw (
-        rows-map flatPlaceRow (c .places) (record { kind = 0; capacity = 0; tokens = 0 }) (length (take (3 * P) ps) / 3) _ (omega (arith, places-long)) same-place,
-        rows-map (λ x. x) (c .transitions) (record { signal = 0; arcs = 0 }) (length (take (2 * T) ts) / 2) _ (omega (arith, transitions-long)) same-transition,
-        rows-map (flatArc c) (c .arcs) (record { direction = 0; subnet = 0; place = 0; weight = 0 }) (length (take (4 * A) arcs) / 4) _ (omega (arith, arcs-long)) same-arc,
+        rows-map flatPlaceRow (c .places) noPlace (length (take (3 * P) ps) / 3) _ (omega (arith, places-long)) same-place,
+        rows-map (λ x. x) (c .transitions) noTransition (length (take (transitionFields * T) ts) / transitionFields) _ (omega (arith, transitions-long)) same-transition,
+        rows-map (flatArc c) (c .arcs) noArc (length (take (4 * A) arcs) / 4) _ (omega (arith, arcs-long)) same-arc,
         map-same (c .transitions),
       )
 
-  judged-flat : judged (readRows (c .version) (c .signals) (0 ∷ 0 ∷ P ∷ T ∷ []) (take (3 * P) ps) (take (2 * T) ts) (take (4 * A) arcs)) ≡ accepted (flatten c)
+  judged-flat : judged (readRows (headOf c) (0 ∷ 0 ∷ P ∷ T ∷ []) (take (3 * P) ps) (take (transitionFields * T) ts) (take (4 * A) arcs)) ≡ accepted (flatten c)
   unfolding readRows wholeRows judgeTables
   judged-flat =
       rw (
         eq-eqb (length (take (3 * P) ps) % 3) 0 (omega (arith, places-long)),
-        eq-eqb (length (take (2 * T) ts) % 2) 0 (omega (arith, transitions-long)),
+        eq-eqb (length (take (transitionFields * T) ts) % transitionFields) 0 (omega (arith, transitions-long)),
         eq-eqb (length (take (4 * A) arcs) % 4) 0 (omega (arith, arcs-long)),
         flat-tables,
       ) (unfold judgeTables in meets-written (flatten c) (flat-meets c m))
 
-  pub flat-written : (v g p t a : ℕ) → v ≡ c .version → g ≡ c .signals → p ≡ P → t ≡ T → a ≡ A → (buffer out : List ℕ) (r : Written)
-      → IsWritten (writeRows v g (0 ∷ 0 ∷ p ∷ t ∷ []) (take (3 * p) ps) (take (2 * t) ts) (take (4 * a) arcs) buffer) r out → IsWritten (delivered (accepted c) (λ d. encode (flatten d)) buffer) r out
+  pub flat-written : (v g l q p t a : ℕ) → v ≡ c .version → g ≡ c .signals → l ≡ c .limit → q ≡ c .scale → p ≡ P → t ≡ T → a ≡ A → (buffer out : List ℕ) (r : Written)
+      → IsWritten (writeRows (record { version = v; signals = g; limit = l; scale = q }) (0 ∷ 0 ∷ p ∷ t ∷ []) (take (3 * p) ps) (take (transitionFields * t) ts) (take (4 * a) arcs) buffer) r out → IsWritten (delivered (accepted c) (λ d. encode (flatten d)) buffer) r out
   unfolding writeRows
-  flat-written v g p t a ev eg ep et ea buffer out r h = subst (λ (x : Judgement). IsWritten (delivered x encode buffer) r out) judged-flat (rw (ev, eg, ep, et, ea) at h)
+  flat-written v g l q p t a ev eg el eq ep et ea buffer out r h = subst (λ (x : Judgement). IsWritten (delivered x encode buffer) r out) judged-flat (rw (ev, eg, el, eq, ep, et, ea) at h)
 
 -- flattening a card that was checked
 module _ (bytes buffer : List ℕ) (k : CheckedCard) (h : IsChecked (judge bytes) k) where

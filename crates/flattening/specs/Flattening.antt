@@ -22,6 +22,8 @@ flatten c =
     record {
       version = c .version;
       signals = c .signals;
+      limit = c .limit;
+      scale = c .scale;
       subnets = record { parent = 0; type = 0; places = length (c .places); transitions = length (c .transitions) } ∷ [];
       places = map flatPlaceRow (c .places);
       transitions = c .transitions;

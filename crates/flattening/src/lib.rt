@@ -1,7 +1,16 @@
 // Flattening: the flat card of a card, written into a lent buffer. specs/ says which card it is.
 mod rows;
 
+use card::ARC_FIELDS;
+use card::Head;
+use card::MOST_ARCS;
+use card::MOST_PLACES;
+use card::MOST_TRANSITIONS;
+use card::PLACE_FIELDS;
+use card::TRANSITION_FIELDS;
+use card::tables::limit;
 use card::tables::narrow;
+use card::tables::scale;
 use card::tables::signals;
 use card::tables::version;
 use hierarchy::Answer;
@@ -40,24 +49,27 @@ fn write_flat<'a>(
     if 255 < transitions {
         return Written::Short(0);
     }
-    let mut place_rows = [0; 765];
+    let mut place_rows = [0; PLACE_FIELDS * MOST_PLACES];
     flat_places(numbers, starts, subnets, &mut place_rows);
-    let mut transition_rows = [0; 510];
+    let mut transition_rows = [0; TRANSITION_FIELDS * MOST_TRANSITIONS];
     flat_transitions(numbers, starts, transitions, &mut transition_rows);
-    let mut arc_rows = [0; 31620];
+    let mut arc_rows = [0; ARC_FIELDS * MOST_ARCS * MOST_TRANSITIONS];
     let arcs = flat_arcs(numbers, starts, transitions, &mut arc_rows);
     if 7905 < arcs {
         return Written::Short(0);
     }
     let main_net = [0, 0, places, transitions];
-    let p = 3 * places as usize;
-    let t = 2 * transitions as usize;
-    let a = 4 * arcs as usize;
-    let v = version(numbers);
-    let g = signals(numbers);
+    let p = PLACE_FIELDS * places as usize;
+    let t = TRANSITION_FIELDS * transitions as usize;
+    let a = ARC_FIELDS * arcs as usize;
+    let head = Head {
+        version: version(numbers),
+        signals: signals(numbers),
+        limit: limit(numbers),
+        scale: scale(numbers),
+    };
     write(
-        v,
-        g,
+        head,
         &main_net,
         &place_rows[..p],
         &transition_rows[..t],

@@ -1,5 +1,7 @@
 // The rows of the flat card, out of a card's two tables. Every function takes any slices; what it stores is the flat card's where they
 // hold an accepted card.
+use card::ARC_FIELDS;
+use card::PLACE_FIELDS;
 use card::tables::arc_count;
 use card::tables::arc_direction;
 use card::tables::arc_place;
@@ -9,6 +11,7 @@ use card::tables::capacity;
 use card::tables::first_place;
 use card::tables::narrow;
 use card::tables::place_count;
+use card::tables::rank;
 use card::tables::signal;
 use card::tables::subnet_row;
 use card::tables::tokens;
@@ -20,7 +23,7 @@ ghost use lib.ListN.{length, set};
 ghost use Rattle.card.specs.Card.{Card, transitionAt, arcAt, firstPlace, firstArc, flatPlace};
 ghost use Rattle.card.specs.Index.{Lists, Loaded, subnetRow, transitionRow};
 ghost use Rattle.hierarchy.specs.Conditions.{Meets};
-ghost use Rattle.flattening.specs.inner.FlatRows.{putPlace, putArc, PlacesTo, TransitionsTo, ArcsTo};
+ghost use Rattle.flattening.specs.inner.FlatRows.{placeRows, transitionRows, arcRows, putRow, putArc, PlacesTo, TransitionsTo, ArcsTo};
 
 // Stores entry i; past the end it stores nothing.
 fn put(rows: &mut [u16], i: usize, v: u16)
@@ -31,14 +34,15 @@ fn put(rows: &mut [u16], i: usize, v: u16)
     }
 }
 
-fn put_place(rows: &mut [u16], p: usize, capacity: u16, tokens: u16)
-    requires { ⌜ p < 1000000 ⌝ }
-    ensures { λ r. ⌜ now (rows .exit) ≡ putPlace (now (rows .entry)) p capacity tokens ⌝ }
+// Row i of places or of transitions: both have three numbers.
+fn put_row(rows: &mut [u16], i: usize, a: u16, b: u16, d: u16)
+    requires { ⌜ i < 1000000 ⌝ }
+    ensures { λ r. ⌜ now (rows .exit) ≡ putRow (now (rows .entry)) i a b d ⌝ }
 {
-    let i = 3 * p;
-    put(rows, i, 0);
-    put(rows, i + 1, capacity);
-    put(rows, i + 2, tokens);
+    let k = PLACE_FIELDS * i;
+    put(rows, k, a);
+    put(rows, k + 1, b);
+    put(rows, k + 2, d);
 }
 
 // The places of the subnet whose row begins at row; first is the flat number of its first one.
@@ -50,7 +54,13 @@ fn flat_places_of(numbers: &[u16], row: u32, first: u16, rows: &mut [u16])
     let mut n = 0;
     while n < count {
         let p = first as usize + n as usize;
-        put_place(rows, p, capacity(numbers, row, n), tokens(numbers, row, n));
+        put_row(
+            rows,
+            p,
+            0,
+            capacity(numbers, row, n),
+            tokens(numbers, row, n),
+        );
         n += 1;
     }
 }
@@ -58,7 +68,7 @@ fn flat_places_of(numbers: &[u16], row: u32, first: u16, rows: &mut [u16])
 // The places of all subnets.
 pub fn flat_places(numbers: &[u16], starts: &[u32], subnets: u16, rows: &mut [u16])
     ensures { λ r. ⌜ length (now (rows .exit)) ≡ length (now (rows .entry)) ⌝ }
-    ensures { λ r. ⌜ ((c : Card) → Meets c → Loaded c (now (numbers .entry)) (now (starts .entry)) → subnets ≡ length (c .subnets) → length (now (rows .entry)) ≡ 765 → PlacesTo c (now (rows .exit)) (length (c .places))) ⌝ }
+    ensures { λ r. ⌜ ((c : Card) → Meets c → Loaded c (now (numbers .entry)) (now (starts .entry)) → subnets ≡ length (c .subnets) → length (now (rows .entry)) ≡ placeRows → PlacesTo c (now (rows .exit)) (length (c .places))) ⌝ }
 {
     let mut s = 0;
     while s < subnets {
@@ -70,14 +80,18 @@ pub fn flat_places(numbers: &[u16], starts: &[u32], subnets: u16, rows: &mut [u1
 
 pub fn flat_transitions(numbers: &[u16], starts: &[u32], transitions: u16, rows: &mut [u16])
     ensures { λ r. ⌜ length (now (rows .exit)) ≡ length (now (rows .entry)) ⌝ }
-    ensures { λ r. ⌜ ((c : Card) → Meets c → Loaded c (now (numbers .entry)) (now (starts .entry)) → transitions ≡ length (c .transitions) → length (now (rows .entry)) ≡ 510 → TransitionsTo c (now (rows .exit)) (length (c .transitions))) ⌝ }
+    ensures { λ r. ⌜ ((c : Card) → Meets c → Loaded c (now (numbers .entry)) (now (starts .entry)) → transitions ≡ length (c .transitions) → length (now (rows .entry)) ≡ transitionRows → TransitionsTo c (now (rows .exit)) (length (c .transitions))) ⌝ }
 {
     let mut t = 0;
     while t < transitions {
         let row = transition_row(starts, t as u32);
-        let i = 2 * t as usize;
-        put(rows, i, signal(numbers, row));
-        put(rows, i + 1, arc_count(numbers, row));
+        put_row(
+            rows,
+            t as usize,
+            signal(numbers, row),
+            arc_count(numbers, row),
+            rank(numbers, row),
+        );
         t += 1;
     }
 }
@@ -86,7 +100,7 @@ fn put_arc(rows: &mut [u16], a: usize, direction: u16, place: u16, weight: u16)
     requires { ⌜ a < 1000000 ⌝ }
     ensures { λ r. ⌜ now (rows .exit) ≡ putArc (now (rows .entry)) a direction place weight ⌝ }
 {
-    let i = 4 * a;
+    let i = ARC_FIELDS * a;
     put(rows, i, direction);
     put(rows, i + 1, 0);
     put(rows, i + 2, place);
@@ -126,7 +140,7 @@ fn flat_arcs_of(numbers: &[u16], starts: &[u32], row: u32, first: u16, rows: &mu
 // The arcs of all transitions, and how many there are.
 pub fn flat_arcs(numbers: &[u16], starts: &[u32], transitions: u16, rows: &mut [u16]) -> u16
     ensures { λ r. ⌜ length (now (rows .exit)) ≡ length (now (rows .entry)) ⌝ }
-    ensures { λ r. ⌜ ((c : Card) → Meets c → Loaded c (now (numbers .entry)) (now (starts .entry)) → transitions ≡ length (c .transitions) → length (now (rows .entry)) ≡ 31620 → (r ≡ length (c .arcs)) × ArcsTo c (now (rows .exit)) (length (c .arcs))) ⌝ }
+    ensures { λ r. ⌜ ((c : Card) → Meets c → Loaded c (now (numbers .entry)) (now (starts .entry)) → transitions ≡ length (c .transitions) → length (now (rows .entry)) ≡ arcRows → (r ≡ length (c .arcs)) × ArcsTo c (now (rows .exit)) (length (c .arcs))) ⌝ }
 {
     let mut a = 0;
     let mut t = 0;

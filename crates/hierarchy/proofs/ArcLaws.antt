@@ -10,7 +10,7 @@ use lib.ListN.{length, getD, List·getD-eq-default}
 use lib.Dec.{ltb, leb, eqb}
 use borrow.Author.Tests.{ltb-true, ltb-false, lt-ltb, le-ltb, lt-leb, le-leb, eq-eqb, ne-eqb, not-true, not-false}
 use Rattle.card.proofs.TableLaws.{no-yes}
-use Rattle.card.specs.Card.{Arc, Subnet, Card, subnetAt, placeAt, transitionAt, arcAt, firstPlace, firstTransition, placeOf}
+use Rattle.card.specs.Card.{Arc, Subnet, Card, subnetAt, placeAt, transitionAt, arcAt, firstPlace, firstTransition, placeOf, noSubnet}
 use Rattle.card.specs.Index.{ArcThere, Lists, Laid, Indexed, Loaded, placeField, arcField, transitionBitStart, transitionRowStart, firstTransitionStart}
 use Rattle.card.specs.Format.{size}
 use Rattle.card.specs.Grammar.{transition, arc}
@@ -32,7 +32,7 @@ place-subnet c s n p = go (ltb s (length (c .subnets))) refl
     go : (b : Bool) → ltb s (length (c .subnets)) ≡ b → s < length (c .subnets)
     go true e = ltb-true s (length (c .subnets)) e
     go false e =
-        let q = ap (λ (r : Subnet). r .places) (List·getD-eq-default (c .subnets) (record { parent = 0; type = 0; places = 0; transitions = 0 }) {n = s} (ltb-false s (length (c .subnets)) e)) in
+        let q = ap (λ (r : Subnet). r .places) (List·getD-eq-default (c .subnets) noSubnet {n = s} (ltb-false s (length (c .subnets)) e)) in
         absurd (omega (arith, p, q))
 
 module _ {c : Card} {numbers starts : List ℕ} (l : Loaded c numbers starts) where
@@ -216,10 +216,10 @@ failed {r} e n = sym e ∙ not-true r n
 
 -- 10 to 13 at arc j, which is a
 module _ {c : Card} {i t : ℕ} (h : Lists c i t) (j : ℕ) {a : Arc} (q : a ≡ arcAt c t j) where
-  module _ {starts : List ℕ} {bit : ℕ} (x : Indexed c starts) (e : bit ≡ getD starts (transitionBitStart t) 0 + size (transition 0) + size arc * j) where
+  module _ {starts : List ℕ} {bit : ℕ} {v : ℕ} (x : Indexed c starts) (ev : v ≡ c .version) (e : bit ≡ getD starts (transitionBitStart t) 0 + size (transition v 0) + size arc * j) where
     bit-is : bit ≡ arcBit c i t j
     unfolding arcBit
-    bit-is = e ∙ ap (λ (b : ℕ). b + size (transition 0) + size arc * j) (x .transitionBit i t h)
+    bit-is = e ∙ rw (ev, x .transitionBit i t h)
 
     pub fault-unseen : seen c i a ≡ false → some (record { why = Unseen; bit = bit }) ≡ arcFault c i t j
     unfolding arcFault

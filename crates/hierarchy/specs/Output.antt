@@ -20,6 +20,7 @@ use Rattle.hierarchy.specs.declared.Answer.the-variants.{Accepted, Refus
 use Rattle.hierarchy.specs.declared.CardFault.the-variants.{Format}
 use Rattle.card.specs.declared.writer.SpellAnswer.{SpellAnswer}
 use Rattle.card.specs.declared.writer.SpellAnswer.the-variants.{Whole, Refused as Unspelt}
+use Rattle.card.specs.declared.Head.{Head}
 
 -- 24 output buffer too short, with the length needed
 abbrev pub fitted : (fits : Bool) → (length : ℕ) → WriteOutcome
@@ -32,8 +33,8 @@ delivered (accepted c) bytes buffer = (fitted (leb (length (bytes c)) (length bu
 delivered (refused n at) bytes buffer = (Numbers.WriteOutcome.refused n at, buffer)
 
 -- the writer, with the tables in lent slices, row after row; a slice that ends inside a row is 17 too
-unfoldable pub writeRows : (version signals : ℕ) → (subnets places transitions arcs buffer : List ℕ) → WriteOutcome × List ℕ
-writeRows version signals subnets places transitions arcs buffer = delivered (judged (readRows version signals subnets places transitions arcs)) encode buffer
+unfoldable pub writeRows : Head → (subnets places transitions arcs buffer : List ℕ) → WriteOutcome × List ℕ
+writeRows head subnets places transitions arcs buffer = delivered (judged (readRows head subnets places transitions arcs)) encode buffer
 
 -- an answer of the code, and what the buffer holds after the call
 pub record IsWritten (x : WriteOutcome × List ℕ) (r : Written) (buffer : List ℕ) : Type 0 where

@@ -150,16 +150,16 @@ fn arc_fault(
 {
     let a = arc_at(numbers, row, j);
     if !seen(numbers, starts, subnets, i, a) {
-        return Finding::Fault(CardFault::Unseen, arc_bit(starts, t, j));
+        return Finding::Fault(CardFault::Unseen, arc_bit(numbers, starts, t, j));
     }
     if !directed(numbers, starts, i, a) {
-        return Finding::Fault(CardFault::Direction, arc_bit(starts, t, j));
+        return Finding::Fault(CardFault::Direction, arc_bit(numbers, starts, t, j));
     }
     if !weighted(numbers, starts, a) {
-        return Finding::Fault(CardFault::Weight, arc_bit(starts, t, j));
+        return Finding::Fault(CardFault::Weight, arc_bit(numbers, starts, t, j));
     }
     if !single(numbers, row, j, a) {
-        return Finding::Fault(CardFault::Repeated, arc_bit(starts, t, j));
+        return Finding::Fault(CardFault::Repeated, arc_bit(numbers, starts, t, j));
     }
     Finding::Nothing
 }

@@ -3,6 +3,7 @@ use crate::Answer;
 use crate::CardFault;
 use crate::Written;
 use crate::check::check;
+use card::Head;
 use card::writer::SpellAnswer;
 use card::writer::put_card;
 use card::writer::spell;
@@ -28,20 +29,19 @@ pub fn check_refused(a: Answer) -> Written
     }
 }
 
-// Writes the card that tables make; the tables are numbers in lent slices, row after row. It writes once nothing can refuse any more. Two
+// Writes the card that tables make: a head, and numbers in lent slices, row after row. It writes once nothing can refuse any more. Two
 // wrong writers that this rules out: one that writes a card which the check turns back, and one that tests the buffer first.
 pub fn write(
-    version: u16,
-    signals: u16,
+    head: Head,
     subnets: &[u16],
     places: &[u16],
     transitions: &[u16],
     arcs: &[u16],
     out: &mut [u8],
 ) -> Written
-    ensures { λ r. ⌜ IsWritten (writeRows version signals (now (subnets .entry)) (now (places .entry)) (now (transitions .entry)) (now (arcs .entry)) (now (out .entry))) r (now (out .exit)) ⌝ }
+    ensures { λ r. ⌜ IsWritten (writeRows head (now (subnets .entry)) (now (places .entry)) (now (transitions .entry)) (now (arcs .entry)) (now (out .entry))) r (now (out .exit)) ⌝ }
 {
-    let w = spell(version, signals, subnets, places, transitions, arcs);
+    let w = spell(head, subnets, places, transitions, arcs);
     let a = w.answer;
     let SpellAnswer::Whole(n) = a else {
         return spell_refused(a);

@@ -4,11 +4,12 @@ use Prim.Native.Nat.{ℕ}
 use mathlib.Core.Path.{_≡_}
 use mathlib.Core.List.{List, [], _∷_}
 use mathlib.Core.Option.{Option, none, some}
-use lib.ListN.{length}
+use lib.ListN.{length, getD}
 use Rattle.hierarchy.specs.Numbers.{CheckOutcome, WriteOutcome}
 use Rattle.hierarchy.specs.Judgement.{Judgement, accepted, refused}
 use Rattle.runners.specs.Numbers.{RowOutcome}
 use Rattle.net_runner.specs.declared.told.Told.{Told}
+use Rattle.card.specs.declared.Head.{Head}
 
 abbrev pub orNone : Option ℕ → ℕ
 orNone none = 0
@@ -35,6 +36,10 @@ pub record IsTold (x : Told) (r v : ℕ) : Type 0 where
 abbrev pub countsTold : Judgement → (counts : List ℕ) → List ℕ
 countsTold (accepted c) counts = length (c .subnets) ∷ length (c .places) ∷ length (c .transitions) ∷ c .signals ∷ []
 countsTold (refused n at) counts = counts
+
+-- a lent header: version, signals, limit, scale
+abbrev pub headIn : (header : List ℕ) → Head
+headIn h = record { version = getD h 0 0; signals = getD h 1 0; limit = getD h 2 0; scale = getD h 3 0 }
 
 -- and of what was written: every byte that the buffer then holds
 pub record IsPut (x : WriteOutcome × List ℕ) (r v : ℕ) (buffer : List ℕ) : Type 0 where

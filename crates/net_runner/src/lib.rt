@@ -3,6 +3,7 @@
 mod lending;
 mod told;
 
+use card::Head;
 use card::tables::signals;
 use flattening::flatten;
 use hierarchy::Answer;
@@ -24,7 +25,7 @@ ghost use mathlib.Core.Path.{_≡_};
 ghost use Rattle.hierarchy.specs.Judgement.{judge, answer};
 ghost use Rattle.hierarchy.specs.Output.{writeRows};
 ghost use Rattle.flattening.specs.Flattening.{flattenCall};
-ghost use Rattle.net_runner.specs.Told.{checkTold, countsTold, IsTold, IsPut};
+ghost use Rattle.net_runner.specs.Told.{checkTold, countsTold, headIn, IsTold, IsPut};
 ghost use Rattle.net_runner.specs.Slices.{slices, freshOn, flatOn, subnetOn, IsCalled};
 
 // The check. Two wrong ones that this rules out: one that stores counts of a refused card, and one whose counts are those of the header.
@@ -62,8 +63,7 @@ pub extern "C" fn net_flatten(card: &[u8], out: &mut [u8], value: &mut usize) ->
 // one that tells a short buffer before 17.
 #[no_mangle]
 pub extern "C" fn net_write(
-    version: u16,
-    signals: u16,
+    header: &[u16; 4],
     subnets: &[u16],
     places: &[u16],
     transitions: &[u16],
@@ -71,9 +71,15 @@ pub extern "C" fn net_write(
     out: &mut [u8],
     value: &mut usize,
 ) -> u64
-    ensures { λ r. ⌜ IsPut (writeRows version signals (now (subnets .entry)) (now (places .entry)) (now (transitions .entry)) (now (arcs .entry)) (now (out .entry))) r (now (value .exit)) (now (out .exit)) ⌝ }
+    ensures { λ r. ⌜ IsPut (writeRows (headIn (now (header .entry))) (now (subnets .entry)) (now (places .entry)) (now (transitions .entry)) (now (arcs .entry)) (now (out .entry))) r (now (value .exit)) (now (out .exit)) ⌝ }
 {
-    let w = write(version, signals, subnets, places, transitions, arcs, out);
+    let head = Head {
+        version: header[0],
+        signals: header[1],
+        limit: header[2],
+        scale: header[3],
+    };
+    let w = write(head, subnets, places, transitions, arcs, out);
     let t = written_told(w);
     *value = t.value;
     t.number

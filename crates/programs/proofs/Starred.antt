@@ -6,7 +6,7 @@ use Rattle.card.specs.Finite.{sumTo, every, any, firstOf, table, keep}
 use Rattle.card.specs.Bits.{bit, bitField, pack}
 use Rattle.card.specs.Card.{firstPlace, firstTransition, firstArc}
 use Rattle.card.specs.Format.{each, grow, size}
-use Rattle.card.specs.Grammar.{header, subnet, place, transition, arc, wholeTransition, wholeSubnet, card}
+use Rattle.card.specs.Grammar.{since, header, subnet, place, transition, arc, wholeTransition, wholeSubnet, card}
 use Rattle.card.specs.Parsing.{read, excess, readCard}
 use Rattle.card.specs.Writing.{fields, encode, subnetBit, transitionBit, arcBit}
 use Rattle.hierarchy.specs.Conditions.{children}
@@ -23,6 +23,6 @@ use Rattle.programs.specs.Cases.{cases, result}
 pub starred : map (λ k. result (k .given)) cases ≡ map (λ k. k .expected) cases
 unfolding ascii digits line rowOf pieces rowLines runProgram rowFault rowRefusal step allows candidateOn candidate started conflict moves next scale fresh incidence flow owed due covered flatten
     judge check seen directed weighted single hasUnit hasInterface alike likeLower arcFault transitionFault subnetFault children
-    read excess readCard fields encode subnetBit transitionBit arcBit header subnet place transition arc wholeTransition wholeSubnet card each grow size
+    read excess readCard fields encode subnetBit transitionBit arcBit since header subnet place transition arc wholeTransition wholeSubnet card each grow size
     firstPlace firstTransition firstArc bit bitField pack sumTo every any firstOf table keep flatMap List.flatten
 starred = refl

@@ -46,7 +46,7 @@ abbrev pub place : (kind capacity tokens : ℕ) → Place
 place kind capacity tokens = record { kind = kind; capacity = capacity; tokens = tokens }
 
 abbrev pub transition : (signal arcs : ℕ) → Transition
-transition signal arcs = record { signal = signal; arcs = arcs }
+transition signal arcs = record { signal = signal; arcs = arcs; rank = 0 }
 
 abbrev pub from : (subnet place weight : ℕ) → Arc
 from subnet place weight = record { direction = draws; subnet = subnet; place = place; weight = weight }
@@ -60,6 +60,8 @@ tablesA parent kind second =
     record {
       version = 1;
       signals = 2;
+      limit = 0;
+      scale = 0;
       subnets = subnet 0 0 1 1 ∷ subnet parent 0 2 1 ∷ [];
       places = place normal 1 1 ∷ place kind 1 0 ∷ place normal 2 0 ∷ [];
       transitions = transition 0 2 ∷ transition 1 2 ∷ [];
@@ -78,6 +80,8 @@ takers capacity tokens w =
     encode (record {
       version = 1;
       signals = 2;
+      limit = 0;
+      scale = 0;
       subnets = subnet 0 0 3 2 ∷ [];
       places = place normal capacity tokens ∷ place normal 1 0 ∷ place normal 1 0 ∷ [];
       transitions = transition 0 2 ∷ transition 1 2 ∷ [];
@@ -93,6 +97,8 @@ fillers =
     encode (record {
       version = 1;
       signals = 2;
+      limit = 0;
+      scale = 0;
       subnets = subnet 0 0 3 2 ∷ [];
       places = place normal 2 1 ∷ place normal 1 1 ∷ place normal 1 1 ∷ [];
       transitions = transition 0 2 ∷ transition 1 2 ∷ [];

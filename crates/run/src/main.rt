@@ -5,6 +5,7 @@ mod rows;
 
 use crate::rows::put_line;
 use crate::rows::put_rows_of;
+use card::INPUT_BYTES;
 use hierarchy::Answer;
 use programs::line::card_line;
 use runners::flat_runner::flat_net;
@@ -31,9 +32,9 @@ fn run(card: &[u8]) {
 }
 
 fn main() {
-    let mut card = [0; 33027];
+    let mut card = [0; INPUT_BYTES];
     let n = read_card(&mut card);
-    if n <= 33027 {
+    if n <= INPUT_BYTES {
         run(&card[..n]);
     }
 }

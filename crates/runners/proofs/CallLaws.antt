@@ -20,7 +20,7 @@ use Rattle.card.specs.Spelling.{putInto}
 use Rattle.card.specs.Writing.{encode}
 use Rattle.card.specs.declared.FormatFault.{FormatFault}
 use Rattle.card.specs.declared.FormatFault.the-variants.{Truncated, BadVersion, BadSize, BadParent, BadType, BadCount, BadPlace, BadTransition, BadFill, BadTable}
-use Rattle.card.proofs.Length.{encode-few}
+use Rattle.card.proofs.Length.{bytes-few}
 use Rattle.hierarchy.specs.Check.{Found, check}
 use Rattle.hierarchy.specs.Numbers.{number, checkOutcome, writeOutcome}
 use Rattle.hierarchy.specs.Judgement.{Judgement, accepted, refused, checked, judged, judge, outcomeOf, IsChecked}
@@ -50,6 +50,7 @@ use Rattle.runners.specs.declared.Refusal.the-variants.{BadCard, BadStat
 use Rattle.runners.specs.declared.Reply.{Reply}
 use Rattle.runners.specs.declared.Reply.the-variants.{Ok, No}
 use Rattle.runners.specs.declared.RowAnswer.{RowAnswer}
+use Rattle.card.specs.Tables.{cardBytes}
 
 pub flat-signals : (c : Card) (n : ℕ) → n ≡ c .signals → n ≡ (flatten c) .signals
 unfolding flatten
@@ -236,10 +237,10 @@ one-visited c = refl
 pub flat-called : (c : Card) (l : Lent) (row : List ℕ) → called (λ d. eachOnce (length (d .subnets)) (0 ∷ [])) (accepted (flatten c)) l row ≡ called (λ d. true) (accepted c) l row
 flat-called c l row = rw (flatten-again c, one-visited c)
 
--- the flat card of a card in a buffer of 33026 bytes, which holds it
-module _ (bytes buffer out : List ℕ) (r : Written) (h : IsWritten (flattenCall bytes buffer) r out) (room : length buffer ≡ 33026) where
+-- the flat card of a card in a buffer of cardBytes, which holds it
+module _ (bytes buffer out : List ℕ) (r : Written) (h : IsWritten (flattenCall bytes buffer) r out) (room : length buffer ≡ cardBytes) where
   fits : (c : Card) → judge bytes ≡ accepted c → length (encode (flatten c)) ≤ length buffer
-  fits c d = omega (arith, room, encode-few (flatten c) ((flat-meets c (accepted-meets bytes c d)) .wellformed))
+  fits c d = omega (arith, room, bytes-few (flatten c) ((flat-meets c (accepted-meets bytes c d)) .wellformed))
 
   -- the answer is how many bytes were written, or the card's own refusal
   pub wrote-all : (c : Card) → judge bytes ≡ accepted c → writeOutcome r ≡ writeOutcome (Wrote (length (encode (flatten c))))
@@ -266,10 +267,10 @@ module _ (bytes buffer out : List ℕ) (r : Written) (h : IsWritten (flattenCall
           omega arith
 
   -- so many bytes are the flat card's
-  pub flat-long : (n : ℕ) → r ≡ Wrote n → n ≤ 33026
+  pub flat-long : (n : ℕ) → r ≡ Wrote n → n ≤ cardBytes
   flat-long n e = go (judge bytes) refl
     where
-      go : (j : Judgement) → judge bytes ≡ j → n ≤ 33026
+      go : (j : Judgement) → judge bytes ≡ j → n ≤ cardBytes
       go (refused m i) d =
           let q = sym (ap writeOutcome e) ∙ turned-back m i d in
           absurd (let z : _≡_ {A = ℕ} 0 1 = cc in omega arith)
@@ -288,7 +289,7 @@ module _ (bytes buffer out : List ℕ) (r : Written) (h : IsWritten (flattenCall
       ap judge b ∙ flat-accepted bytes c d
 
 -- a call on the flat card
-module _ (bytes buffer out row : List ℕ) (l : Lent) (r : Written) (h : IsWritten (flattenCall bytes buffer) r out) (room : length buffer ≡ 33026) (x : RowAnswer) where
+module _ (bytes buffer out row : List ℕ) (l : Lent) (r : Written) (h : IsWritten (flattenCall bytes buffer) r out) (room : length buffer ≡ cardBytes) (x : RowAnswer) where
   abbrev FlatCalled : Judgement → Type 0
   FlatCalled j = IsRow (called (λ c. true) j l row) x
 

@@ -8,7 +8,7 @@ use native.Mathlib.Nat.{mul-le-mul}
 use lib.ListN.{length, getD}
 use lib.Dec.{eqb}
 use Rattle.card.specs.Finite.{sumTo, All}
-use Rattle.card.specs.Card.{Arc, Card, transitionAt, arcAt}
+use Rattle.card.specs.Card.{Arc, Card, transitionAt, arcAt, noTransition, noArc}
 use Rattle.card.specs.Wellformed.{TransitionRow, ArcRow}
 use Rattle.card.proofs.Sums.{all-at}
 use Rattle.hierarchy.specs.Conditions.{Meets}
@@ -22,9 +22,6 @@ pub sum-few : (n : ℕ) (a : ℕ → ℕ) (b : ℕ) → ((i : ℕ) → i < n →
 unfolding sumTo
 sum-few zero a b h = omega arith
 sum-few (suc n) a b h = omega (arith, sum-few n a b (λ i l. h i (omega arith)), h n (omega arith))
-
-abbrev noArc : Arc
-noArc = record { direction = 0; subnet = 0; place = 0; weight = 0 }
 
 weight-few : (xs : List Arc) → All ArcRow xs → (i : ℕ) → (getD xs i noArc) .weight ≤ 255
 weight-few [] h i = omega arith
@@ -45,7 +42,7 @@ module _ (f : Card) (m : Meets f) where
   pub incidence-few : (way t p : ℕ) → t < length (f .transitions) → incidence f way t p ≤ 7905
   unfolding incidence
   incidence-few way t p l =
-      let n : (transitionAt f t) .arcs ≤ 31 = all-at (TransitionRow (f .signals)) (f .transitions) (record { signal = 0; arcs = 0 }) (m .wellformed .rows .transitions) t l .arcs in
+      let n : (transitionAt f t) .arcs ≤ 31 = all-at (TransitionRow (f .version) (f .signals)) (f .transitions) noTransition (m .wellformed .rows .transitions) t l .arcs in
       let s = sum-few ((transitionAt f t) .arcs) (λ j. weightAt way p (arcAt f t j)) 255 (λ j k. cond-few (eqb ((arcAt f t j) .direction) way && eqb ((arcAt f t j) .place) p) ((arcAt f t j) .weight) 255 (weight-few (f .arcs) (m .wellformed .rows .arcs) _)) in
       omega (arith, s, n)
 

@@ -36,6 +36,7 @@ use Rattle.runners.specs.declared.Net.{Net}
 use Rattle.runners.specs.declared.Refusal.the-variants.{BadCard}
 use Rattle.runners.specs.declared.Reply.the-variants.{No}
 use Rattle.runners.specs.declared.RowAnswer.{RowAnswer}
+use Rattle.card.specs.Tables.{cardBytes}
 use Rattle.runners.proofs.TraceLaws.{valid-is, kept}
 use Rattle.runners.proofs.PieceLaws.{pieces-none, pieces-more, piece-is, rest-is}
 use Rattle.runners.proofs.CallLaws.{checked-accepted, wrote-all, turned-back, flat-judged, flat-called}
@@ -91,8 +92,8 @@ wrote-tag (Wrote m) n e (inr q) = omega (arith, q)
 wrote-tag (NotWritten f at) n e k = let z : _≡_ {A = ℕ} 0 1 = cc in omega arith
 wrote-tag (Short m) n e k = let z : _≡_ {A = ℕ} 0 1 = cc in omega arith
 
--- the net of a card's flat card, which a buffer of 33026 bytes holds
-module _ (bytes buffer out : List ℕ) (r : Written) (h : IsWritten (flattenCall bytes buffer) r out) (room : length buffer ≡ 33026) (x : Net) where
+-- the net of a card's flat card, which a buffer of cardBytes holds
+module _ (bytes buffer out : List ℕ) (r : Written) (h : IsWritten (flattenCall bytes buffer) r out) (room : length buffer ≡ cardBytes) (x : Net) where
   pub flat-none : (tagOf the-type r ≡ 1) ⊎ (tagOf the-type r ≡ 2) → IsNet (judge bytes) x → IsNet (flatJudged (judge bytes)) x
   flat-none k w = go (judge bytes) refl w
     where

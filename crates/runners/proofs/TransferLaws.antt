@@ -71,7 +71,7 @@ remaining-coded f (Carrying c) = go (eqb c idleCode) refl
 
 -- a transfer that advances
 blank-card : Card
-blank-card = record { version = 0; signals = 0; subnets = []; places = []; transitions = []; arcs = [] }
+blank-card = record { version = 0; signals = 0; limit = 0; scale = 0; subnets = []; places = []; transitions = []; arcs = [] }
 
 pub still-idle : (f : Card) (x : Transfer) (d : ℕ) → x ≡ Idle → Idle ≡ advanced f x d
 still-idle f x d e = rw e refl

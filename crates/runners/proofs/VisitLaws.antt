@@ -10,7 +10,7 @@ use lib.ListN.{length}
 use lib.Dec.{ltb, eqb}
 use borrow.Author.Tests.{ne-eqb}
 use Rattle.card.specs.Finite.{sumTo, every}
-use Rattle.card.specs.Card.{Arc, Card, draws, fills, subnetAt, placeAt, transitionAt, arcAt, firstTransition, flatPlace}
+use Rattle.card.specs.Card.{Arc, Card, draws, fills, subnetAt, placeAt, transitionAt, arcAt, firstTransition, flatPlace, noTransition}
 use Rattle.card.specs.Wellformed.{TransitionRow}
 use Rattle.card.proofs.Sums.{sum-same, sum-zero, sum-append, all-at}
 use Rattle.hierarchy.specs.Conditions.{Sees, Meets}
@@ -72,7 +72,7 @@ module _ (r : Round) (s : ℕ) (i j : Turn) (m : Meets (i .card)) (below : s < l
 
   signal-below : (t : ℕ) → OwnsTransition (i .card) s t → (transitionAt (i .card) t) .signal < (i .card) .signals
   signal-below t o =
-      all-at (TransitionRow ((i .card) .signals)) ((i .card) .transitions) (record { signal = 0; arcs = 0 }) (m .wellformed .rows .transitions) t
+      all-at (TransitionRow ((i .card) .version) ((i .card) .signals)) ((i .card) .transitions) noTransition (m .wellformed .rows .transitions) t
       (owned-below (i .card) m s t below o) .signal
 
   degree-same : (t : ℕ) → OwnsTransition (i .card) s t → entry (i .row) ((transitionAt (i .card) t) .signal) ≡ entry (j .row) ((transitionAt (j .card) t) .signal)

@@ -6,7 +6,7 @@ use crate::State;
 use crate::nets::card_net;
 use crate::row::refuse;
 use crate::subnet_runner::subnet_row;
-use card::TABLE;
+use card::CARD_BYTES;
 use flattening::flatten;
 use hierarchy::Written;
 ghost use mathlib.Core.List.{[], _∷_};
@@ -29,13 +29,13 @@ pub fn flat_row(card: &[u8], state: State, row: &[u16]) -> RowAnswer
     ensures { λ r. ⌜ IsRow (flatCall (now (card .entry)) state (now (row .entry))) r ⌝ }
 {
     // No card is longer, so that the buffer is never short.
-    let mut flat = [0; TABLE];
+    let mut flat = [0; CARD_BYTES];
     let w = flatten(card, &mut flat);
     match w {
         Written::Refused(f, at) => refuse(Refusal::BadCard(f, at), state),
         Written::Short(n) => refuse(Refusal::BadState, state),
         Written::Wrote(n) => {
-            if TABLE < n {
+            if CARD_BYTES < n {
                 return refuse(Refusal::BadState, state);
             }
             flat_card_row(&flat[..n], state, row)
@@ -48,12 +48,12 @@ pub fn flat_row(card: &[u8], state: State, row: &[u16]) -> RowAnswer
 pub fn flat_net(card: &[u8]) -> Net
     ensures { λ r. ⌜ IsNet (flatJudged (judge (now (card .entry)))) r ⌝ }
 {
-    let mut flat = [0; TABLE];
+    let mut flat = [0; CARD_BYTES];
     let w = flatten(card, &mut flat);
     let Written::Wrote(n) = w else {
         return card_net(card);
     };
-    if TABLE < n {
+    if CARD_BYTES < n {
         return card_net(card);
     }
     card_net(&flat[..n])

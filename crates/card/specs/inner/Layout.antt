@@ -10,7 +10,7 @@ use Rattle.card.specs.Format.{Format, done, get}
 use Rattle.card.specs.Grammar.{header, subnet, place, transition, arc}
 use Rattle.card.specs.declared.FormatFault.{FormatFault}
 use Rattle.card.specs.declared.layout.Phase.{Phase}
-use Rattle.card.specs.declared.layout.Phase.the-variants.{Version, SubnetCount, SignalCount, Parent, SubnetType, PlaceCount, TransitionCount, Kind, Capacity, Tokens, Signal, ArcCount, Direction, ArcSubnet, ArcPlace, Weight}
+use Rattle.card.specs.declared.layout.Phase.the-variants.{Version, SubnetCount, SignalCount, Limit, Scale, Parent, SubnetType, PlaceCount, TransitionCount, Kind, Capacity, Tokens, Signal, ArcCount, Rank, Direction, ArcSubnet, ArcPlace, Weight}
 use Rattle.card.specs.declared.layout.Layout.{Layout}
 use Rattle.card.specs.declared.layout.Move.{Move}
 use Rattle.card.specs.declared.layout.Move.the-variants.{More, Done, Bad}
@@ -30,32 +30,38 @@ abbrev pub nextFault : {U A : Type 0} → Format U A → ℕ → Option FormatFa
 nextFault (done a) v = none
 nextFault (get w value fault next) v = fault v
 
-abbrev pub widthAt : Phase → ℕ
-widthAt Version = nextWidth header
-widthAt SubnetCount = nextWidth (fed header (0 ∷ []))
-widthAt SignalCount = nextWidth (fed header (0 ∷ 0 ∷ []))
-widthAt Parent = nextWidth (subnet 0 0 0)
-widthAt SubnetType = nextWidth (fed (subnet 0 0 0) (0 ∷ []))
-widthAt PlaceCount = nextWidth (fed (subnet 0 0 0) (0 ∷ 0 ∷ []))
-widthAt TransitionCount = nextWidth (fed (subnet 0 0 0) (0 ∷ 0 ∷ 0 ∷ []))
-widthAt Kind = nextWidth (place 0)
-widthAt Capacity = nextWidth (fed (place 0) (0 ∷ []))
-widthAt Tokens = nextWidth (fed (place 0) (0 ∷ 0 ∷ []))
-widthAt Signal = nextWidth (transition 0)
-widthAt ArcCount = nextWidth (fed (transition 0) (0 ∷ []))
-widthAt Direction = nextWidth arc
-widthAt ArcSubnet = nextWidth (fed arc (0 ∷ []))
-widthAt ArcPlace = nextWidth (fed arc (0 ∷ 0 ∷ []))
-widthAt Weight = nextWidth (fed arc (0 ∷ 0 ∷ 0 ∷ []))
+-- (v is the card's version, by which the widths of later fields go.)
+abbrev pub widthAt : Phase → (v : ℕ) → ℕ
+widthAt Version v = nextWidth header
+widthAt SubnetCount v = nextWidth (fed header (v ∷ []))
+widthAt SignalCount v = nextWidth (fed header (v ∷ 0 ∷ []))
+widthAt Limit v = nextWidth (fed header (v ∷ 0 ∷ 0 ∷ []))
+widthAt Scale v = nextWidth (fed header (v ∷ 0 ∷ 0 ∷ 0 ∷ []))
+widthAt Parent v = nextWidth (subnet 0 0 0)
+widthAt SubnetType v = nextWidth (fed (subnet 0 0 0) (0 ∷ []))
+widthAt PlaceCount v = nextWidth (fed (subnet 0 0 0) (0 ∷ 0 ∷ []))
+widthAt TransitionCount v = nextWidth (fed (subnet 0 0 0) (0 ∷ 0 ∷ 0 ∷ []))
+widthAt Kind v = nextWidth (place 0)
+widthAt Capacity v = nextWidth (fed (place 0) (0 ∷ []))
+widthAt Tokens v = nextWidth (fed (place 0) (0 ∷ 0 ∷ []))
+widthAt Signal v = nextWidth (transition v 0)
+widthAt ArcCount v = nextWidth (fed (transition v 0) (0 ∷ []))
+widthAt Rank v = nextWidth (fed (transition v 0) (0 ∷ 0 ∷ []))
+widthAt Direction v = nextWidth arc
+widthAt ArcSubnet v = nextWidth (fed arc (0 ∷ []))
+widthAt ArcPlace v = nextWidth (fed arc (0 ∷ 0 ∷ []))
+widthAt Weight v = nextWidth (fed arc (0 ∷ 0 ∷ 0 ∷ []))
 
 abbrev pub widthOf : Layout → ℕ
-widthOf l = widthAt (l .phase)
+widthOf l = widthAt (l .phase) (l .version)
 
 -- what is wrong with a number, by what came before it
 abbrev pub faultAt : Phase → Layout → ℕ → Option FormatFault
 faultAt Version l = nextFault header
-faultAt SubnetCount l = nextFault (fed header (0 ∷ []))
-faultAt SignalCount l = nextFault (fed header (0 ∷ 0 ∷ []))
+faultAt SubnetCount l = nextFault (fed header (l .version ∷ []))
+faultAt SignalCount l = nextFault (fed header (l .version ∷ 0 ∷ []))
+faultAt Limit l = nextFault (fed header (l .version ∷ 0 ∷ 0 ∷ []))
+faultAt Scale l = nextFault (fed header (l .version ∷ 0 ∷ 0 ∷ 0 ∷ []))
 faultAt Parent l = nextFault (subnet (l .subnet) (l .places) (l .transitions))
 faultAt SubnetType l = nextFault (fed (subnet (l .subnet) (l .places) (l .transitions)) (0 ∷ []))
 faultAt PlaceCount l = nextFault (fed (subnet (l .subnet) (l .places) (l .transitions)) (0 ∷ 0 ∷ []))
@@ -63,8 +69,9 @@ faultAt TransitionCount l = nextFault (fed (subnet (l .subnet) (l .places) (l .t
 faultAt Kind l = nextFault (place (l .subnet))
 faultAt Capacity l = nextFault (fed (place (l .subnet)) (0 ∷ []))
 faultAt Tokens l = nextFault (fed (place (l .subnet)) (0 ∷ l .capacity ∷ []))
-faultAt Signal l = nextFault (transition (l .signals))
-faultAt ArcCount l = nextFault (fed (transition (l .signals)) (0 ∷ []))
+faultAt Signal l = nextFault (transition (l .version) (l .signals))
+faultAt ArcCount l = nextFault (fed (transition (l .version) (l .signals)) (0 ∷ []))
+faultAt Rank l = nextFault (fed (transition (l .version) (l .signals)) (0 ∷ 0 ∷ []))
 faultAt Direction l = nextFault arc
 faultAt ArcSubnet l = nextFault (fed arc (0 ∷ []))
 faultAt ArcPlace l = nextFault (fed arc (0 ∷ 0 ∷ []))
@@ -74,6 +81,7 @@ abbrev pub startOf : Layout
 startOf =
     record {
       phase = Version;
+      version = 0;
       signals = 0;
       subnets = 0;
       subnet = 0;
@@ -86,10 +94,11 @@ startOf =
     }
 
 -- the same layout at another phase, and with other numbers
-abbrev pub layoutAt : Phase → (signals subnets subnet places transitions place-rows transition-rows arc-rows capacity : ℕ) → Layout
-layoutAt p g n s places transitions rows more arcs k =
+abbrev pub layoutAt : Phase → (version signals subnets subnet places transitions place-rows transition-rows arc-rows capacity : ℕ) → Layout
+layoutAt p v g n s places transitions rows more arcs k =
     record {
       phase = p;
+      version = v;
       signals = g;
       subnets = n;
       subnet = s;
@@ -102,7 +111,7 @@ layoutAt p g n s places transitions rows more arcs k =
     }
 
 abbrev pub to : Layout → Phase → Layout
-to l p = layoutAt p (l .signals) (l .subnets) (l .subnet) (l .places) (l .transitions) (l .«place_rows») (l .«transition_rows») (l .«arc_rows») (l .capacity)
+to l p = layoutAt p (l .version) (l .signals) (l .subnets) (l .subnet) (l .places) (l .transitions) (l .«place_rows») (l .«transition_rows») (l .«arc_rows») (l .capacity)
 
 abbrev pub pick : Bool → Move → Move → Move
 pick true a b = a
@@ -110,32 +119,35 @@ pick false a b = b
 
 -- where a number leads that is not at fault
 abbrev pub moveAt : Phase → Layout → (v : ℕ) → Move
-moveAt Version l v = More (to l SubnetCount)
-moveAt SubnetCount l v = More (layoutAt SignalCount (l .signals) (v - 1) (l .subnet) (l .places) (l .transitions) (l .«place_rows») (l .«transition_rows») (l .«arc_rows») (l .capacity))
-moveAt SignalCount l v = More (layoutAt Parent v (l .subnets) (l .subnet) (l .places) (l .transitions) (l .«place_rows») (l .«transition_rows») (l .«arc_rows») (l .capacity))
+moveAt Version l v = More (layoutAt SubnetCount v (l .signals) (l .subnets) (l .subnet) (l .places) (l .transitions) (l .«place_rows») (l .«transition_rows») (l .«arc_rows») (l .capacity))
+moveAt SubnetCount l v = More (layoutAt SignalCount (l .version) (l .signals) (v - 1) (l .subnet) (l .places) (l .transitions) (l .«place_rows») (l .«transition_rows») (l .«arc_rows») (l .capacity))
+moveAt SignalCount l v = More (layoutAt Limit (l .version) v (l .subnets) (l .subnet) (l .places) (l .transitions) (l .«place_rows») (l .«transition_rows») (l .«arc_rows») (l .capacity))
+moveAt Limit l v = More (to l Scale)
+moveAt Scale l v = More (to l Parent)
 moveAt Parent l v = More (to l SubnetType)
 moveAt SubnetType l v = More (to l PlaceCount)
 moveAt PlaceCount l v =
-    More (layoutAt TransitionCount (l .signals) (l .subnets) (l .subnet) (l .places + v) (l .transitions) (v - 1) (l .«transition_rows») (l .«arc_rows») (l .capacity))
-moveAt TransitionCount l v = More (layoutAt Kind (l .signals) (l .subnets) (l .subnet) (l .places) (l .transitions + v) (l .«place_rows») (v - 1) (l .«arc_rows») (l .capacity))
+    More (layoutAt TransitionCount (l .version) (l .signals) (l .subnets) (l .subnet) (l .places + v) (l .transitions) (v - 1) (l .«transition_rows») (l .«arc_rows») (l .capacity))
+moveAt TransitionCount l v = More (layoutAt Kind (l .version) (l .signals) (l .subnets) (l .subnet) (l .places) (l .transitions + v) (l .«place_rows») (v - 1) (l .«arc_rows») (l .capacity))
 moveAt Kind l v = More (to l Capacity)
-moveAt Capacity l v = More (layoutAt Tokens (l .signals) (l .subnets) (l .subnet) (l .places) (l .transitions) (l .«place_rows») (l .«transition_rows») (l .«arc_rows») v)
+moveAt Capacity l v = More (layoutAt Tokens (l .version) (l .signals) (l .subnets) (l .subnet) (l .places) (l .transitions) (l .«place_rows») (l .«transition_rows») (l .«arc_rows») v)
 moveAt Tokens l v =
     pick (ltb 0 (l .«place_rows»))
-    (More (layoutAt Kind (l .signals) (l .subnets) (l .subnet) (l .places) (l .transitions) (l .«place_rows» - 1) (l .«transition_rows») (l .«arc_rows») (l .capacity)))
+    (More (layoutAt Kind (l .version) (l .signals) (l .subnets) (l .subnet) (l .places) (l .transitions) (l .«place_rows» - 1) (l .«transition_rows») (l .«arc_rows») (l .capacity)))
     (More (to l Signal))
 moveAt Signal l v = More (to l ArcCount)
-moveAt ArcCount l v = More (layoutAt Direction (l .signals) (l .subnets) (l .subnet) (l .places) (l .transitions) (l .«place_rows») (l .«transition_rows») (v - 1) (l .capacity))
+moveAt ArcCount l v = More (layoutAt Rank (l .version) (l .signals) (l .subnets) (l .subnet) (l .places) (l .transitions) (l .«place_rows») (l .«transition_rows») (v - 1) (l .capacity))
+moveAt Rank l v = More (to l Direction)
 moveAt Direction l v = More (to l ArcSubnet)
 moveAt ArcSubnet l v = More (to l ArcPlace)
 moveAt ArcPlace l v = More (to l Weight)
 moveAt Weight l v =
     pick (ltb 0 (l .«arc_rows»))
-    (More (layoutAt Direction (l .signals) (l .subnets) (l .subnet) (l .places) (l .transitions) (l .«place_rows») (l .«transition_rows») (l .«arc_rows» - 1) (l .capacity)))
+    (More (layoutAt Direction (l .version) (l .signals) (l .subnets) (l .subnet) (l .places) (l .transitions) (l .«place_rows») (l .«transition_rows») (l .«arc_rows» - 1) (l .capacity)))
     (pick (ltb 0 (l .«transition_rows»))
-    (More (layoutAt Signal (l .signals) (l .subnets) (l .subnet) (l .places) (l .transitions) (l .«place_rows») (l .«transition_rows» - 1) (l .«arc_rows») (l .capacity)))
+    (More (layoutAt Signal (l .version) (l .signals) (l .subnets) (l .subnet) (l .places) (l .transitions) (l .«place_rows») (l .«transition_rows» - 1) (l .«arc_rows») (l .capacity)))
     (pick (ltb 0 (l .subnets))
-    (More (layoutAt Parent (l .signals) (l .subnets - 1) (l .subnet + 1) (l .places) (l .transitions) (l .«place_rows») (l .«transition_rows») (l .«arc_rows») (l .capacity)))
+    (More (layoutAt Parent (l .version) (l .signals) (l .subnets - 1) (l .subnet + 1) (l .places) (l .transitions) (l .«place_rows») (l .«transition_rows») (l .«arc_rows») (l .capacity)))
     (Done (record { subnets = l .subnet + 1; places = l .places; transitions = l .transitions }))))
 
 abbrev pub orBad : Option FormatFault → Move → Move
@@ -153,6 +165,8 @@ abbrev pub headed : Phase → (subnet : ℕ) → Type 0
 headed Version s = s ≡ 0
 headed SubnetCount s = s ≡ 0
 headed SignalCount s = Unit {0}
+headed Limit s = Unit {0}
+headed Scale s = Unit {0}
 headed Parent s = Unit {0}
 headed SubnetType s = Unit {0}
 headed PlaceCount s = Unit {0}
@@ -162,6 +176,7 @@ headed Capacity s = Unit {0}
 headed Tokens s = Unit {0}
 headed Signal s = Unit {0}
 headed ArcCount s = Unit {0}
+headed Rank s = Unit {0}
 headed Direction s = Unit {0}
 headed ArcSubnet s = Unit {0}
 headed ArcPlace s = Unit {0}

@@ -28,12 +28,12 @@ pub record IsRefused (f : FormatFault) (at : ℕ) (r : CardRead) : Type 0 where
 
 -- an arc's fields before the weight, which hold any number, and where they lie from bit at on
 abbrev pub arcHeadWidth : ℕ
-arcHeadWidth = widthAt Direction + (widthAt ArcSubnet + widthAt ArcPlace)
+arcHeadWidth = widthAt Direction 0 + (widthAt ArcSubnet 0 + widthAt ArcPlace 0)
 
 pub record IsArcHead (bytes : List ℕ) (at : ℕ) (r : ArcHead) : Type 0 where
-  pub direction : r .direction ≡ bitField (bit bytes) at (widthAt Direction)
-  pub subnet : r .subnet ≡ bitField (bit bytes) (at + widthAt Direction) (widthAt ArcSubnet)
-  pub place : r .place ≡ bitField (bit bytes) (at + widthAt Direction + widthAt ArcSubnet) (widthAt ArcPlace)
+  pub direction : r .direction ≡ bitField (bit bytes) at (widthAt Direction 0)
+  pub subnet : r .subnet ≡ bitField (bit bytes) (at + widthAt Direction 0) (widthAt ArcSubnet 0)
+  pub place : r .place ≡ bitField (bit bytes) (at + widthAt Direction 0 + widthAt ArcSubnet 0) (widthAt ArcPlace 0)
 
 -- the last field is read, and what is in excess is known
 abbrev pub endedAs : (excess : Option ℕ) → Counts → ReadAnswer

@@ -1,4 +1,4 @@
--- `runners::flat::flatten` meets its contract. Assumes nothing.
+-- `flattening::flatten` meets its contract. Assumes nothing.
 use mathlib.Core.Path.{subst}
 use denote.Ref.{now}
 use Rattle.hierarchy.specs.declared.Answer.{Answer}

@@ -4,6 +4,8 @@ use mathlib.Core.Path.{_∙_}
 use native.Mathlib.Omega.{arith}
 use lib.ListN.{length-replicate}
 use denote.Ref.{now}
+use Rattle.flattening.specs.inner.FlatRows.{placeRows, transitionRows, arcRows}
+use Rattle.card.specs.Card.{placeFields, transitionFields, arcFields}
 use Rattle.flattening.proofs.FlatRowLaws.{few-all-arcs}
 use Rattle.flattening.proofs.FlatWrite.{cut-is, flat-written}
 use borrow.Author.Needs.{needs}
@@ -35,7 +37,7 @@ flat-arcs-requires : tie.Need-flat-arcs-requires
 flat-arcs-requires c κs = search needs
 
 returns-3 : tie.Need-returns-3
-returns-3 c = λ k m l n. absurd (omega (arith, (c .if3) .taken, ((c .before .before .flat-arcs) .ensures .1 k m l (n .transitions) (length-replicate {A = ℕ} 31620 0)) .0, few-all-arcs k m))
+returns-3 c = λ k m l n. absurd (omega (arith, (c .if3) .taken, ((c .before .before .flat-arcs) .ensures .1 k m l (n .transitions) (length-replicate {A = ℕ} arcRows 0)) .0, few-all-arcs k m))
 
 mul-p : tie.Need-mul-p
 mul-p c = search needs
@@ -55,6 +57,12 @@ version-requires c κs = search needs
 signals-requires : tie.Need-signals-requires
 signals-requires c κs = search needs
 
+limit-requires : tie.Need-limit-requires
+limit-requires c κs = search needs
+
+scale-requires : tie.Need-scale-requires
+scale-requires c κs = search needs
+
 slice-aggregate-write : tie.Need-slice-aggregate-write
 slice-aggregate-write c = search needs
 
@@ -62,19 +70,19 @@ array-share-prefix-place-rows : tie.Need-array-share-prefix-place-rows
 array-share-prefix-place-rows c = search needs
 
 slice-aggregate-write-2 : tie.Need-slice-aggregate-write-2
-slice-aggregate-write-2 c = cut-is (3 * (c .before .before .before .before .before .before .before .before .before .before .before .before .before .before .before .before .before .before .before .args) .places) _ (omega (arith, (c .before .before .before .before .before .before .before .before .before .before .before .before .before .before .before .if1) .left, (c .before .before .before .before .before .before .before .before .before .before .before .before .flat-places) .ensures .0, length-replicate {A = ℕ} 765 0))
+slice-aggregate-write-2 c = cut-is (placeFields * (c .before .before .before .before .before .before .before .before .before .before .before .before .before .before .before .before .before .before .before .before .before .args) .places) _ (omega (arith, (c .before .before .before .before .before .before .before .before .before .before .before .before .before .before .before .before .before .if1) .left, (c .before .before .before .before .before .before .before .before .before .before .before .before .before .before .flat-places) .ensures .0, length-replicate {A = ℕ} 765 0))
 
 array-share-prefix-transition-rows : tie.Need-array-share-prefix-transition-rows
 array-share-prefix-transition-rows c = search needs
 
 slice-aggregate-write-3 : tie.Need-slice-aggregate-write-3
-slice-aggregate-write-3 c = cut-is (2 * (c .before .before .before .before .before .before .before .before .before .before .before .before .before .before .before .before .before .before .before .before .args) .transitions) _ (omega (arith, (c .before .before .before .before .before .before .before .before .before .before .before .before .before .before .before .if2) .left, (c .before .before .before .before .before .before .before .before .before .before .flat-transitions) .ensures .0, length-replicate {A = ℕ} 510 0))
+slice-aggregate-write-3 c = cut-is (transitionFields * (c .before .before .before .before .before .before .before .before .before .before .before .before .before .before .before .before .before .before .before .before .before .before .args) .transitions) _ (omega (arith, (c .before .before .before .before .before .before .before .before .before .before .before .before .before .before .before .before .before .if2) .left, (c .before .before .before .before .before .before .before .before .before .before .before .before .flat-transitions) .ensures .0, length-replicate {A = ℕ} 510 0))
 
 array-share-prefix-arc-rows : tie.Need-array-share-prefix-arc-rows
 array-share-prefix-arc-rows c = search needs
 
 slice-aggregate-write-4 : tie.Need-slice-aggregate-write-4
-slice-aggregate-write-4 c = cut-is (4 * (c .before .before .before .before .before .before .before .before .flat-arcs) .result) _ (omega (arith, (c .before .before .before .before .before .before .if3) .left, (c .before .before .before .before .before .before .before .before .flat-arcs) .ensures .0, length-replicate {A = ℕ} 31620 0))
+slice-aggregate-write-4 c = cut-is (arcFields * (c .before .before .before .before .before .before .before .before .before .before .flat-arcs) .result) _ (omega (arith, (c .before .before .before .before .before .before .before .before .if3) .left, (c .before .before .before .before .before .before .before .before .before .before .flat-arcs) .ensures .0, length-replicate {A = ℕ} arcRows 0))
 
 write-requires : tie.Need-write-requires
 write-requires c κs = search needs
@@ -85,8 +93,15 @@ same-length c = search needs
 returns-4 : tie.Need-returns-4
 returns-4 c =
     λ k m l n.
-    let x = (c .before .before .before .before .before .before .before .before .before .before .before .before .flat-arcs) .ensures .1 k m l (n .transitions) (length-replicate {A = ℕ} 31620 0) in
-    flat-written k m ((c .before .before .before .before .before .before .before .before .before .before .before .before .before .before .before .before .before .before .flat-places) .last .1 .1 .1 .0) ((c .before .before .before .before .before .before .before .before .before .before .before .before .before .before .before .flat-transitions) .last .1 .1 .1 .0) ((c .before .before .before .before .before .before .before .before .before .before .before .before .flat-arcs) .last .1 .1 .1 .0) ((c .before .before .before .before .before .before .before .before .before .before .before .before .before .before .before .before .before .before .flat-places) .ensures .1 k m l (n .subnets) (length-replicate {A = ℕ} 765 0)) ((c .before .before .before .before .before .before .before .before .before .before .before .before .before .before .before .flat-transitions) .ensures .1 k m l (n .transitions) (length-replicate {A = ℕ} 510 0)) (x .1) (few-all-arcs k m) ((c .before .before .before .before .before .before .before .before .before .version) .result) ((c .before .before .before .before .before .before .before .before .signals) .result) ((c .before .before .before .before .before .before .before .before .before .before .before .before .before .before .before .before .before .before .before .before .before .before .before .before .before .args) .places) ((c .before .before .before .before .before .before .before .before .before .before .before .before .before .before .before .before .before .before .before .before .before .before .before .before .before .args) .transitions) ((c .before .before .before .before .before .before .before .before .before .before .before .before .flat-arcs) .result) ((c .before .before .before .before .before .before .before .before .before .version) .ensures ∙ l .laid .version) ((c .before .before .before .before .before .before .before .before .signals) .ensures ∙ l .laid .signals) (n .places) (n .transitions) (x .0) (now ((c .before .before .before .before .before .before .before .before .before .before .before .before .before .before .before .before .before .before .before .before .before .before .before .before .before .args) .out)) _ ((c .before .before .write) .result) ((c .before .before .write) .ensures)
+    let a = c .before .before .before .before .before .before .before .before .before .before .before .before .before .before .before .before .before .before .before .before .before .before .before .before .before .before .before .args in
+    let p = c .before .before .before .before .before .before .before .before .before .before .before .before .before .before .before .before .before .before .before .before .flat-places in
+    let t = c .before .before .before .before .before .before .before .before .before .before .before .before .before .before .before .before .before .flat-transitions in
+    let f = c .before .before .before .before .before .before .before .before .before .before .before .before .before .before .flat-arcs in
+    let x = f .ensures .1 k m l (n .transitions) (length-replicate {A = ℕ} arcRows 0) in
+    flat-written k m (p .last .1 .1 .1 .0) (t .last .1 .1 .1 .0) (f .last .1 .1 .1 .0) (p .ensures .1 k m l (n .subnets) (length-replicate {A = ℕ} placeRows 0))
+    (t .ensures .1 k m l (n .transitions) (length-replicate {A = ℕ} transitionRows 0)) (x .1) (few-all-arcs k m) (c .before .before .before .before .before .before .before .before .before .before .before .version .result) (c .before .before .before .before .before .before .before .before .before .before .signals .result) (c .before .before .before .before .before .before .before .before .before .limit .result) (c .before .before .before .before .before .before .before .before .scale .result) (a .places)
+    (a .transitions) (f .result) (c .before .before .before .before .before .before .before .before .before .before .before .version .ensures ∙ l .laid .version) (c .before .before .before .before .before .before .before .before .before .before .signals .ensures ∙ l .laid .signals) (c .before .before .before .before .before .before .before .before .before .limit .ensures ∙ l .laid .limit) (c .before .before .before .before .before .before .before .before .scale .ensures ∙ l .laid .scale) (n .places)
+    (n .transitions) (x .0) (now (a .out)) _ (c .before .before .write .result) (c .before .before .write .ensures)
 
 pub write-flat-spec : {M : Type 1} → statement M
 write-flat-spec =
@@ -107,6 +122,8 @@ write-flat-spec =
     mul-a
     version-requires
     signals-requires
+    limit-requires
+    scale-requires
     slice-aggregate-write
     array-share-prefix-place-rows
     slice-aggregate-write-2

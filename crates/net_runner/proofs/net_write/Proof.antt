@@ -6,6 +6,18 @@ use Rattle.net_runner.specs.declared.told.Told.{Told}
 use Rattle.net_runner.proofs.net_write.Statement.{statement}
 use Rattle.net_runner.proofs.net_write.Tie as tie
 
+element-copy-out-t13 : tie.Need-element-copy-out-t13
+element-copy-out-t13 c = search needs
+
+element-copy-out-t16 : tie.Need-element-copy-out-t16
+element-copy-out-t16 c = search needs
+
+element-copy-out-t19 : tie.Need-element-copy-out-t19
+element-copy-out-t19 c = search needs
+
+element-copy-out-t22 : tie.Need-element-copy-out-t22
+element-copy-out-t22 c = search needs
+
 write-requires : tie.Need-write-requires
 write-requires c κs = search needs
 
@@ -22,4 +34,14 @@ returns c =
     record { told = record { number = ap (λ (x : Told). x .number) t; value = ap (λ (x : Told). x .value) t }; bytes = w .bytes }
 
 pub net-write-spec : {M : Type 1} → statement M
-net-write-spec = tie.close (tie.spec write-requires written-told-requires same-length returns)
+net-write-spec =
+    tie.close
+    (tie.spec
+    element-copy-out-t13
+    element-copy-out-t16
+    element-copy-out-t19
+    element-copy-out-t22
+    write-requires
+    written-told-requires
+    same-length
+    returns)

@@ -55,24 +55,27 @@ add-put-start-2 c = search needs
 put-start-requires-2 : tie.Need-put-start-requires-2 Inv-loop μ-loop
 put-start-requires-2 c κs = search needs
 
+version-requires : tie.Need-version-requires Inv-loop μ-loop
+version-requires c κs = search needs
+
 arc-count-requires : tie.Need-arc-count-requires Inv-loop μ-loop
 arc-count-requires c κs = search needs
 
 after-transition-requires : tie.Need-after-transition-requires Inv-loop μ-loop
-after-transition-requires c κs = (c .before .before .before .before .before .before .before .before .before .before .on-card) .ensures .0 (not-false ((c .before .before .before .before .before .before .before .before .before .before .on-card) .result) ((c .before .before .before .before .before .before .before .before .before .if2) .left))
+after-transition-requires c κs = (c .before .before .before .before .before .before .before .before .before .before .before .on-card) .ensures .0 (not-false ((c .before .before .before .before .before .before .before .before .before .before .before .on-card) .result) ((c .before .before .before .before .before .before .before .before .before .before .if2) .left))
 
 add-t : tie.Need-add-t Inv-loop μ-loop
-add-t c = omega (arith, (c .before .before .before .before .before .before .before .before .before .before .before .before .before .loop) .inv .1)
+add-t c = omega (arith, (c .before .before .before .before .before .before .before .before .before .before .before .before .before .before .loop) .inv .1)
 
 loop-less : tie.Need-loop-less Inv-loop μ-loop
-loop-less c = omega (arith, (c .before .before .before .before .before .before .before .before .before .before .before .before .before .loop) .inv .1)
+loop-less c = omega (arith, (c .before .before .before .before .before .before .before .before .before .before .before .before .before .before .loop) .inv .1)
 
 loop-again : tie.Need-loop-again Inv-loop μ-loop
 loop-again c = (
-  rw ((c .before .before .before .before .put-start2) .ensures, (c .before .before .before .before .before .before .before .before .put-start) .ensures) (set-long ((c .before .before .before .before .before .before .before .before .before .before .before .before .before .loop) .starts) _ _ (132 + (c .before .before .before .before .before .before .before .before .before .before .before .before .before .loop) .t) ((c .before .before .before .before .before .before .before .before .before .before .before .before .before .loop) .p .row) (388 + (c .before .before .before .before .before .before .before .before .before .before .before .before .before .loop) .t) ((c .before .before .before .before .before .before .before .before .before .before .before .before .before .loop) .p .bit) refl refl ∙ (c .before .before .before .before .before .before .before .before .before .before .before .before .before .loop) .inv .0),
+  rw ((c .before .before .before .before .before .put-start2) .ensures, (c .before .before .before .before .before .before .before .before .before .put-start) .ensures) (set-long ((c .before .before .before .before .before .before .before .before .before .before .before .before .before .before .loop) .starts) _ _ (132 + (c .before .before .before .before .before .before .before .before .before .before .before .before .before .before .loop) .t) ((c .before .before .before .before .before .before .before .before .before .before .before .before .before .before .loop) .p .row) (388 + (c .before .before .before .before .before .before .before .before .before .before .before .before .before .before .loop) .t) ((c .before .before .before .before .before .before .before .before .before .before .before .before .before .before .loop) .p .bit) refl refl ∙ (c .before .before .before .before .before .before .before .before .before .before .before .before .before .before .loop) .inv .0),
   omega arith,
-  (c .before .before .before .before .before .before .before .before .before .before .before .before .before .loop) .inv .2,
-  λ k s a. list-more k s (now ((c .before .before .before .before .before .before .before .before .before .before .before .before .before .before .before .before .before .args) .numbers)) (now ((c .before .before .before .before .before .before .before .before .before .before .before .before .before .before .before .before .before .args) .starts)) ((c .before .before .before .before .before .before .before .before .before .before .before .before .before .before .before .before .before .args) .from) ((c .before .before .before .before .before .before .before .before .before .before .before .before .before .before .before .before .before .args) .first) ((c .before .before .before .before .before .before .before .before .before .before .before .before .before .before .before .before .before .args) .count) a ((c .before .before .before .before .before .before .before .before .before .before .before .before .before .loop) .starts) ((c .before .before .before .before .before .before .before .before .before .before .before .before .before .loop) .p) ((c .before .before .before .before .before .before .before .before .before .before .before .before .before .loop) .t) ((c .before .before .before .before .before .before .before .before .before .before .before .before .before .loop) .inv .3 k s a) (omega (arith, (c .before .before .before .before .before .before .before .before .before .before .before .before .before .loop) .inv .2)) ((c .before .arc-count) .result) ((c .before .arc-count) .ensures) _ _ ((c .after-transition) .result) ((c .before .before .before .before .before .before .before .before .put-start) .ensures) ((c .before .before .before .before .put-start2) .ensures) ((c .after-transition) .ensures),
+  (c .before .before .before .before .before .before .before .before .before .before .before .before .before .before .loop) .inv .2,
+  λ k s a. list-more k s (now ((c .before .before .before .before .before .before .before .before .before .before .before .before .before .before .before .before .before .before .args) .numbers)) (now ((c .before .before .before .before .before .before .before .before .before .before .before .before .before .before .before .before .before .before .args) .starts)) ((c .before .before .before .before .before .before .before .before .before .before .before .before .before .before .before .before .before .before .args) .from) ((c .before .before .before .before .before .before .before .before .before .before .before .before .before .before .before .before .before .before .args) .first) ((c .before .before .before .before .before .before .before .before .before .before .before .before .before .before .before .before .before .before .args) .count) a ((c .before .before .before .before .before .before .before .before .before .before .before .before .before .before .loop) .starts) ((c .before .before .before .before .before .before .before .before .before .before .before .before .before .before .loop) .p) ((c .before .before .before .before .before .before .before .before .before .before .before .before .before .before .loop) .t) ((c .before .before .before .before .before .before .before .before .before .before .before .before .before .before .loop) .inv .3 k s a) (omega (arith, (c .before .before .before .before .before .before .before .before .before .before .before .before .before .before .loop) .inv .2)) ((c .before .arc-count) .result) ((c .before .arc-count) .ensures) _ _ ((c .after-transition) .result) ((c .before .before .before .before .before .before .before .before .before .put-start) .ensures) ((c .before .before .before .before .before .put-start2) .ensures) (c .before .before .version .result) (c .before .before .version .ensures) ((c .after-transition) .ensures),
 )
 
 same-length-2 : tie.Need-same-length-2 Inv-loop μ-loop
@@ -99,6 +102,7 @@ index-transitions-spec =
     cast-put-start-2
     add-put-start-2
     put-start-requires-2
+    version-requires
     arc-count-requires
     after-transition-requires
     add-t

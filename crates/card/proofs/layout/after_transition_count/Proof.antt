@@ -10,6 +10,7 @@ unfolding subnet
 returns c = search (needs, lt-ltb, le-ltb, le-leb, lt-leb, eq-eqb, ne-eqb)
 
 add-if2 : tie.Need-add-if2
+unfolding subnet
 add-if2 c = search needs
 
 returns-2 : tie.Need-returns-2
@@ -17,6 +18,7 @@ unfolding subnet
 returns-2 c = search (needs, lt-ltb, le-ltb, le-leb, lt-leb, eq-eqb, ne-eqb)
 
 add-m : tie.Need-add-m
+unfolding subnet
 add-m c = search needs
 
 moved-requires : tie.Need-moved-requires

@@ -21,12 +21,30 @@ width-at-requires-3 c κs = search needs
 add-result-2 : tie.Need-add-result-2
 add-result-2 c = search needs
 
+width-at-requires-4 : tie.Need-width-at-requires-4
+width-at-requires-4 c κs = search needs
+
+add-result-3 : tie.Need-add-result-3
+add-result-3 c = search needs
+
+width-at-requires-5 : tie.Need-width-at-requires-5
+width-at-requires-5 c κs = search needs
+
+add-result-4 : tie.Need-add-result-4
+add-result-4 c = search needs
+
 cast-result : tie.Need-cast-result
 cast-result c = search needs
 
 returns : tie.Need-returns
 unfolding size header
-returns c = (omega (arith, (c .before .before .width-at) .ensures .0, (c .before .width-at2) .ensures .0, (c .width-at3) .ensures .0), omega (arith, (c .before .before .width-at) .ensures .0, (c .before .width-at2) .ensures .0, (c .width-at3) .ensures .0))
+returns c =
+    let a = c .before .before .before .before .width-at .ensures in
+    let b = c .before .before .before .width-at2 .ensures in
+    let d = c .before .before .width-at3 .ensures in
+    let e = c .before .width-at4 .ensures in
+    let f = c .width-at5 .ensures in
+    (omega (arith, a .0, b .0, d .0, e .0, f .0), omega (arith, a .1, b .1, d .1, e .1, f .1))
 
 pub header-width-spec : {M : Type 1} → statement M
 header-width-spec =
@@ -37,5 +55,9 @@ header-width-spec =
     add-result
     width-at-requires-3
     add-result-2
+    width-at-requires-4
+    add-result-3
+    width-at-requires-5
+    add-result-4
     cast-result
     returns)

@@ -15,13 +15,31 @@ width-at-requires-2 c κs = search needs
 add-result : tie.Need-add-result
 add-result c = search needs
 
+width-at-requires-3 : tie.Need-width-at-requires-3
+width-at-requires-3 c κs = search needs
+
+add-result-2 : tie.Need-add-result-2
+add-result-2 c = search needs
+
 cast-result : tie.Need-cast-result
 cast-result c = search needs
 
 returns : tie.Need-returns
 unfolding size transition
-returns c = (omega (arith, (c .before .width-at) .ensures .0, (c .width-at2) .ensures .0), omega (arith, (c .before .width-at) .ensures .0, (c .width-at2) .ensures .0))
+returns c =
+    let a = c .before .before .width-at .ensures in
+    let b = c .before .width-at2 .ensures in
+    let d = c .width-at3 .ensures in
+    (omega (arith, a .0, b .0, d .0), omega (arith, a .1, b .1, d .1))
 
 pub transition-width-spec : {M : Type 1} → statement M
 transition-width-spec =
-    tie.close (tie.spec width-at-requires width-at-requires-2 add-result cast-result returns)
+    tie.close
+    (tie.spec
+    width-at-requires
+    width-at-requires-2
+    add-result
+    width-at-requires-3
+    add-result-2
+    cast-result
+    returns)

@@ -18,8 +18,14 @@ enum-told-3 c = search needs
 enum-told-4 : tie.Need-enum-told-4
 enum-told-4 c = search needs
 
+since-requires : tie.Need-since-requires
+since-requires c κs = search needs
+
 enum-told-5 : tie.Need-enum-told-5
 enum-told-5 c = search needs
+
+since-requires-2 : tie.Need-since-requires-2
+since-requires-2 c κs = search needs
 
 enum-told-6 : tie.Need-enum-told-6
 enum-told-6 c = search needs
@@ -51,72 +57,96 @@ enum-told-14 c = search needs
 enum-told-15 : tie.Need-enum-told-15
 enum-told-15 c = search needs
 
+since-requires-3 : tie.Need-since-requires-3
+since-requires-3 c κs = search needs
+
 enum-told-16 : tie.Need-enum-told-16
 enum-told-16 c = search needs
 
+enum-told-17 : tie.Need-enum-told-17
+enum-told-17 c = search needs
+
+enum-told-18 : tie.Need-enum-told-18
+enum-told-18 c = search needs
+
+enum-told-19 : tie.Need-enum-told-19
+enum-told-19 c = search needs
+
 returns : tie.Need-returns
 unfolding header
-returns c = rw (c .enum-told .given .1) (refl, omega arith, omega arith)
+returns c = rw (c .enum-told .given .1) (refl, omega arith)
 
 returns-2 : tie.Need-returns-2
 unfolding header
-returns-2 c = rw (c .enum-told2 .given .1) (refl, omega arith, omega arith)
+returns-2 c = rw (c .enum-told2 .given .1) (refl, omega arith)
 
 returns-3 : tie.Need-returns-3
 unfolding header
-returns-3 c = rw (c .enum-told3 .given .1) (refl, omega arith, omega arith)
+returns-3 c = rw (c .enum-told3 .given .1) (refl, omega arith)
 
 returns-4 : tie.Need-returns-4
-unfolding subnet
-returns-4 c = rw (c .enum-told4 .given .1) (refl, omega arith, omega arith)
+unfolding header
+returns-4 c = rw (c .before .enum-told4 .given .1) (c .since .ensures .0, omega (arith, c .since .ensures .1))
 
 returns-5 : tie.Need-returns-5
-unfolding subnet
-returns-5 c = rw (c .enum-told5 .given .1) (refl, omega arith, omega arith)
+unfolding header
+returns-5 c = rw (c .before .enum-told5 .given .1) (c .since2 .ensures .0, omega (arith, c .since2 .ensures .1))
 
 returns-6 : tie.Need-returns-6
 unfolding subnet
-returns-6 c = rw (c .enum-told6 .given .1) (refl, omega arith, omega arith)
+returns-6 c = rw (c .enum-told6 .given .1) (refl, omega arith)
 
 returns-7 : tie.Need-returns-7
 unfolding subnet
-returns-7 c = rw (c .enum-told7 .given .1) (refl, omega arith, omega arith)
+returns-7 c = rw (c .enum-told7 .given .1) (refl, omega arith)
 
 returns-8 : tie.Need-returns-8
-unfolding place
-returns-8 c = rw (c .enum-told8 .given .1) (refl, omega arith, omega arith)
+unfolding subnet
+returns-8 c = rw (c .enum-told8 .given .1) (refl, omega arith)
 
 returns-9 : tie.Need-returns-9
-unfolding place
-returns-9 c = rw (c .enum-told9 .given .1) (refl, omega arith, omega arith)
+unfolding subnet
+returns-9 c = rw (c .enum-told9 .given .1) (refl, omega arith)
 
 returns-10 : tie.Need-returns-10
 unfolding place
-returns-10 c = rw (c .enum-told10 .given .1) (refl, omega arith, omega arith)
+returns-10 c = rw (c .enum-told10 .given .1) (refl, omega arith)
 
 returns-11 : tie.Need-returns-11
-unfolding transition
-returns-11 c = rw (c .enum-told11 .given .1) (refl, omega arith, omega arith)
+unfolding place
+returns-11 c = rw (c .enum-told11 .given .1) (refl, omega arith)
 
 returns-12 : tie.Need-returns-12
-unfolding transition
-returns-12 c = rw (c .enum-told12 .given .1) (refl, omega arith, omega arith)
+unfolding place
+returns-12 c = rw (c .enum-told12 .given .1) (refl, omega arith)
 
 returns-13 : tie.Need-returns-13
-unfolding arc
-returns-13 c = rw (c .enum-told13 .given .1) (refl, omega arith, omega arith)
+unfolding transition
+returns-13 c = rw (c .enum-told13 .given .1) (refl, omega arith)
 
 returns-14 : tie.Need-returns-14
-unfolding arc
-returns-14 c = rw (c .enum-told14 .given .1) (refl, omega arith, omega arith)
+unfolding transition
+returns-14 c = rw (c .enum-told14 .given .1) (refl, omega arith)
 
 returns-15 : tie.Need-returns-15
-unfolding arc
-returns-15 c = rw (c .enum-told15 .given .1) (refl, omega arith, omega arith)
+unfolding transition
+returns-15 c = rw (c .before .enum-told15 .given .1) (c .since3 .ensures .0, omega (arith, c .since3 .ensures .1))
 
 returns-16 : tie.Need-returns-16
 unfolding arc
-returns-16 c = rw (c .enum-told16 .given .1) (refl, omega arith, omega arith)
+returns-16 c = rw (c .enum-told16 .given .1) (refl, omega arith)
+
+returns-17 : tie.Need-returns-17
+unfolding arc
+returns-17 c = rw (c .enum-told17 .given .1) (refl, omega arith)
+
+returns-18 : tie.Need-returns-18
+unfolding arc
+returns-18 c = rw (c .enum-told18 .given .1) (refl, omega arith)
+
+returns-19 : tie.Need-returns-19
+unfolding arc
+returns-19 c = rw (c .enum-told19 .given .1) (refl, omega arith)
 
 pub width-at-spec : {M : Type 1} → statement M
 width-at-spec =
@@ -126,7 +156,9 @@ width-at-spec =
     enum-told-2
     enum-told-3
     enum-told-4
+    since-requires
     enum-told-5
+    since-requires-2
     enum-told-6
     enum-told-7
     enum-told-8
@@ -137,7 +169,11 @@ width-at-spec =
     enum-told-13
     enum-told-14
     enum-told-15
+    since-requires-3
     enum-told-16
+    enum-told-17
+    enum-told-18
+    enum-told-19
     returns
     returns-2
     returns-3
@@ -153,4 +189,7 @@ width-at-spec =
     returns-13
     returns-14
     returns-15
-    returns-16)
+    returns-16
+    returns-17
+    returns-18
+    returns-19)

@@ -2,10 +2,11 @@
 use Prim.Native.Nat.{ℕ, _+_, _-_}
 use native.Mathlib.Omega.{arith}
 use denote.Ref.{now}
+use Rattle.card.specs.Tables.{tableSize}
 use borrow.Author.Needs.{needs}
 use Rattle.card.specs.Grammar.{arc}
 use Rattle.card.specs.declared.FormatFault.the-variants.{Truncated}
-use Rattle.card.proofs.Turn.{field-byte, Left, left-start, left-room, left-ends, left-bad, left-more, left-done, arc-room, left-arc}
+use Rattle.card.proofs.Turn.{Left, left-start, left-room, left-ends, left-bad, left-more, left-done, arc-room, left-arc}
 use Rattle.card.proofs.ReadLaws.{refused-is, ended-is}
 use Rattle.card.specs.declared.layout.Move.the-variants.{More}
 use mathlib.Core.Path.{refl, sym, ap, _∙_}
@@ -17,7 +18,7 @@ abbrev Inv-loop : tie.InvT-loop
 Inv-loop card numbers₀ l₀ at₀ n₀ numbers l at n = Left card l at n numbers
 
 abbrev μ-loop : tie.MeasureT-loop
-μ-loop card numbers₀ l₀ at₀ n₀ numbers l at n = 33026 - n
+μ-loop card numbers₀ l₀ at₀ n₀ numbers l at n = tableSize - n
 
 start-requires : tie.Need-start-requires Inv-loop μ-loop
 start-requires c κs = search needs
@@ -129,14 +130,14 @@ add-if2-2 : tie.Need-add-if2-2 Inv-loop μ-loop
 add-if2-2 c = omega (arith, (c .before .before .before .loop) .inv .low, (c .before .before .before .loop) .inv .few, (c .width) .ensures)
 
 same-length : tie.Need-same-length Inv-loop μ-loop
-same-length c = (c .before .before .before .before .loop) .inv .long ∙ sym (ap length (c .before .before .before .before .before .before .before .before .pre) ∙ length-replicate {A = ℕ} 33026 0)
+same-length c = (c .before .before .before .before .loop) .inv .long ∙ sym (ap length (c .before .before .before .before .before .before .before .before .pre) ∙ length-replicate {A = ℕ} tableSize 0)
 
 returns : tie.Need-returns Inv-loop μ-loop
 returns c =
     let a = (c .before .before .before .before .before .before .before .before .args) in
     let x = (c .before .before .before .before .loop) in
     let y = (c .before .width) in
-    (x .inv .long ∙ sym (ap length (c .before .before .before .before .before .before .before .before .pre) ∙ length-replicate {A = ℕ} 33026 0), refused-is (now (a .card)) Truncated (x .at) (x .numbers) (left-ends (now (a .card)) (x .l) (x .at) (x .n) (x .numbers) (y .result) (x .inv) (y .ensures .0) (omega arith)))
+    (x .inv .long ∙ sym (ap length (c .before .before .before .before .before .before .before .before .pre) ∙ length-replicate {A = ℕ} tableSize 0), refused-is (now (a .card)) Truncated (x .at) (x .numbers) (left-ends (now (a .card)) (x .l) (x .at) (x .n) (x .numbers) (y .result) (x .inv) (y .ensures .0) (omega arith)))
 
 bit-field-requires : tie.Need-bit-field-requires Inv-loop μ-loop
 bit-field-requires c κs = (omega arith, omega arith)
@@ -181,7 +182,7 @@ loop-again-2 c =
     let y = (c .before .before .before .before .before .width) in
     let z = (c .before .before .before .bit-field) in
     let q = c .arc-again in
-    left-more (now (a .card)) (x .l) (x .at) (x .n) (x .numbers) (y .result) (x .inv) (y .ensures .0) (z .result) (More (q .result)) (omega arith) (z .ensures .0) (q .ensures (z .result) ((c .before .before .arc-behind) .ensures ((c .before .if3) .taken) .0)) (q .result) refl (omega arith)
+    left-more (now (a .card)) (x .l) (x .at) (x .n) (x .numbers) (y .result) (x .inv) (y .ensures .0) (z .result) (More (q .result)) (omega arith) (z .ensures .0) (q .ensures (z .result) ((c .before .before .arc-behind) .ensures ((c .before .if3) .taken) .0)) (q .result) refl
 
 step-requires : tie.Need-step-requires Inv-loop μ-loop
 step-requires c κs =
@@ -189,7 +190,7 @@ step-requires c κs =
     let x = (c .before .before .before .before .before .before .before .loop) in
     let y = (c .before .before .before .before .width) in
     let z = (c .before .before .bit-field) in
-    (x .inv .sane, field-byte (y .result) (z .result) (omega arith) (z .ensures .1))
+    (x .inv .sane, rw (y .ensures .0) at (z .ensures .1))
 
 enum-known-m : tie.Need-enum-known-m Inv-loop μ-loop
 enum-known-m c = (c .match) .keys1
@@ -228,7 +229,7 @@ loop-again-3 c =
     let y = (c .before .before .before .before .before .before .before .before .width) in
     let z = (c .before .before .before .before .before .before .bit-field) in
     let q = (c .before .before .before .step) in
-    left-more (now (a .card)) (x .l) (x .at) (x .n) (x .numbers) (y .result) (x .inv) (y .ensures .0) (z .result) (q .result) (omega arith) (z .ensures .0) (q .ensures) _ ((c .before .m) .given .1) (omega arith)
+    left-more (now (a .card)) (x .l) (x .at) (x .n) (x .numbers) (y .result) (x .inv) (y .ensures .0) (z .result) (q .result) (omega arith) (z .ensures .0) (q .ensures) _ ((c .before .m) .given .1)
 
 enum-known-k : tie.Need-enum-known-k Inv-loop μ-loop
 enum-known-k c = (c .match) .keys2
@@ -250,7 +251,7 @@ ended-requires : tie.Need-ended-requires Inv-loop μ-loop
 ended-requires c κs = (omega arith, omega (arith, (c .before .before .before .before .before .before .before .before .before .before .before .loop) .inv .low, (c .before .before .before .before .before .before .before .before .before .before .before .loop) .inv .few))
 
 same-length-2 : tie.Need-same-length-2 Inv-loop μ-loop
-same-length-2 c = length-set ((c .before .before .before .before .before .before .before .before .before .before .before .before .loop) .numbers) ((c .before .before .before .before .before .before .before .before .before .before .before .before .loop) .n) _ ∙ (c .before .before .before .before .before .before .before .before .before .before .before .before .loop) .inv .long ∙ sym (ap length (c .before .before .before .before .before .before .before .before .before .before .before .before .before .before .before .before .pre) ∙ length-replicate {A = ℕ} 33026 0)
+same-length-2 c = length-set ((c .before .before .before .before .before .before .before .before .before .before .before .before .loop) .numbers) ((c .before .before .before .before .before .before .before .before .before .before .before .before .loop) .n) _ ∙ (c .before .before .before .before .before .before .before .before .before .before .before .before .loop) .inv .long ∙ sym (ap length (c .before .before .before .before .before .before .before .before .before .before .before .before .before .before .before .before .pre) ∙ length-replicate {A = ℕ} tableSize 0)
 
 returns-2 : tie.Need-returns-2 Inv-loop μ-loop
 returns-2 c =
@@ -260,13 +261,13 @@ returns-2 c =
     let z = (c .before .before .before .before .before .before .before .bit-field) in
     let q = (c .before .before .before .before .step) in
     let d = left-done (now (a .card)) (x .l) (x .at) (x .n) (x .numbers) (y .result) (x .inv) (y .ensures .0) (z .result) (q .result) (omega arith) (z .ensures .0) (q .ensures) _ ((c .before .before .k) .given .1) in
-    (d .2 ∙ sym (ap length (c .before .before .before .before .before .before .before .before .before .before .before .before .before .before .before .before .pre) ∙ length-replicate {A = ℕ} 33026 0), ended-is (now (a .card)) _ (x .at + y .result) (x .n + 1) _ ((c .ended) .result) (d .0) (d .2) (d .3) (d .1) ((c .ended) .ensures))
+    (d .2 ∙ sym (ap length (c .before .before .before .before .before .before .before .before .before .before .before .before .before .before .before .before .pre) ∙ length-replicate {A = ℕ} tableSize 0), ended-is (now (a .card)) _ (x .at + y .result) (x .n + 1) _ ((c .ended) .result) (d .0) (d .2) (d .3) (d .1) ((c .ended) .ensures))
 
 enum-known-f : tie.Need-enum-known-f Inv-loop μ-loop
 enum-known-f c = (c .match) .keys3
 
 same-length-3 : tie.Need-same-length-3 Inv-loop μ-loop
-same-length-3 c = (c .before .before .before .before .before .before .before .before .before .before .before .loop) .inv .long ∙ sym (ap length (c .before .before .before .before .before .before .before .before .before .before .before .before .before .before .before .pre) ∙ length-replicate {A = ℕ} 33026 0)
+same-length-3 c = (c .before .before .before .before .before .before .before .before .before .before .before .loop) .inv .long ∙ sym (ap length (c .before .before .before .before .before .before .before .before .before .before .before .before .before .before .before .pre) ∙ length-replicate {A = ℕ} tableSize 0)
 
 returns-3 : tie.Need-returns-3 Inv-loop μ-loop
 returns-3 c =
@@ -275,7 +276,7 @@ returns-3 c =
     let y = (c .before .before .before .before .before .before .before .before .width) in
     let z = (c .before .before .before .before .before .before .bit-field) in
     let q = (c .before .before .before .step) in
-    (x .inv .long ∙ sym (ap length (c .before .before .before .before .before .before .before .before .before .before .before .before .before .before .before .pre) ∙ length-replicate {A = ℕ} 33026 0), refused-is (now (a .card)) _ (x .at) (x .numbers) (left-bad (now (a .card)) (x .l) (x .at) (x .n) (x .numbers) (y .result) (x .inv) (y .ensures .0) (z .result) (q .result) (omega arith) (z .ensures .0) (q .ensures) _ ((c .before .f) .given .1)))
+    (x .inv .long ∙ sym (ap length (c .before .before .before .before .before .before .before .before .before .before .before .before .before .before .before .pre) ∙ length-replicate {A = ℕ} tableSize 0), refused-is (now (a .card)) _ (x .at) (x .numbers) (left-bad (now (a .card)) (x .l) (x .at) (x .n) (x .numbers) (y .result) (x .inv) (y .ensures .0) (z .result) (q .result) (omega arith) (z .ensures .0) (q .ensures) _ ((c .before .f) .given .1)))
 
 pub fill-spec : {M : Type 1} → statement M
 fill-spec =

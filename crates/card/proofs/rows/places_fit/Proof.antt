@@ -19,7 +19,7 @@ slice-aggregate-rows-fit : tie.Need-slice-aggregate-rows-fit
 slice-aggregate-rows-fit c = search needs
 
 rows-fit-requires : tie.Need-rows-fit-requires
-rows-fit-requires c κs = (omega arith, widths-small (c .before .before .before .width-at .result ∷ c .before .before .width-at2 .result ∷ c .before .width-at3 .result ∷ []) (c .before .before .before .width-at .ensures .2, (c .before .before .width-at2 .ensures .2, (c .before .width-at3 .ensures .2, tt))))
+rows-fit-requires c κs = (omega arith, widths-small (c .before .before .before .width-at .result ∷ c .before .before .width-at2 .result ∷ c .before .width-at3 .result ∷ []) (c .before .before .before .width-at .ensures .1, (c .before .before .width-at2 .ensures .1, (c .before .width-at3 .ensures .1, tt))))
 
 returns : tie.Need-returns
 returns c = rw (c .before .before .before .before .width-at .ensures .0, c .before .before .before .width-at2 .ensures .0, c .before .before .width-at3 .ensures .0) at (c .rows-fit .ensures)

@@ -4,6 +4,7 @@ use mathlib.Core.Path.{_≡_, ap, _∙_}
 use native.Mathlib.Omega.{arith}
 use lib.ListN.{take, drop}
 use denote.Ref.{now}
+use Rattle.card.specs.Card.{transitionFields, arcFields}
 use borrow.Author.Needs.{needs}
 use Rattle.card.specs.inner.Runs.{RunsInside, arcsBefore}
 use Rattle.card.proofs.RunLaws.{Placing, place-start, place-rows, place-arcs, place-more, place-done}
@@ -195,9 +196,9 @@ loop-again c =
     let f = c .before .before .before .before .before .before .before .before .before .push in
     let g = c .before .before .push2 in
     let k = c .before .before .before .before .before .wide in
-    let y : 2 * x .t + 2 - 2 * x .t ≡ 2 = omega arith in
-    let z : 4 * (x .b + k .result) - 4 * x .b ≡ 4 * k .result = omega arith in
-    λ p. place-more (now (a .transitions)) (now (a .arcs)) (now (a .numbers)) (a .n) (a .first) (a .count) (a .arc) p (x .numbers) (x .m) (x .b) (x .t) (x .inv p) l (f .last .0) (g .last .0) _ _ (f .result) (g .result) (k .result) (k .ensures) (ap (λ (i : ℕ). take i (drop (2 * x .t) (now (a .transitions)))) y) (ap (λ (i : ℕ). take i (drop (4 * x .b) (now (a .arcs)))) z) (f .ensures .0) (g .ensures .0) (f .ensures .1) (g .ensures .1)
+    let y : transitionFields * x .t + transitionFields - transitionFields * x .t ≡ transitionFields = omega arith in
+    let z : arcFields * (x .b + k .result) - arcFields * x .b ≡ arcFields * k .result = omega arith in
+    λ p. place-more (now (a .transitions)) (now (a .arcs)) (now (a .numbers)) (a .n) (a .first) (a .count) (a .arc) p (x .numbers) (x .m) (x .b) (x .t) (x .inv p) l (f .last .0) (g .last .0) _ _ (f .result) (g .result) (k .result) (k .ensures) (ap (λ (i : ℕ). take i (drop (transitionFields * x .t) (now (a .transitions)))) y) (ap (λ (i : ℕ). take i (drop (arcFields * x .b) (now (a .arcs)))) z) (f .ensures .0) (g .ensures .0) (f .ensures .1) (g .ensures .1)
 
 same-length : tie.Need-same-length Inv-loop μ-loop
 same-length c = c .before .loop .inv (c .before .before .before .before .before .pre) .long

@@ -12,6 +12,9 @@ transition-bit-requires c κs = search needs
 cast-result : tie.Need-cast-result
 cast-result c = search needs
 
+version-requires : tie.Need-version-requires
+version-requires c κs = search needs
+
 transition-width-requires : tie.Need-transition-width-requires
 transition-width-requires c κs = search needs
 
@@ -29,16 +32,16 @@ cast-result-3 c = search needs
 
 mul-result : tie.Need-mul-result
 mul-result c =
-    let l : (c .before .before .before .before .args) .j ≤ 65536 = omega arith in
+    let l : (c .before .before .before .before .before .before .args) .j ≤ 65536 = omega arith in
     omega (arith, (c .arc-width) .ensures .1, (c .before .transition-width) .ensures .1, mul-le-mul-left ((c .arc-width) .result) l)
 
 add-result-2 : tie.Need-add-result-2
 add-result-2 c =
-    let l : (c .before .before .before .before .args) .j ≤ 65536 = omega arith in
+    let l : (c .before .before .before .before .before .before .args) .j ≤ 65536 = omega arith in
     omega (arith, (c .arc-width) .ensures .1, (c .before .transition-width) .ensures .1, mul-le-mul-left ((c .arc-width) .result) l)
 
 returns : tie.Need-returns
-returns c = rw ((c .arc-width) .ensures .0, (c .before .transition-width) .ensures .0, (c .before .before .transition-bit) .ensures)
+returns c = rw ((c .arc-width) .ensures .0, (c .before .transition-width) .ensures .0, (c .before .before .version) .ensures, (c .before .before .before .transition-bit) .ensures)
 
 pub arc-bit-spec : {M : Type 1} → statement M
 arc-bit-spec =
@@ -46,6 +49,7 @@ arc-bit-spec =
     (tie.spec
     transition-bit-requires
     cast-result
+    version-requires
     transition-width-requires
     cast-result-2
     add-result

@@ -4,9 +4,9 @@ use mathlib.Core.Path.{refl, sym, _∙_}
 use native.Mathlib.Omega.{arith}
 use lib.ListN.{getD}
 use denote.Ref.{now}
+use Rattle.card.specs.Tables.{tableSize}
 use borrow.Author.Needs.{needs}
 use borrow.Author.Tests.{leb-true, leb-false}
-use Rattle.card.proofs.Turn.{field-byte}
 use Rattle.card.proofs.WriteTurn.{Behind, behind-start, behind-room, behind-wide, behind-bad, behind-more, behind-done}
 use Rattle.card.proofs.writer.spell_numbers.Statement.{statement}
 use Rattle.card.proofs.writer.spell_numbers.Tie as tie
@@ -15,7 +15,7 @@ abbrev Inv-loop : tie.InvT-loop
 Inv-loop numbers bytes₀ l₀ at₀ n₀ bytes l at n = Behind numbers l at n bytes
 
 abbrev μ-loop : tie.MeasureT-loop
-μ-loop numbers bytes₀ l₀ at₀ n₀ bytes l at n = 33026 - n
+μ-loop numbers bytes₀ l₀ at₀ n₀ bytes l at n = tableSize - n
 
 start-requires : tie.Need-start-requires Inv-loop μ-loop
 start-requires c κs = search needs
@@ -67,7 +67,7 @@ step-requires c κs =
     let x = c .before .before .before .before .before .before .before .loop in
     let y = c .before .before .before .before .before .before .width in
     let f = c .before .before .before .before .too-wide in
-    (x .inv .sane, field-byte (y .result) (getD (now (a .numbers)) (x .n) 0) (omega arith) (leb-false (2 ^ y .result) (getD (now (a .numbers)) (x .n) 0) (sym (f .ensures) ∙ c .before .before .before .if1 .left)))
+    (x .inv .sane, rw (y .ensures .0) at (leb-false (2 ^ y .result) (getD (now (a .numbers)) (x .n) 0) (sym (f .ensures) ∙ c .before .before .before .if1 .left)))
 
 enum-known-m : tie.Need-enum-known-m Inv-loop μ-loop
 enum-known-m c = c .match .keys1
@@ -99,7 +99,7 @@ loop-again c =
     let f = c .before .before .before .before .before .before .before .before .too-wide in
     let p = c .before .before .before .before .before .put-field in
     let q = c .before .before .before .step in
-    behind-more (now (a .numbers)) (x .l) (x .at) (x .n) (x .bytes) (y .result) (getD (now (a .numbers)) (x .n) 0) (x .inv) (y .ensures .0) (q .result) (p .last .0) refl (leb-false (2 ^ y .result) (getD (now (a .numbers)) (x .n) 0) (sym (f .ensures) ∙ c .before .before .before .before .before .before .before .if1 .left)) (p .ensures) (q .ensures) _ (c .before .m .given .1) (omega arith)
+    behind-more (now (a .numbers)) (x .l) (x .at) (x .n) (x .bytes) (y .result) (getD (now (a .numbers)) (x .n) 0) (x .inv) (y .ensures .0) (q .result) (p .last .0) refl (leb-false (2 ^ y .result) (getD (now (a .numbers)) (x .n) 0) (sym (f .ensures) ∙ c .before .before .before .before .before .before .before .if1 .left)) (p .ensures) (q .ensures) _ (c .before .m .given .1)
 
 enum-known--k : tie.Need-enum-known--k Inv-loop μ-loop
 enum-known--k c = c .match .keys2

@@ -1,4 +1,4 @@
--- `runners::flat::flat_arcs` meets its contract. Assumes nothing.
+-- `flattening::rows::flat_arcs` meets its contract. Assumes nothing.
 use Prim.Native.Nat.{ℕ, _-_, _≤_}
 use mathlib.Core.Path.{_≡_, refl, sym, subst, _∙_}
 use native.Mathlib.Omega.{arith}
@@ -9,14 +9,14 @@ use borrow.Author.Needs.{needs}
 use Rattle.card.specs.Card.{Card, firstArc}
 use Rattle.card.specs.Index.{Loaded}
 use Rattle.hierarchy.specs.Conditions.{Meets}
-use Rattle.flattening.specs.inner.FlatRows.{ArcsTo}
+use Rattle.flattening.specs.inner.FlatRows.{ArcsTo, arcRows}
 use Rattle.flattening.proofs.FlatRowLaws.{no-arc, no-arcs, owned, all-arcs}
 use Rattle.flattening.proofs.rows.flat_arcs.Statement.{statement}
 use Rattle.flattening.proofs.rows.flat_arcs.Tie as tie
 
 abbrev Inv-loop : tie.InvT-loop
 Inv-loop numbers starts transitions rows₀ a₀ t₀ rows a t = (length rows ≡ length rows₀) × (t ≤ transitions)
-    × ((c : Card) → Meets c → Loaded c numbers starts → transitions ≡ length (c .transitions) → length rows₀ ≡ 31620 → (a ≡ firstArc c t) × ArcsTo c rows (firstArc c t))
+    × ((c : Card) → Meets c → Loaded c numbers starts → transitions ≡ length (c .transitions) → length rows₀ ≡ arcRows → (a ≡ firstArc c t) × ArcsTo c rows (firstArc c t))
 
 abbrev μ-loop : tie.MeasureT-loop
 μ-loop numbers starts transitions rows₀ a₀ t₀ rows a t = transitions - t

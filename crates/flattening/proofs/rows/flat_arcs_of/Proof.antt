@@ -1,4 +1,4 @@
--- `runners::flat::flat_arcs_of` meets its contract. Assumes nothing.
+-- `flattening::rows::flat_arcs_of` meets its contract. Assumes nothing.
 use Prim.Native.Nat.{ℕ, _+_, _-_, _≤_}
 use mathlib.Core.Path.{_≡_, refl, sym, ap, subst, _∙_}
 use mathlib.Core.List.{List}

@@ -1,4 +1,4 @@
--- `runners::flat::flat_place` meets its contract. Assumes nothing.
+-- `flattening::rows::flat_place` meets its contract. Assumes nothing.
 use denote.Ref.{now}
 use Rattle.flattening.proofs.FlatRowLaws.{flat-number}
 use borrow.Author.Needs.{needs}

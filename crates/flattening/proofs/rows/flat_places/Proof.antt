@@ -1,4 +1,4 @@
--- `runners::flat::flat_places` meets its contract. Assumes nothing.
+-- `flattening::rows::flat_places` meets its contract. Assumes nothing.
 use native.Mathlib.Numerals.{add-one}
 use Prim.Native.Nat.{ℕ, _-_, _≤_}
 use mathlib.Core.Path.{_≡_, refl, sym, subst, _∙_}
@@ -9,14 +9,14 @@ use borrow.Author.Needs.{needs}
 use Rattle.card.specs.Card.{Card, firstPlace}
 use Rattle.card.specs.Index.{Loaded}
 use Rattle.hierarchy.specs.Conditions.{Meets}
-use Rattle.flattening.specs.inner.FlatRows.{PlacesTo}
+use Rattle.flattening.specs.inner.FlatRows.{PlacesTo, placeRows}
 use Rattle.flattening.proofs.FlatRowLaws.{no-places, place-start, all-places}
 use Rattle.flattening.proofs.rows.flat_places.Statement.{statement}
 use Rattle.flattening.proofs.rows.flat_places.Tie as tie
 
 abbrev Inv-loop : tie.InvT-loop
 Inv-loop numbers starts subnets rows₀ s₀ rows s = (length rows ≡ length rows₀) × (s ≤ subnets)
-    × ((c : Card) → Meets c → Loaded c numbers starts → subnets ≡ length (c .subnets) → length rows₀ ≡ 765 → PlacesTo c rows (firstPlace c s))
+    × ((c : Card) → Meets c → Loaded c numbers starts → subnets ≡ length (c .subnets) → length rows₀ ≡ placeRows → PlacesTo c rows (firstPlace c s))
 
 abbrev μ-loop : tie.MeasureT-loop
 μ-loop numbers starts subnets rows₀ s₀ rows s = subnets - s

@@ -1,4 +1,4 @@
--- `runners::flat::flat_places_of` meets its contract. Assumes nothing.
+-- `flattening::rows::flat_places_of` meets its contract. Assumes nothing.
 use Prim.Native.Nat.{ℕ, _+_, _-_, _≤_, _<_}
 use mathlib.Core.Path.{_≡_, refl, sym, ap, subst, _∙_}
 use mathlib.Core.List.{List}
@@ -11,7 +11,7 @@ use Rattle.card.specs.Card.{Card, firstPlace}
 use Rattle.card.specs.Index.{Loaded, subnetRow}
 use Rattle.hierarchy.specs.Conditions.{Meets}
 use Rattle.flattening.specs.inner.FlatRows.{PlacesTo}
-use Rattle.flattening.proofs.FlatRowLaws.{place-long, places-turn, places-end}
+use Rattle.flattening.proofs.FlatRowLaws.{row-long, places-turn, places-end}
 use Rattle.flattening.proofs.rows.flat_places_of.Statement.{statement}
 use Rattle.flattening.proofs.rows.flat_places_of.Tie as tie
 
@@ -40,8 +40,8 @@ capacity-requires c κs = search needs
 tokens-requires : tie.Need-tokens-requires Inv-loop μ-loop
 tokens-requires c κs = search needs
 
-put-place-requires : tie.Need-put-place-requires Inv-loop μ-loop
-put-place-requires c κs = omega arith
+put-row-requires : tie.Need-put-row-requires Inv-loop μ-loop
+put-row-requires c κs = omega arith
 
 add-n : tie.Need-add-n Inv-loop μ-loop
 add-n c = search needs
@@ -51,9 +51,9 @@ loop-less c = search needs
 
 loop-again : tie.Need-loop-again Inv-loop μ-loop
 loop-again c = (
-  ap length ((c .before .before .put-place) .ensures) ∙ place-long ((c .before .before .before .before .before .before .before .loop) .rows) ((c .before .before .before .before .before .before .before .before .before .before .before .args) .first + (c .before .before .before .before .before .before .before .loop) .n) ((c .before .before .before .before .capacity) .result) ((c .before .before .before .tokens) .result) ∙ (c .before .before .before .before .before .before .before .loop) .inv .0,
+  ap length ((c .before .before .put-row) .ensures) ∙ row-long ((c .before .before .before .before .before .before .before .loop) .rows) ((c .before .before .before .before .before .before .before .before .before .before .before .args) .first + (c .before .before .before .before .before .before .before .loop) .n) 0 ((c .before .before .before .before .capacity) .result) ((c .before .before .before .tokens) .result) ∙ (c .before .before .before .before .before .before .before .loop) .inv .0,
   omega arith,
-  λ k ss s m l b er ef x. subst (λ (xs : List ℕ). PlacesTo k xs (firstPlace k s + ((c .before .before .before .before .before .before .before .loop) .n + 1))) (sym ((c .before .before .put-place) .ensures))
+  λ k ss s m l b er ef x. subst (λ (xs : List ℕ). PlacesTo k xs (firstPlace k s + ((c .before .before .before .before .before .before .before .loop) .n + 1))) (sym ((c .before .before .put-row) .ensures))
       (places-turn k m (now ((c .before .before .before .before .before .before .before .before .before .before .before .args) .numbers)) ss l s ((c .before .before .before .before .before .before .before .before .before .before .before .args) .row) ((c .before .before .before .before .before .before .before .before .before .before .before .args) .first) ((c .before .before .before .before .before .before .before .before .place-count) .result) ((c .before .before .before .before .before .before .before .loop) .n) ((c .before .before .before .before .before .before .before .loop) .rows) ((c .before .before .before .before .capacity) .result) ((c .before .before .before .tokens) .result) b er ef ((c .before .before .before .before .before .before .before .before .place-count) .ensures) ((c .before .before .before .before .before .before .before .loop) .inv .2 k ss s m l b er ef x) ((c .before .before .before .before .before .before .loop-test) .taken) ((c .before .before .before .before .capacity) .ensures) ((c .before .before .before .tokens) .ensures)),
 )
 
@@ -75,7 +75,7 @@ flat-places-of-spec =
     add-p
     capacity-requires
     tokens-requires
-    put-place-requires
+    put-row-requires
     add-n
     loop-less
     loop-again

@@ -1,6 +1,6 @@
 -- `runners::flat::flat_transitions` meets its contract. Assumes nothing.
 use Prim.Native.Nat.{_+_, _-_, _*_, _≤_}
-use mathlib.Core.Path.{_≡_, refl, subst, _∙_}
+use mathlib.Core.Path.{_≡_, refl, ap, subst, _∙_}
 use native.Mathlib.Omega.{arith}
 use lib.ListN.{length}
 use denote.Ref.{now}
@@ -8,14 +8,14 @@ use borrow.Author.Needs.{needs}
 use Rattle.card.specs.Card.{Card}
 use Rattle.card.specs.Index.{Loaded}
 use Rattle.hierarchy.specs.Conditions.{Meets}
-use Rattle.flattening.specs.inner.FlatRows.{TransitionsTo}
-use Rattle.flattening.proofs.FlatRowLaws.{set-long₂, no-transitions, transitions-turn}
+use Rattle.flattening.specs.inner.FlatRows.{TransitionsTo, transitionRows}
+use Rattle.flattening.proofs.FlatRowLaws.{row-long, no-transitions, transitions-turn}
 use Rattle.flattening.proofs.rows.flat_transitions.Statement.{statement}
 use Rattle.flattening.proofs.rows.flat_transitions.Tie as tie
 
 abbrev Inv-loop : tie.InvT-loop
 Inv-loop numbers starts transitions rows₀ t₀ rows t = (length rows ≡ length rows₀) × (t ≤ transitions)
-    × ((c : Card) → Meets c → Loaded c numbers starts → transitions ≡ length (c .transitions) → length rows₀ ≡ 510 → TransitionsTo c rows t)
+    × ((c : Card) → Meets c → Loaded c numbers starts → transitions ≡ length (c .transitions) → length rows₀ ≡ transitionRows → TransitionsTo c rows t)
 
 abbrev μ-loop : tie.MeasureT-loop
 μ-loop numbers starts transitions rows₀ t₀ rows t = transitions - t
@@ -29,26 +29,20 @@ cast-transition-row c = search needs
 transition-row-requires : tie.Need-transition-row-requires Inv-loop μ-loop
 transition-row-requires c κs = search needs
 
-cast-i : tie.Need-cast-i Inv-loop μ-loop
-cast-i c = search needs
-
-mul-i : tie.Need-mul-i Inv-loop μ-loop
-mul-i c = search needs
+cast-put-row : tie.Need-cast-put-row Inv-loop μ-loop
+cast-put-row c = search needs
 
 signal-requires : tie.Need-signal-requires Inv-loop μ-loop
 signal-requires c κs = search needs
 
-put-requires : tie.Need-put-requires Inv-loop μ-loop
-put-requires c κs = search needs
-
-add-put : tie.Need-add-put Inv-loop μ-loop
-add-put c = search needs
-
 arc-count-requires : tie.Need-arc-count-requires Inv-loop μ-loop
 arc-count-requires c κs = search needs
 
-put-requires-2 : tie.Need-put-requires-2 Inv-loop μ-loop
-put-requires-2 c κs = search needs
+rank-requires : tie.Need-rank-requires Inv-loop μ-loop
+rank-requires c κs = search needs
+
+put-row-requires : tie.Need-put-row-requires Inv-loop μ-loop
+put-row-requires c κs = omega arith
 
 add-t : tie.Need-add-t Inv-loop μ-loop
 add-t c = search needs
@@ -58,9 +52,9 @@ loop-less c = search needs
 
 loop-again : tie.Need-loop-again Inv-loop μ-loop
 loop-again c = (
-  rw ((c .before .before .put2) .ensures, (c .before .before .before .before .before .before .before .put) .ensures) (set-long₂ ((c .before .before .before .before .before .before .before .before .before .before .before .before .loop) .rows) (2 * (c .before .before .before .before .before .before .before .before .before .before .before .before .loop) .t) ((c .before .before .before .before .before .before .before .before .signal) .result) (2 * (c .before .before .before .before .before .before .before .before .before .before .before .before .loop) .t + 1) ((c .before .before .before .arc-count) .result) ∙ (c .before .before .before .before .before .before .before .before .before .before .before .before .loop) .inv .0),
+  ap length (c .before .before .put-row .ensures) ∙ row-long (c .before .before .before .before .before .before .before .before .before .loop .rows) (c .before .before .before .before .before .before .before .before .before .loop .t) (c .before .before .before .before .before .signal .result) (c .before .before .before .before .arc-count .result) (c .before .before .before .rank .result) ∙ c .before .before .before .before .before .before .before .before .before .loop .inv .0,
   omega arith,
-  λ k m l e b. rw ((c .before .before .put2) .ensures, (c .before .before .before .before .before .before .before .put) .ensures) (transitions-turn k m (now ((c .before .before .before .before .before .before .before .before .before .before .before .before .before .before .before .before .args) .numbers)) (now ((c .before .before .before .before .before .before .before .before .before .before .before .before .before .before .before .before .args) .starts)) l ((c .before .before .before .before .before .before .before .before .before .before .before .before .loop) .t) ((c .before .before .before .before .before .before .before .before .before .before .transition-row) .result) ((c .before .before .before .before .before .before .before .before .signal) .result) ((c .before .before .before .arc-count) .result) ((c .before .before .before .before .before .before .before .before .before .before .before .before .loop) .rows) ((c .before .before .before .before .before .before .before .before .before .before .before .before .loop) .inv .2 k m l e b) (omega arith) ((c .before .before .before .before .before .before .before .before .before .before .transition-row) .ensures) ((c .before .before .before .before .before .before .before .before .signal) .ensures) ((c .before .before .before .arc-count) .ensures)),
+  λ k m l e b. rw (c .before .before .put-row .ensures) (transitions-turn k m (now (c .before .before .before .before .before .before .before .before .before .before .before .before .before .args .numbers)) (now (c .before .before .before .before .before .before .before .before .before .before .before .before .before .args .starts)) l (c .before .before .before .before .before .before .before .before .before .loop .t) (c .before .before .before .before .before .before .before .transition-row .result) (c .before .before .before .before .before .signal .result) (c .before .before .before .before .arc-count .result) (c .before .before .before .rank .result) (c .before .before .before .before .before .before .before .before .before .loop .rows) (c .before .before .before .before .before .before .before .before .before .loop .inv .2 k m l e b) (omega arith) (c .before .before .before .before .before .before .before .transition-row .ensures) (c .before .before .before .before .before .signal .ensures) (c .before .before .before .before .arc-count .ensures) (c .before .before .before .rank .ensures)),
 )
 
 same-length : tie.Need-same-length Inv-loop μ-loop
@@ -78,13 +72,11 @@ flat-transitions-spec =
     loop-holds
     cast-transition-row
     transition-row-requires
-    cast-i
-    mul-i
+    cast-put-row
     signal-requires
-    put-requires
-    add-put
     arc-count-requires
-    put-requires-2
+    rank-requires
+    put-row-requires
     add-t
     loop-less
     loop-again

@@ -1,4 +1,4 @@
--- `runners::flat::put` meets its contract. Assumes nothing.
+-- `flattening::rows::put` meets its contract. Assumes nothing.
 use mathlib.Core.Path.{sym}
 use lib.Seq.{set-out}
 use denote.Ref.{now}

@@ -1,4 +1,4 @@
--- `runners::flat::put_arc` meets its contract. Assumes nothing.
+-- `flattening::rows::put_arc` meets its contract. Assumes nothing.
 use borrow.Author.Needs.{needs}
 use Rattle.flattening.proofs.rows.put_arc.Statement.{statement}
 use Rattle.flattening.proofs.rows.put_arc.Tie as tie

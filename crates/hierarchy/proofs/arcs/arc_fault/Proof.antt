@@ -20,7 +20,7 @@ returns c =
     λ d l e b m.
     let q = arc-is (l .laid) b m (c .before .before .before .arc-at .ensures) in
     let s = failed (c .before .before .seen .ensures d l e) (c .before .if1 .taken) in
-    fault-unseen (b .lists) (x .j) q (l .indexed) (c .arc-bit .ensures) s
+    fault-unseen (b .lists) (x .j) q (l .indexed) (l .laid .version) (c .arc-bit .ensures) s
 
 directed-requires : tie.Need-directed-requires
 directed-requires c κs = search needs
@@ -36,7 +36,7 @@ returns-2 c =
     let s = passed (c .before .before .before .before .seen .ensures d l e) (c .before .before .before .if1 .left) in
     let y = seen-place d (x .i) (arcOf (c .before .before .before .before .before .arc-at .result)) s in
     let v = failed (c .before .before .directed .ensures d l y) (c .before .if2 .taken) in
-    fault-direction (b .lists) (x .j) q (l .indexed) (c .arc-bit2 .ensures) s v
+    fault-direction (b .lists) (x .j) q (l .indexed) (l .laid .version) (c .arc-bit2 .ensures) s v
 
 weighted-requires : tie.Need-weighted-requires
 weighted-requires c κs = search needs
@@ -53,7 +53,7 @@ returns-3 c =
     let y = seen-place d (x .i) (arcOf (c .before .before .before .before .before .before .before .arc-at .result)) s in
     let v = passed (c .before .before .before .before .directed .ensures d l y) (c .before .before .before .if2 .left) in
     let w = failed (c .before .before .weighted .ensures d l y) (c .before .if3 .taken) in
-    fault-weight (b .lists) (x .j) q (l .indexed) (c .arc-bit3 .ensures) s v w
+    fault-weight (b .lists) (x .j) q (l .indexed) (l .laid .version) (c .arc-bit3 .ensures) s v w
 
 single-requires : tie.Need-single-requires
 single-requires c κs = search needs
@@ -71,7 +71,7 @@ returns-4 c =
     let v = passed (c .before .before .before .before .before .before .directed .ensures d l y) (c .before .before .before .before .before .if2 .left) in
     let w = passed (c .before .before .before .before .weighted .ensures d l y) (c .before .before .before .if3 .left) in
     let o = failed (c .before .before .single .ensures d (l .laid) (x .i) (x .t) b m q) (c .before .if4 .taken) in
-    fault-repeated (b .lists) (x .j) q (l .indexed) (c .arc-bit4 .ensures) s v w o
+    fault-repeated (b .lists) (x .j) q (l .indexed) (l .laid .version) (c .arc-bit4 .ensures) s v w o
 
 returns-5 : tie.Need-returns-5
 returns-5 c =

@@ -4,6 +4,7 @@ use native.Mathlib.Omega.{arith}
 use lib.ListN.{replicate, length-replicate}
 use denote.Ref.{now}
 use Rattle.flattening.proofs.FlatWrite.{cut-is}
+use Rattle.card.specs.Tables.{cardBytes}
 use Rattle.runners.proofs.CallLaws.{flat-long}
 use Rattle.runners.proofs.NetLaws.{flat-none, flat-held}
 use borrow.Author.Needs.{needs}
@@ -23,25 +24,25 @@ card-net-requires : tie.Need-card-net-requires
 card-net-requires c κs = search needs
 
 returns : tie.Need-returns
-returns c = flat-none (now ((c .before .before .before .before .before .before .args) .card)) (replicate 33026 0) ((c .before .before .before .flatten) .last .1 .0) ((c .before .before .before .flatten) .result) ((c .before .before .before .flatten) .ensures) (length-replicate {A = ℕ} 33026 0) ((c .card-net) .result) ((c .before .match) .keys2) ((c .card-net) .ensures)
+returns c = flat-none (now ((c .before .before .before .before .before .before .args) .card)) (replicate cardBytes 0) ((c .before .before .before .flatten) .last .1 .0) ((c .before .before .before .flatten) .result) ((c .before .before .before .flatten) .ensures) (length-replicate {A = ℕ} cardBytes 0) ((c .card-net) .result) ((c .before .match) .keys2) ((c .card-net) .ensures)
 
 card-net-requires-2 : tie.Need-card-net-requires-2
 card-net-requires-2 c κs = search needs
 
 returns-2 : tie.Need-returns-2
-returns-2 c = absurd (omega (arith, flat-long (now ((c .before .before .before .before .before .before .before .before .before .args) .card)) (replicate 33026 0) ((c .before .before .before .before .before .before .flatten) .last .1 .0) ((c .before .before .before .before .before .before .flatten) .result) ((c .before .before .before .before .before .before .flatten) .ensures) (length-replicate {A = ℕ} 33026 0) _ ((c .before .before .before .w) .given .1), (c .before .if1) .taken))
+returns-2 c = absurd (omega (arith, flat-long (now ((c .before .before .before .before .before .before .before .before .before .args) .card)) (replicate cardBytes 0) ((c .before .before .before .before .before .before .flatten) .last .1 .0) ((c .before .before .before .before .before .before .flatten) .result) ((c .before .before .before .before .before .before .flatten) .ensures) (length-replicate {A = ℕ} cardBytes 0) _ ((c .before .before .before .w) .given .1), (c .before .if1) .taken))
 
 array-share-prefix-flat : tie.Need-array-share-prefix-flat
 array-share-prefix-flat c = search needs
 
 slice-aggregate-card-net : tie.Need-slice-aggregate-card-net
-slice-aggregate-card-net c = cut-is ((c .before .before .before .w) .given .0 .0) ((c .before .before .before .before .before .before .flatten) .last .1 .0) (omega (arith, (c .before .if1) .left, (c .before .before .before .before .before .before .flatten) .kept .1 .0, length-replicate {A = ℕ} 33026 0))
+slice-aggregate-card-net c = cut-is ((c .before .before .before .w) .given .0 .0) ((c .before .before .before .before .before .before .flatten) .last .1 .0) (omega (arith, (c .before .if1) .left, (c .before .before .before .before .before .before .flatten) .kept .1 .0, length-replicate {A = ℕ} cardBytes 0))
 
 card-net-requires-3 : tie.Need-card-net-requires-3
 card-net-requires-3 c κs = search needs
 
 returns-3 : tie.Need-returns-3
-returns-3 c = flat-held (now ((c .before .before .before .before .before .before .before .before .before .before .args) .card)) (replicate 33026 0) ((c .before .before .before .before .before .before .before .flatten) .last .1 .0) ((c .before .before .before .before .before .before .before .flatten) .result) ((c .before .before .before .before .before .before .before .flatten) .ensures) (length-replicate {A = ℕ} 33026 0) ((c .card-net3) .result) _ ((c .before .before .before .before .w) .given .1) ((c .card-net3) .ensures)
+returns-3 c = flat-held (now ((c .before .before .before .before .before .before .before .before .before .before .args) .card)) (replicate cardBytes 0) ((c .before .before .before .before .before .before .before .flatten) .last .1 .0) ((c .before .before .before .before .before .before .before .flatten) .result) ((c .before .before .before .before .before .before .before .flatten) .ensures) (length-replicate {A = ℕ} cardBytes 0) ((c .card-net3) .result) _ ((c .before .before .before .before .w) .given .1) ((c .card-net3) .ensures)
 
 pub flat-net-spec : {M : Type 1} → statement M
 flat-net-spec =

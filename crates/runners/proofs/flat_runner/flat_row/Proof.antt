@@ -4,6 +4,7 @@ use native.Mathlib.Omega.{arith}
 use lib.ListN.{replicate, length-replicate}
 use denote.Ref.{now}
 use Rattle.flattening.proofs.FlatWrite.{cut-is}
+use Rattle.card.specs.Tables.{cardBytes}
 use Rattle.runners.proofs.CallLaws.{flat-refused, never-short, flat-long, flat-passed}
 use borrow.Author.Needs.{needs}
 use Rattle.runners.proofs.flat_runner.flat_row.Statement.{statement}
@@ -34,25 +35,25 @@ refuse-requires-3 : tie.Need-refuse-requires-3
 refuse-requires-3 c κs = search needs
 
 returns : tie.Need-returns
-returns c = absurd (omega (arith, flat-long (now ((c .before .before .before .before .before .before .before .before .before .before .args) .card)) (replicate 33026 0) ((c .before .before .before .before .before .before .flatten) .last .1 .0) ((c .before .before .before .before .before .before .flatten) .result) ((c .before .before .before .before .before .before .flatten) .ensures) (length-replicate {A = ℕ} 33026 0) _ ((c .before .before .before .w3) .given .1), (c .before .if1) .taken))
+returns c = absurd (omega (arith, flat-long (now ((c .before .before .before .before .before .before .before .before .before .before .args) .card)) (replicate cardBytes 0) ((c .before .before .before .before .before .before .flatten) .last .1 .0) ((c .before .before .before .before .before .before .flatten) .result) ((c .before .before .before .before .before .before .flatten) .ensures) (length-replicate {A = ℕ} cardBytes 0) _ ((c .before .before .before .w3) .given .1), (c .before .if1) .taken))
 
 array-share-prefix-flat : tie.Need-array-share-prefix-flat
 array-share-prefix-flat c = search needs
 
 slice-aggregate-flat-card-row : tie.Need-slice-aggregate-flat-card-row
-slice-aggregate-flat-card-row c = cut-is ((c .before .before .before .w3) .given .0 .0) ((c .before .before .before .before .before .before .flatten) .last .1 .0) (omega (arith, (c .before .if1) .left, (c .before .before .before .before .before .before .flatten) .kept .1 .0, length-replicate {A = ℕ} 33026 0))
+slice-aggregate-flat-card-row c = cut-is ((c .before .before .before .w3) .given .0 .0) ((c .before .before .before .before .before .before .flatten) .last .1 .0) (omega (arith, (c .before .if1) .left, (c .before .before .before .before .before .before .flatten) .kept .1 .0, length-replicate {A = ℕ} cardBytes 0))
 
 flat-card-row-requires : tie.Need-flat-card-row-requires
 flat-card-row-requires c κs = search needs
 
 returns-2 : tie.Need-returns-2
-returns-2 c = flat-refused (now ((c .before .before .before .before .before .before .before .before .before .args) .card)) (replicate 33026 0) ((c .before .before .before .before .before .flatten) .last .1 .0) (now ((c .before .before .before .before .before .before .before .before .before .args) .row)) ((c .before .before .before .before .before .before .before .before .before .args) .state) ((c .before .before .before .before .before .flatten) .result) ((c .before .before .before .before .before .flatten) .ensures) (length-replicate {A = ℕ} 33026 0) ((c .refuse) .result) _ _ ((c .before .before .w) .given .1) ((c .refuse) .ensures)
+returns-2 c = flat-refused (now ((c .before .before .before .before .before .before .before .before .before .args) .card)) (replicate cardBytes 0) ((c .before .before .before .before .before .flatten) .last .1 .0) (now ((c .before .before .before .before .before .before .before .before .before .args) .row)) ((c .before .before .before .before .before .before .before .before .before .args) .state) ((c .before .before .before .before .before .flatten) .result) ((c .before .before .before .before .before .flatten) .ensures) (length-replicate {A = ℕ} cardBytes 0) ((c .refuse) .result) _ _ ((c .before .before .w) .given .1) ((c .refuse) .ensures)
 
 returns-3 : tie.Need-returns-3
-returns-3 c = absurd (never-short (now ((c .before .before .before .before .before .before .before .before .before .args) .card)) (replicate 33026 0) ((c .before .before .before .before .before .flatten) .last .1 .0) ((c .before .before .before .before .before .flatten) .result) ((c .before .before .before .before .before .flatten) .ensures) (length-replicate {A = ℕ} 33026 0) _ ((c .before .before .w2) .given .1))
+returns-3 c = absurd (never-short (now ((c .before .before .before .before .before .before .before .before .before .args) .card)) (replicate cardBytes 0) ((c .before .before .before .before .before .flatten) .last .1 .0) ((c .before .before .before .before .before .flatten) .result) ((c .before .before .before .before .before .flatten) .ensures) (length-replicate {A = ℕ} cardBytes 0) _ ((c .before .before .w2) .given .1))
 
 returns-4 : tie.Need-returns-4
-returns-4 c = flat-passed (now ((c .before .before .before .before .before .before .before .before .before .before .before .args) .card)) (replicate 33026 0) ((c .before .before .before .before .before .before .before .flatten) .last .1 .0) (now ((c .before .before .before .before .before .before .before .before .before .before .before .args) .row)) ((c .before .before .before .before .before .before .before .before .before .before .before .args) .state) ((c .before .before .before .before .before .before .before .flatten) .result) ((c .before .before .before .before .before .before .before .flatten) .ensures) (length-replicate {A = ℕ} 33026 0) ((c .flat-card-row) .result) _ ((c .before .before .before .before .w3) .given .1) ((c .flat-card-row) .ensures)
+returns-4 c = flat-passed (now ((c .before .before .before .before .before .before .before .before .before .before .before .args) .card)) (replicate cardBytes 0) ((c .before .before .before .before .before .before .before .flatten) .last .1 .0) (now ((c .before .before .before .before .before .before .before .before .before .before .before .args) .row)) ((c .before .before .before .before .before .before .before .before .before .before .before .args) .state) ((c .before .before .before .before .before .before .before .flatten) .result) ((c .before .before .before .before .before .before .before .flatten) .ensures) (length-replicate {A = ℕ} cardBytes 0) ((c .flat-card-row) .result) _ ((c .before .before .before .before .w3) .given .1) ((c .flat-card-row) .ensures)
 
 pub flat-row-spec : {M : Type 1} → statement M
 flat-row-spec =

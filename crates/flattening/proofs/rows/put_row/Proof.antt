@@ -1,10 +1,10 @@
--- `runners::flat::put_place` meets its contract. Assumes nothing.
+-- `flattening::rows::put_row` meets its contract. Assumes nothing.
 use borrow.Author.Needs.{needs}
-use Rattle.flattening.proofs.rows.put_place.Statement.{statement}
-use Rattle.flattening.proofs.rows.put_place.Tie as tie
+use Rattle.flattening.proofs.rows.put_row.Statement.{statement}
+use Rattle.flattening.proofs.rows.put_row.Tie as tie
 
-mul-i : tie.Need-mul-i
-mul-i c = search needs
+mul-k : tie.Need-mul-k
+mul-k c = search needs
 
 put-requires : tie.Need-put-requires
 put-requires c κs = search needs
@@ -27,11 +27,11 @@ same-length c = search needs
 returns : tie.Need-returns
 returns c = rw ((c .before .before .put3) .ensures, (c .before .before .before .before .before .before .put2) .ensures, (c .before .before .before .before .before .before .before .before .before .before .put) .ensures)
 
-pub put-place-spec : {M : Type 1} → statement M
-put-place-spec =
+pub put-row-spec : {M : Type 1} → statement M
+put-row-spec =
     tie.close
     (tie.spec
-    mul-i
+    mul-k
     put-requires
     add-put
     put-requires-2
