@@ -17,11 +17,12 @@ use crate::layout::transition_fields;
 use crate::layout::transition_width;
 use crate::tables::arc_count;
 use crate::tables::place_count;
+use crate::tables::put_wide;
 use crate::tables::transition_count;
 use crate::tables::version;
 ghost use mathlib.Core.Path.{_≡_};
 ghost use Prim.Native.Nat.{ℕ, _+_, _*_, _≤_, _<_};
-ghost use lib.ListN.{length, set};
+ghost use lib.ListN.{length};
 ghost use Rattle.card.specs.Card.{Card};
 ghost use Rattle.card.specs.Format.{count, size};
 ghost use Rattle.card.specs.Grammar.{subnet, place, transition, arc};
@@ -68,24 +69,15 @@ fn after_places(p: Position, places: u16) -> Position
     }
 }
 
-// Stores entry i; past the end it stores nothing.
-fn put_start(starts: &mut [u32], i: usize, v: u32)
-    ensures { λ r. ⌜ now (starts .exit) ≡ set (now (starts .entry)) i v ⌝ }
-{
-    if i < starts.len() {
-        starts[i] = v;
-    }
-}
-
 // Stores where subnet s begins, and the flat numbers of its first place and transition.
 fn put_subnet(starts: &mut [u32], s: u16, p: Position, place: u32, transition: u32)
     ensures { λ r. ⌜ now (starts .exit) ≡ putSubnet (now (starts .entry)) s (p .row) (p .bit) place transition ⌝ }
 {
     let i = s as usize;
-    put_start(starts, i, p.row);
-    put_start(starts, SUBNET_BITS + i, p.bit);
-    put_start(starts, FIRST_PLACES + i, place);
-    put_start(starts, FIRST_TRANSITIONS + i, transition);
+    put_wide(starts, i, p.row);
+    put_wide(starts, SUBNET_BITS + i, p.bit);
+    put_wide(starts, FIRST_PLACES + i, place);
+    put_wide(starts, FIRST_TRANSITIONS + i, transition);
 }
 
 // Stores where transitions begin, from transition first on, and says where the last one ends.
@@ -109,8 +101,8 @@ fn index_transitions(
         if !on_card(p) {
             return p;
         }
-        put_start(starts, TRANSITION_ROWS + t as usize, p.row);
-        put_start(starts, TRANSITION_BITS + t as usize, p.bit);
+        put_wide(starts, TRANSITION_ROWS + t as usize, p.row);
+        put_wide(starts, TRANSITION_BITS + t as usize, p.bit);
         p = after_transition(p, version(numbers), arc_count(numbers, p.row));
         t += 1;
     }

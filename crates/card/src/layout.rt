@@ -3,6 +3,8 @@ use crate::ARC_FIELDS;
 use crate::Counts;
 use crate::FormatFault;
 use crate::HEADER_FIELDS;
+use crate::MAX_COUNT;
+use crate::MAX_SUBNETS;
 use crate::PLACE_FIELDS;
 use crate::SUBNET_FIELDS;
 use crate::TRANSITION_FIELDS;
@@ -12,7 +14,7 @@ ghost use Prim.Native.Nat.{ℕ, _+_, _^_, _<_, _≤_};
 ghost use Rattle.card.specs.Format.{count, size, sizeFrom};
 ghost use Rattle.card.specs.Grammar;
 ghost use Rattle.card.specs.Grammar.{header, subnet, place, transition, arc};
-ghost use Rattle.card.specs.inner.Layout.{startOf, widthAt, widthOf, to, stepAt, stepOf, Sane};
+ghost use Rattle.card.specs.inner.Layout.{startOf, widthAt, widthOf, to, stepAt, stepOf, IsArcField, ArcGoesOn, Sane};
 ghost use Rattle.card.specs.declared.layout.Move.the-variants.{More};
 ghost use Rattle.card.specs.declared.layout.Phase.the-variants.{Version, SubnetCount, SignalCount, Limit, Scale, Parent, SubnetType, PlaceCount, TransitionCount, Kind, Capacity, Tokens, Signal, ArcCount, Rank, Direction, ArcSubnet, ArcPlace, Weight};
 
@@ -151,32 +153,44 @@ pub fn arc_next(l: Layout) -> bool
     }
 }
 
-// Whether an arc's weight comes next.
-fn weight_next(l: Layout) -> bool
-    ensures { λ r. ⌜ (r ≡ true → l .phase ≡ Weight) ⌝ }
+// Which field of an arc comes next: 0 to 3, and 4 where none does.
+pub fn arc_field(l: Layout) -> usize
+    ensures { λ r. ⌜ IsArcField l r ⌝ }
 {
     let p = l.phase;
     match p {
-        Phase::Weight => true,
-        _ => false,
+        Phase::Direction => 0,
+        Phase::ArcSubnet => 1,
+        Phase::ArcPlace => 2,
+        Phase::Weight => 3,
+        _ => 4,
     }
 }
 
-// Whether an arc's weight comes next and another arc of its transition behind it.
-pub fn arc_behind(l: Layout) -> bool
-    ensures { λ r. ⌜ (r ≡ true → (l .phase ≡ Weight) × (0 < l .«arc_rows»)) ⌝ }
+// Whether another field of the transition's arcs stands behind field k of this one.
+pub fn arc_goes_on(l: Layout, k: usize) -> bool
+    ensures { λ r. ⌜ (r ≡ true → ArcGoesOn l k) ⌝ }
 {
-    if 0 < l.arc_rows {
-        return weight_next(l);
+    if k == 3 {
+        return 0 < l.arc_rows;
     }
-    false
+    k < 3
 }
 
-// Then that arc comes next, whatever the weight. The reader's loop takes it so, since most fields are arcs'.
-pub fn arc_again(l: Layout) -> Layout
-    requires { ⌜ 0 < l .«arc_rows» ⌝ }
-    ensures { λ r. ⌜ ((v : ℕ) → l .phase ≡ Weight → More r ≡ stepOf l v) ⌝ }
+// Then that field comes next, whatever the number. Reader and writer take it so: most fields are arcs', and a `step` answers through memory.
+pub fn arc_step(l: Layout, k: usize) -> Layout
+    requires { ⌜ IsArcField l k × ArcGoesOn l k ⌝ }
+    ensures { λ r. ⌜ ((v : ℕ) → More r ≡ stepOf l v) ⌝ }
 {
+    if k == 0 {
+        return moved(l, Phase::ArcSubnet);
+    }
+    if k == 1 {
+        return moved(l, Phase::ArcPlace);
+    }
+    if k == 2 {
+        return moved(l, Phase::Weight);
+    }
     let mut m = l;
     m.arc_rows = l.arc_rows - 1;
     moved(m, Phase::Direction)
@@ -276,7 +290,7 @@ fn after_subnet_count(l: Layout, v: u16) -> Move
     if v < 1 {
         return Move::Bad(FormatFault::BadSize);
     }
-    if 32 < v {
+    if MAX_SUBNETS < v {
         return Move::Bad(FormatFault::BadSize);
     }
     let mut m = l;
@@ -329,7 +343,7 @@ fn after_place_count(l: Layout, v: u16) -> Move
     if v < 1 {
         return Move::Bad(FormatFault::BadCount);
     }
-    if 255 < l.places + v {
+    if MAX_COUNT < l.places + v {
         return Move::Bad(FormatFault::BadCount);
     }
     let mut m = l;
@@ -345,7 +359,7 @@ fn after_transition_count(l: Layout, v: u16) -> Move
     if v < 1 {
         return Move::Bad(FormatFault::BadCount);
     }
-    if 255 < l.transitions + v {
+    if MAX_COUNT < l.transitions + v {
         return Move::Bad(FormatFault::BadCount);
     }
     let mut m = l;

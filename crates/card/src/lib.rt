@@ -12,12 +12,17 @@ pub mod writer;
 ghost use mathlib.Core.Path.{_≡_};
 ghost use Rattle.card.specs.Numbers.{number};
 
+// The most subnets of a card, and the most places or transitions, as the numbers of 16 bits that they are compared with.
+pub const MAX_SUBNETS: u16 = 32;
+
+pub const MAX_COUNT: u16 = 255;
+
 // The most subnets, places, transitions and signals of a card, and the most arcs of a transition.
-pub const MOST_SUBNETS: usize = 32;
+pub const MOST_SUBNETS: usize = MAX_SUBNETS as usize;
 
-pub const MOST_PLACES: usize = 255;
+pub const MOST_PLACES: usize = MAX_COUNT as usize;
 
-pub const MOST_TRANSITIONS: usize = 255;
+pub const MOST_TRANSITIONS: usize = MAX_COUNT as usize;
 
 pub const MOST_SIGNALS: usize = 63;
 

@@ -9,10 +9,11 @@ use crate::index::index;
 use crate::layout::Layout;
 use crate::layout::Move;
 use crate::layout::Phase;
-use crate::layout::arc_again;
-use crate::layout::arc_behind;
+use crate::layout::arc_field;
+use crate::layout::arc_goes_on;
 use crate::layout::arc_head_width;
 use crate::layout::arc_next;
+use crate::layout::arc_step;
 use crate::layout::moved;
 use crate::layout::start;
 use crate::layout::step;
@@ -23,7 +24,7 @@ ghost use mathlib.Core.Bool.{true};
 ghost use Prim.Native.Nat.{_+_, _*_, _≤_};
 ghost use lib.ListN.{length, replicate};
 ghost use Rattle.card.specs.Parsing.{readCard, excess};
-ghost use Rattle.card.specs.Tables.{tableSize, IsRead};
+ghost use Rattle.card.specs.Tables.{tableSize, cardBits, IsRead};
 ghost use Rattle.card.specs.inner.Reader.{IsRefused, excessOf, arcHeadWidth, IsArcHead, endedAs, IsFilled};
 ghost use Rattle.card.specs.declared.layout.Phase.the-variants.{Direction};
 
@@ -47,7 +48,7 @@ pub enum Excess {
 
 // What follows a card that ends before bit end: its first nonzero fill bit, else the first bit of a further byte.
 fn excess_at(card: &[u8], end: usize) -> Excess
-    requires { ⌜ (end ≤ 8 * length (now card)) × (end ≤ 1000000) ⌝ }
+    requires { ⌜ (end ≤ 8 * length (now card)) × (end ≤ cardBits) ⌝ }
     ensures { λ r. ⌜ excessOf r ≡ excess (now (card .entry)) end ⌝ }
 {
     let bytes = (end + 7) / 8;
@@ -73,7 +74,7 @@ pub struct ArcHead {
 
 // Whether an arc comes next and all of its fields before the weight are there.
 fn arc_ahead(l: Layout, at: usize, bytes: usize) -> bool
-    requires { ⌜ at ≤ 1000000 ⌝ }
+    requires { ⌜ at ≤ cardBits ⌝ }
     ensures { λ r. ⌜ (r ≡ true → (l .phase ≡ Direction) × (at + arcHeadWidth ≤ 8 * bytes)) ⌝ }
 {
     if arc_next(l) {
@@ -109,7 +110,7 @@ fn refused(f: FormatFault, at: usize) -> CardRead
 
 // The answer once the last field, which ends before bit end, is read.
 fn ended(card: &[u8], end: usize, k: Counts) -> ReadAnswer
-    requires { ⌜ (end ≤ 8 * length (now card)) × (end ≤ 1000000) ⌝ }
+    requires { ⌜ (end ≤ 8 * length (now card)) × (end ≤ cardBits) ⌝ }
     ensures { λ r. ⌜ r ≡ endedAs (excess (now (card .entry)) end) k ⌝ }
 {
     match excess_at(card, end) {
@@ -142,9 +143,10 @@ fn fill(card: &[u8], numbers: &mut [u16]) -> ReadAnswer
                 return ReadAnswer::Refused(FormatFault::Truncated, at);
             }
             let v = bit_field(card, at, w);
-            if arc_behind(l) {
+            let k = arc_field(l);
+            if arc_goes_on(l, k) {
                 numbers[n] = v;
-                l = arc_again(l);
+                l = arc_step(l, k);
                 at += w;
                 n += 1;
             } else {

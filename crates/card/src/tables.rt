@@ -13,12 +13,13 @@ use crate::layout::transition_fields;
 use crate::layout::transition_width;
 ghost use mathlib.Core.Path.{_≡_};
 ghost use Prim.Native.Nat.{_+_, _*_, _≤_, _<_};
-ghost use lib.ListN.{getD};
+ghost use lib.ListN.{getD, set};
 ghost use Rattle.card.specs.Index.{ArcThere, arcOf, placeField, arcField, subnetBitStart, firstPlaceStart, firstTransitionStart, transitionRowStart, transitionBitStart};
 ghost use Rattle.card.specs.Format.{size};
 ghost use Rattle.card.specs.Grammar.{transition, arc};
 
-fn number_at(numbers: &[u16], i: usize) -> u16
+// Entry i of a slice, and 0 past its end.
+pub fn number_at(numbers: &[u16], i: usize) -> u16
     ensures { λ r. ⌜ r ≡ getD (now (numbers .entry)) i 0 ⌝ }
 {
     if i < numbers.len() { numbers[i] } else { 0 }
@@ -28,6 +29,23 @@ fn start_at(starts: &[u32], i: usize) -> u32
     ensures { λ r. ⌜ r ≡ getD (now (starts .entry)) i 0 ⌝ }
 {
     if i < starts.len() { starts[i] } else { 0 }
+}
+
+// Stores entry i of a slice; past its end it stores nothing.
+pub fn put_number(numbers: &mut [u16], i: usize, v: u16)
+    ensures { λ r. ⌜ now (numbers .exit) ≡ set (now (numbers .entry)) i v ⌝ }
+{
+    if i < numbers.len() {
+        numbers[i] = v;
+    }
+}
+
+pub fn put_wide(numbers: &mut [u32], i: usize, v: u32)
+    ensures { λ r. ⌜ now (numbers .exit) ≡ set (now (numbers .entry)) i v ⌝ }
+{
+    if i < numbers.len() {
+        numbers[i] = v;
+    }
 }
 
 // Number k of a place: n counts from the first of the subnet whose row begins at row.

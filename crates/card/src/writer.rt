@@ -6,6 +6,9 @@ use crate::TABLE;
 use crate::bits::put_field;
 use crate::bits::too_wide;
 use crate::layout::Move;
+use crate::layout::arc_field;
+use crate::layout::arc_goes_on;
+use crate::layout::arc_step;
 use crate::layout::start;
 use crate::layout::step;
 use crate::layout::width;
@@ -59,19 +62,26 @@ fn spell_numbers(numbers: &[u16; TABLE]) -> CardSpelt
             return unspelt(FormatFault::BadTable, 0);
         }
         put_field(&mut bytes, at, w, v);
-        match step(l, v) {
-            Move::More(m) => {
-                l = m;
-                at += w;
-                n += 1;
+        let k = arc_field(l);
+        if arc_goes_on(l, k) {
+            l = arc_step(l, k);
+            at += w;
+            n += 1;
+        } else {
+            match step(l, v) {
+                Move::More(m) => {
+                    l = m;
+                    at += w;
+                    n += 1;
+                }
+                Move::Done(_k) => {
+                    return CardSpelt {
+                        answer: SpellAnswer::Whole((at + w + 7) / 8),
+                        bytes: bytes,
+                    };
+                }
+                Move::Bad(f) => return unspelt(f, at),
             }
-            Move::Done(_k) => {
-                return CardSpelt {
-                    answer: SpellAnswer::Whole((at + w + 7) / 8),
-                    bytes: bytes,
-                };
-            }
-            Move::Bad(f) => return unspelt(f, at),
         }
     }
 }

@@ -7,6 +7,7 @@ use card::HEADER_FIELDS;
 use card::PLACE_FIELDS;
 use card::SUBNET_FIELDS;
 use card::TRANSITION_FIELDS;
+use card::tables::number_at;
 ghost use mathlib.Core.Path.{_≡_};
 ghost use Prim.Native.Nat.{_<_, _≤_};
 ghost use lib.ListN.{length};
@@ -48,14 +49,6 @@ fn end_of(numbers: &[u16], at: usize, n: usize) -> usize
     at + n
 }
 
-// Number k, and 0 past the end.
-fn number(numbers: &[u16], k: usize) -> u16 {
-    if k < numbers.len() {
-        return numbers[k];
-    }
-    0
-}
-
 fn take_transition(table: &mut [u16], numbers: &[u16], c: Cursor) -> Cursor
     requires { ⌜ c .at ≤ length (now numbers) ⌝ }
     ensures { λ r. ⌜ length (now (table .exit)) ≡ length (now (table .entry)) ⌝ }
@@ -63,7 +56,7 @@ fn take_transition(table: &mut [u16], numbers: &[u16], c: Cursor) -> Cursor
 {
     let at = c.at;
     let row = end_of(numbers, at, TRANSITION_FIELDS);
-    let arcs = wide(number(&numbers[at..row], 1));
+    let arcs = wide(number_at(&numbers[at..row], 1));
     let end = end_of(numbers, row, ARC_FIELDS * arcs);
     let mut d = c;
     d.transition = push(table, c.transition, &numbers[at..row]);
@@ -93,8 +86,8 @@ fn take_subnet(table: &mut [u16], numbers: &[u16], c: Cursor) -> Cursor
 {
     let at = c.at;
     let row = end_of(numbers, at, SUBNET_FIELDS);
-    let places = wide(number(&numbers[at..row], 2));
-    let transitions = wide(number(&numbers[at..row], 3));
+    let places = wide(number_at(&numbers[at..row], 2));
+    let transitions = wide(number_at(&numbers[at..row], 3));
     let end = end_of(numbers, row, PLACE_FIELDS * places);
     let mut d = c;
     d.subnet = push(table, c.subnet, &numbers[at..row]);
@@ -142,10 +135,10 @@ pub fn tables_of(k: Counts, numbers: &[u16], room: usize) -> [u16; 40000] {
     };
     let c = take_subnets(&mut table, numbers, start, wide(k.subnets));
     let head = [
-        number(numbers, 0),
-        number(numbers, 2),
-        number(numbers, 3),
-        number(numbers, 4),
+        number_at(numbers, 0),
+        number_at(numbers, 2),
+        number_at(numbers, 3),
+        number_at(numbers, 4),
         span(LED, place),
         span(place, transition),
         span(transition, arc),

@@ -3,6 +3,7 @@ mod rows;
 
 use card::ARC_FIELDS;
 use card::Head;
+use card::MAX_COUNT;
 use card::MOST_ARCS;
 use card::MOST_PLACES;
 use card::MOST_TRANSITIONS;
@@ -31,8 +32,11 @@ ghost use Rattle.hierarchy.specs.Output.{delivered, IsWritten};
 ghost use Rattle.flattening.specs.Flattening.{flatten, flattenCall};
 ghost use Rattle.flattening.specs.inner.FlatRows.{Sizes};
 
-// Writes the flat card of the card in the tables, which has so many subnets, places and transitions. No card has more than 255 places or
-// transitions; tables that claim more get no card.
+// The most arcs of a card.
+const ALL_ARCS: u16 = (MOST_ARCS * MOST_TRANSITIONS) as u16;
+
+// Writes the flat card of the card in the tables, which has so many subnets, places and transitions. Tables that claim more places or
+// transitions than a card can have get no card.
 fn write_flat<'a>(
     numbers: &'a [u16],
     starts: &'a [u32],
@@ -43,10 +47,10 @@ fn write_flat<'a>(
 ) -> Written
     ensures { λ r. ⌜ ((c : Card) → Meets c → Loaded c (now (numbers .entry)) (now (starts .entry)) → Sizes c subnets places transitions → IsWritten (delivered (accepted c) (λ d. encode (flatten d)) (now (out .entry))) r (now (out .exit))) ⌝ }
 {
-    if 255 < places {
+    if MAX_COUNT < places {
         return Written::Short(0);
     }
-    if 255 < transitions {
+    if MAX_COUNT < transitions {
         return Written::Short(0);
     }
     let mut place_rows = [0; PLACE_FIELDS * MOST_PLACES];
@@ -55,7 +59,7 @@ fn write_flat<'a>(
     flat_transitions(numbers, starts, transitions, &mut transition_rows);
     let mut arc_rows = [0; ARC_FIELDS * MOST_ARCS * MOST_TRANSITIONS];
     let arcs = flat_arcs(numbers, starts, transitions, &mut arc_rows);
-    if 7905 < arcs {
+    if ALL_ARCS < arcs {
         return Written::Short(0);
     }
     let main_net = [0, 0, places, transitions];

@@ -11,6 +11,7 @@ use card::tables::capacity;
 use card::tables::first_place;
 use card::tables::narrow;
 use card::tables::place_count;
+use card::tables::put_number;
 use card::tables::rank;
 use card::tables::signal;
 use card::tables::subnet_row;
@@ -19,20 +20,11 @@ use card::tables::transition_row;
 ghost use mathlib.Core.Path.{_≡_};
 ghost use Prim.Native.Nat.{ℕ, suc, _+_, _*_, _<_};
 ghost use mathlib.Core.List.{List};
-ghost use lib.ListN.{length, set};
+ghost use lib.ListN.{length};
 ghost use Rattle.card.specs.Card.{Card, transitionAt, arcAt, firstPlace, firstArc, flatPlace};
 ghost use Rattle.card.specs.Index.{Lists, Loaded, subnetRow, transitionRow};
 ghost use Rattle.hierarchy.specs.Conditions.{Meets};
 ghost use Rattle.flattening.specs.inner.FlatRows.{placeRows, transitionRows, arcRows, putRow, putArc, PlacesTo, TransitionsTo, ArcsTo};
-
-// Stores entry i; past the end it stores nothing.
-fn put(rows: &mut [u16], i: usize, v: u16)
-    ensures { λ r. ⌜ now (rows .exit) ≡ set (now (rows .entry)) i v ⌝ }
-{
-    if i < rows.len() {
-        rows[i] = v;
-    }
-}
 
 // Row i of places or of transitions: both have three numbers.
 fn put_row(rows: &mut [u16], i: usize, a: u16, b: u16, d: u16)
@@ -40,9 +32,9 @@ fn put_row(rows: &mut [u16], i: usize, a: u16, b: u16, d: u16)
     ensures { λ r. ⌜ now (rows .exit) ≡ putRow (now (rows .entry)) i a b d ⌝ }
 {
     let k = PLACE_FIELDS * i;
-    put(rows, k, a);
-    put(rows, k + 1, b);
-    put(rows, k + 2, d);
+    put_number(rows, k, a);
+    put_number(rows, k + 1, b);
+    put_number(rows, k + 2, d);
 }
 
 // The places of the subnet whose row begins at row; first is the flat number of its first one.
@@ -101,10 +93,10 @@ fn put_arc(rows: &mut [u16], a: usize, direction: u16, place: u16, weight: u16)
     ensures { λ r. ⌜ now (rows .exit) ≡ putArc (now (rows .entry)) a direction place weight ⌝ }
 {
     let i = ARC_FIELDS * a;
-    put(rows, i, direction);
-    put(rows, i + 1, 0);
-    put(rows, i + 2, place);
-    put(rows, i + 3, weight);
+    put_number(rows, i, direction);
+    put_number(rows, i + 1, 0);
+    put_number(rows, i + 2, place);
+    put_number(rows, i + 3, weight);
 }
 
 // The flat number of the place that an arc names.

@@ -13,6 +13,7 @@ use card::reader::read;
 ghost use mathlib.Core.Path.{_≡_};
 ghost use Prim.Native.Nat.{_≤_};
 ghost use lib.ListN.{length};
+ghost use Rattle.card.specs.Grammar.{maxSubnets};
 ghost use Rattle.card.specs.Card.{Card};
 ghost use Rattle.card.specs.Index.{Loaded};
 ghost use Rattle.hierarchy.specs.Numbers.{checkOutcome};
@@ -29,7 +30,7 @@ pub struct CheckedCard {
 
 // The first fault of pass two.
 fn first_fault<'a>(numbers: &'a [u16], starts: &'a [u32], subnets: u16) -> Finding
-    ensures { λ r. ⌜ ((c : Card) → Loaded c (now (numbers .entry)) (now (starts .entry)) → subnets ≡ length (c .subnets) → length (c .subnets) ≤ 32 → findingOf r ≡ firstFault c) ⌝ }
+    ensures { λ r. ⌜ ((c : Card) → Loaded c (now (numbers .entry)) (now (starts .entry)) → subnets ≡ length (c .subnets) → length (c .subnets) ≤ maxSubnets → findingOf r ≡ firstFault c) ⌝ }
 {
     let a = arcs_fault(numbers, starts, subnets);
     let Finding::Nothing = a else {

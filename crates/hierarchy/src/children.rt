@@ -1,5 +1,7 @@
 // The children of a subnet, by their ordinals.
+use card::MAX_SUBNETS;
 use card::MOST_SUBNETS;
+use card::tables::number_at;
 use card::tables::parent;
 use card::tables::subnet_row;
 ghost use mathlib.Core.Path.{_≡_};
@@ -7,6 +9,7 @@ ghost use mathlib.Core.Bool.{_&&_};
 ghost use Prim.Native.Nat.{_≤_, _<_};
 ghost use lib.ListN.{length, getD};
 ghost use lib.Dec.{eqb};
+ghost use Rattle.card.specs.Grammar.{maxSubnets};
 ghost use Rattle.card.specs.Card.{Card};
 ghost use Rattle.card.specs.Index.{Loaded};
 ghost use Rattle.hierarchy.specs.Conditions.{isChild, children, child};
@@ -45,15 +48,14 @@ pub fn ordinal(numbers: &[u16], starts: &[u32], subnets: u16, i: u16, j: u16) ->
     n
 }
 
-// The ordinal of each subnet among the children of its parent, made once, so that comparing two arcs counts no children. A card has at most 32
-// subnets.
+// The ordinal of each subnet among the children of its parent, made once, so that comparing two arcs counts no children.
 pub fn all_ordinals(numbers: &[u16], starts: &[u32], subnets: u16) -> [u16; MOST_SUBNETS]
-    ensures { λ x. ⌜ ((c : Card) → Loaded c (now (numbers .entry)) (now (starts .entry)) → subnets ≡ length (c .subnets) → length (c .subnets) ≤ 32 → AllOrdinals c x) ⌝ }
+    ensures { λ x. ⌜ ((c : Card) → Loaded c (now (numbers .entry)) (now (starts .entry)) → subnets ≡ length (c .subnets) → length (c .subnets) ≤ maxSubnets → AllOrdinals c x) ⌝ }
 {
     let mut ordinals = [0; MOST_SUBNETS];
     let mut j = 0;
     while j < subnets {
-        if 32 <= j {
+        if MAX_SUBNETS <= j {
             return ordinals;
         }
         let i = parent(numbers, subnet_row(starts, j));
@@ -61,15 +63,6 @@ pub fn all_ordinals(numbers: &[u16], starts: &[u32], subnets: u16) -> [u16; MOST
         j += 1;
     }
     ordinals
-}
-
-fn ordinal_at(ordinals: &[u16], j: u16) -> u16
-    ensures { λ x. ⌜ x ≡ getD (now (ordinals .entry)) j 0 ⌝ }
-{
-    if (j as usize) < ordinals.len() {
-        return ordinals[j as usize];
-    }
-    0
 }
 
 // Whether subnet j is the k-th child of subnet i.
@@ -87,7 +80,7 @@ fn is_kth(
     if !is_child(numbers, starts, subnets, i, j) {
         return false;
     }
-    ordinal_at(ordinals, j) == k
+    number_at(ordinals, j as usize) == k
 }
 
 pub fn kth_child(
@@ -126,6 +119,6 @@ pub fn both_kth(
     if !is_child(numbers, starts, subnets, r, a) {
         return false;
     }
-    let k = ordinal_at(ordinals, a);
+    let k = number_at(ordinals, a as usize);
     is_kth(numbers, starts, subnets, ordinals, s, k, b)
 }

@@ -22,6 +22,7 @@ ghost use Prim.Native.Nat.{ℕ, _+_, _≤_, _<_};
 ghost use lib.ListN.{length};
 ghost use lib.Dec.{eqb};
 ghost use Rattle.card.specs.Finite.{firstOf};
+ghost use Rattle.card.specs.Grammar.{maxSubnets};
 ghost use Rattle.card.specs.Card.{Card, Arc, subnetAt, firstTransition};
 ghost use Rattle.card.specs.Index.{Loaded, Indexed, Lists, ArcThere, transitionRow};
 ghost use Rattle.card.specs.Writing.{subnetBit};
@@ -236,7 +237,7 @@ fn like_lower(numbers: &[u16], starts: &[u32], subnets: u16, ordinals: &[u16], s
 
 // The first subnet that is unlike a lower one of its type.
 pub fn types_fault(numbers: &[u16], starts: &[u32], subnets: u16) -> Finding
-    ensures { λ r. ⌜ ((c : Card) → Loaded c (now (numbers .entry)) (now (starts .entry)) → subnets ≡ length (c .subnets) → length (c .subnets) ≤ 32 → findingOf r ≡ firstOf 0 (length (c .subnets)) (λ s. faultUnless (subnetBit c s) (likeLower c s) Unlike)) ⌝ }
+    ensures { λ r. ⌜ ((c : Card) → Loaded c (now (numbers .entry)) (now (starts .entry)) → subnets ≡ length (c .subnets) → length (c .subnets) ≤ maxSubnets → findingOf r ≡ firstOf 0 (length (c .subnets)) (λ s. faultUnless (subnetBit c s) (likeLower c s) Unlike)) ⌝ }
 {
     let ordinals = all_ordinals(numbers, starts, subnets);
     let mut s = 0;

@@ -4,12 +4,13 @@ use card::tables::capacity;
 use card::tables::first_place;
 use card::tables::narrow;
 use card::tables::place_count;
+use card::tables::put_wide;
 use card::tables::subnet_row;
 use card::tables::tokens;
 ghost use mathlib.Core.Path.{_≡_};
 ghost use mathlib.Core.List.{List};
 ghost use Prim.Native.Nat.{ℕ, suc, _+_, _<_};
-ghost use lib.ListN.{length, set};
+ghost use lib.ListN.{length};
 ghost use Rattle.card.specs.Card.{Card, placeAt, firstPlace, subnetAt};
 ghost use Rattle.card.specs.Index.{subnetRow, Loaded};
 ghost use Rattle.runners.specs.Visits.{InTables};
@@ -30,15 +31,6 @@ fn number_of(numbers: &[u16], row: u32, n: u16, which: PlaceNumber) -> u16
     }
 }
 
-// Stores entry p; past the end it stores nothing.
-fn put(column: &mut [u32], p: usize, v: u32)
-    ensures { λ r. ⌜ now (column .exit) ≡ set (now (column .entry)) p v ⌝ }
-{
-    if p < column.len() {
-        column[p] = v;
-    }
-}
-
 // The places of the subnet whose row begins at row; first is the flat number of its first one.
 fn fill_subnet(numbers: &[u16], row: u32, first: u16, which: PlaceNumber, column: &mut [u32])
     ensures { λ r. ⌜ length (now (column .exit)) ≡ length (now (column .entry)) ⌝ }
@@ -48,7 +40,7 @@ fn fill_subnet(numbers: &[u16], row: u32, first: u16, which: PlaceNumber, column
     let mut n = 0;
     while n < count {
         let p = first as usize + n as usize;
-        put(column, p, 1000 * number_of(numbers, row, n, which) as u32);
+        put_wide(column, p, 1000 * number_of(numbers, row, n, which) as u32);
         n += 1;
     }
 }

@@ -12,6 +12,7 @@ use crate::transfers::started;
 use crate::transfers::transfer_at;
 use card::tables::first_transition;
 use card::tables::narrow;
+use card::tables::number_at;
 use card::tables::signal;
 use card::tables::transition_row;
 ghost use mathlib.Core.Path.{_≡_};
@@ -28,16 +29,6 @@ ghost use Rattle.runners.specs.Step.{allows, candidateOn, startedOn, mov
 ghost use Rattle.runners.specs.Columns.{noted, posted, columns};
 ghost use Rattle.runners.specs.Visits.{posting, finding, moving, InTables, IsVisit};
 ghost use Rattle.runners.specs.inner.Transitions.{IsOne, IsSpan};
-
-// Entry i of a list of degrees, and 0 past the end.
-fn number_at(list: &[u16], i: usize) -> u16
-    ensures { λ r. ⌜ r ≡ entry (now (list .entry)) i ⌝ }
-{
-    if i < list.len() {
-        return list[i];
-    }
-    0
-}
 
 // The entry of a list of degrees for the signal of transition t.
 fn degree_of(numbers: &[u16], starts: &[u32], t: u16, degrees: &[u16]) -> u16

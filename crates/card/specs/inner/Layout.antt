@@ -188,3 +188,15 @@ pub record Sane (l : Layout) : Type 0 where
   pub subnet : l .subnet + l .subnets ≤ 31
   pub places : l .places ≤ 255
   pub transitions : l .transitions ≤ 255
+
+-- k is the number of the arc's field that comes next, counted from 0
+pub record IsArcField (l : Layout) (k : ℕ) : Type 0 where
+  pub direction : k ≡ 0 → l .phase ≡ Direction
+  pub subnet : k ≡ 1 → l .phase ≡ ArcSubnet
+  pub place : k ≡ 2 → l .phase ≡ ArcPlace
+  pub weight : k ≡ 3 → l .phase ≡ Weight
+
+-- and another field of the transition's arcs stands behind it
+pub record ArcGoesOn (l : Layout) (k : ℕ) : Type 0 where
+  pub inside : k ≤ 3
+  pub more : k ≡ 3 → 1 ≤ l .«arc_rows»

@@ -37,23 +37,23 @@ same-length c = (c .before .before .before .loop) .inv .0
 returns-2 : tie.Need-returns-2 Inv-loop μ-loop
 returns-2 c = ((c .before .before .before .loop) .inv .0, λ k s a. absurd (Rattle.card.proofs.TableLaws.no-yes (sym (not-true ((c .before .on-card) .result) ((c .if2) .taken)) ∙ (c .before .on-card) .ensures .1 (list-on k s (now ((c .before .before .before .before .before .before .before .args) .numbers)) (now ((c .before .before .before .before .before .before .before .args) .starts)) ((c .before .before .before .before .before .before .before .args) .from) ((c .before .before .before .before .before .before .before .args) .first) ((c .before .before .before .before .before .before .before .args) .count) a ((c .before .before .before .loop) .starts) ((c .before .before .before .loop) .p) ((c .before .before .before .loop) .t) ((c .before .before .before .loop) .inv .3 k s a)))))
 
-cast-put-start : tie.Need-cast-put-start Inv-loop μ-loop
-cast-put-start c = search needs
+cast-put-wide : tie.Need-cast-put-wide Inv-loop μ-loop
+cast-put-wide c = search needs
 
-add-put-start : tie.Need-add-put-start Inv-loop μ-loop
-add-put-start c = search needs
+add-put-wide : tie.Need-add-put-wide Inv-loop μ-loop
+add-put-wide c = search needs
 
-put-start-requires : tie.Need-put-start-requires Inv-loop μ-loop
-put-start-requires c κs = search needs
+put-wide-requires : tie.Need-put-wide-requires Inv-loop μ-loop
+put-wide-requires c κs = search needs
 
-cast-put-start-2 : tie.Need-cast-put-start-2 Inv-loop μ-loop
-cast-put-start-2 c = search needs
+cast-put-wide-2 : tie.Need-cast-put-wide-2 Inv-loop μ-loop
+cast-put-wide-2 c = search needs
 
-add-put-start-2 : tie.Need-add-put-start-2 Inv-loop μ-loop
-add-put-start-2 c = search needs
+add-put-wide-2 : tie.Need-add-put-wide-2 Inv-loop μ-loop
+add-put-wide-2 c = search needs
 
-put-start-requires-2 : tie.Need-put-start-requires-2 Inv-loop μ-loop
-put-start-requires-2 c κs = search needs
+put-wide-requires-2 : tie.Need-put-wide-requires-2 Inv-loop μ-loop
+put-wide-requires-2 c κs = search needs
 
 version-requires : tie.Need-version-requires Inv-loop μ-loop
 version-requires c κs = search needs
@@ -72,10 +72,10 @@ loop-less c = omega (arith, (c .before .before .before .before .before .before .
 
 loop-again : tie.Need-loop-again Inv-loop μ-loop
 loop-again c = (
-  rw ((c .before .before .before .before .before .put-start2) .ensures, (c .before .before .before .before .before .before .before .before .before .put-start) .ensures) (set-long ((c .before .before .before .before .before .before .before .before .before .before .before .before .before .before .loop) .starts) _ _ (132 + (c .before .before .before .before .before .before .before .before .before .before .before .before .before .before .loop) .t) ((c .before .before .before .before .before .before .before .before .before .before .before .before .before .before .loop) .p .row) (388 + (c .before .before .before .before .before .before .before .before .before .before .before .before .before .before .loop) .t) ((c .before .before .before .before .before .before .before .before .before .before .before .before .before .before .loop) .p .bit) refl refl ∙ (c .before .before .before .before .before .before .before .before .before .before .before .before .before .before .loop) .inv .0),
+  rw ((c .before .before .before .before .before .put-wide2) .ensures, (c .before .before .before .before .before .before .before .before .before .put-wide) .ensures) (set-long ((c .before .before .before .before .before .before .before .before .before .before .before .before .before .before .loop) .starts) _ _ (132 + (c .before .before .before .before .before .before .before .before .before .before .before .before .before .before .loop) .t) ((c .before .before .before .before .before .before .before .before .before .before .before .before .before .before .loop) .p .row) (388 + (c .before .before .before .before .before .before .before .before .before .before .before .before .before .before .loop) .t) ((c .before .before .before .before .before .before .before .before .before .before .before .before .before .before .loop) .p .bit) refl refl ∙ (c .before .before .before .before .before .before .before .before .before .before .before .before .before .before .loop) .inv .0),
   omega arith,
   (c .before .before .before .before .before .before .before .before .before .before .before .before .before .before .loop) .inv .2,
-  λ k s a. list-more k s (now ((c .before .before .before .before .before .before .before .before .before .before .before .before .before .before .before .before .before .before .args) .numbers)) (now ((c .before .before .before .before .before .before .before .before .before .before .before .before .before .before .before .before .before .before .args) .starts)) ((c .before .before .before .before .before .before .before .before .before .before .before .before .before .before .before .before .before .before .args) .from) ((c .before .before .before .before .before .before .before .before .before .before .before .before .before .before .before .before .before .before .args) .first) ((c .before .before .before .before .before .before .before .before .before .before .before .before .before .before .before .before .before .before .args) .count) a ((c .before .before .before .before .before .before .before .before .before .before .before .before .before .before .loop) .starts) ((c .before .before .before .before .before .before .before .before .before .before .before .before .before .before .loop) .p) ((c .before .before .before .before .before .before .before .before .before .before .before .before .before .before .loop) .t) ((c .before .before .before .before .before .before .before .before .before .before .before .before .before .before .loop) .inv .3 k s a) (omega (arith, (c .before .before .before .before .before .before .before .before .before .before .before .before .before .before .loop) .inv .2)) ((c .before .arc-count) .result) ((c .before .arc-count) .ensures) _ _ ((c .after-transition) .result) ((c .before .before .before .before .before .before .before .before .before .put-start) .ensures) ((c .before .before .before .before .before .put-start2) .ensures) (c .before .before .version .result) (c .before .before .version .ensures) ((c .after-transition) .ensures),
+  λ k s a. list-more k s (now ((c .before .before .before .before .before .before .before .before .before .before .before .before .before .before .before .before .before .before .args) .numbers)) (now ((c .before .before .before .before .before .before .before .before .before .before .before .before .before .before .before .before .before .before .args) .starts)) ((c .before .before .before .before .before .before .before .before .before .before .before .before .before .before .before .before .before .before .args) .from) ((c .before .before .before .before .before .before .before .before .before .before .before .before .before .before .before .before .before .before .args) .first) ((c .before .before .before .before .before .before .before .before .before .before .before .before .before .before .before .before .before .before .args) .count) a ((c .before .before .before .before .before .before .before .before .before .before .before .before .before .before .loop) .starts) ((c .before .before .before .before .before .before .before .before .before .before .before .before .before .before .loop) .p) ((c .before .before .before .before .before .before .before .before .before .before .before .before .before .before .loop) .t) ((c .before .before .before .before .before .before .before .before .before .before .before .before .before .before .loop) .inv .3 k s a) (omega (arith, (c .before .before .before .before .before .before .before .before .before .before .before .before .before .before .loop) .inv .2)) ((c .before .arc-count) .result) ((c .before .arc-count) .ensures) _ _ ((c .after-transition) .result) ((c .before .before .before .before .before .before .before .before .before .put-wide) .ensures) ((c .before .before .before .before .before .put-wide2) .ensures) (c .before .before .version .result) (c .before .before .version .ensures) ((c .after-transition) .ensures),
 )
 
 same-length-2 : tie.Need-same-length-2 Inv-loop μ-loop
@@ -96,12 +96,12 @@ index-transitions-spec =
     on-card-requires
     same-length
     returns-2
-    cast-put-start
-    add-put-start
-    put-start-requires
-    cast-put-start-2
-    add-put-start-2
-    put-start-requires-2
+    cast-put-wide
+    add-put-wide
+    put-wide-requires
+    cast-put-wide-2
+    add-put-wide-2
+    put-wide-requires-2
     version-requires
     arc-count-requires
     after-transition-requires

@@ -142,54 +142,57 @@ returns c =
 bit-field-requires : tie.Need-bit-field-requires Inv-loop μ-loop
 bit-field-requires c κs = (omega arith, omega arith)
 
-arc-behind-requires : tie.Need-arc-behind-requires Inv-loop μ-loop
-arc-behind-requires c κs = search needs
+arc-field-requires : tie.Need-arc-field-requires Inv-loop μ-loop
+arc-field-requires c κs = search needs
+
+arc-goes-on-requires : tie.Need-arc-goes-on-requires Inv-loop μ-loop
+arc-goes-on-requires c κs = search needs
 
 mul-numbers-4 : tie.Need-mul-numbers-4 Inv-loop μ-loop
 mul-numbers-4 c = search needs
 
 slice-write-numbers-4 : tie.Need-slice-write-numbers-4 Inv-loop μ-loop
 slice-write-numbers-4 c =
-    let a = (c .before .before .before .before .before .before .before .before .before .before .before .args) in
-    let x = (c .before .before .before .before .before .before .before .loop) in
-    let y = (c .before .before .before .before .width) in
-    omega (arith, left-room (now (a .card)) (x .l) (x .at) (x .n) (x .numbers) (y .result) (x .inv) (y .ensures .0), x .inv .long)
-
-arc-again-requires : tie.Need-arc-again-requires Inv-loop μ-loop
-arc-again-requires c κs = (c .before .arc-behind) .ensures (c .if3 .taken) .1
-
-add-at-2 : tie.Need-add-at-2 Inv-loop μ-loop
-add-at-2 c = omega (arith, (c .before .before .before .before .before .before .before .before .loop) .inv .low, (c .before .before .before .before .before .before .before .before .loop) .inv .few)
-
-add-n-2 : tie.Need-add-n-2 Inv-loop μ-loop
-add-n-2 c =
     let a = (c .before .before .before .before .before .before .before .before .before .before .before .before .args) in
     let x = (c .before .before .before .before .before .before .before .before .loop) in
     let y = (c .before .before .before .before .before .width) in
+    omega (arith, left-room (now (a .card)) (x .l) (x .at) (x .n) (x .numbers) (y .result) (x .inv) (y .ensures .0), x .inv .long)
+
+arc-step-requires : tie.Need-arc-step-requires Inv-loop μ-loop
+arc-step-requires c κs = (c .before .before .arc-field .ensures, c .before .arc-goes-on .ensures (c .if3 .taken))
+
+add-at-2 : tie.Need-add-at-2 Inv-loop μ-loop
+add-at-2 c = omega (arith, (c .before .before .before .before .before .before .before .before .before .loop) .inv .low, (c .before .before .before .before .before .before .before .before .before .loop) .inv .few)
+
+add-n-2 : tie.Need-add-n-2 Inv-loop μ-loop
+add-n-2 c =
+    let a = (c .before .before .before .before .before .before .before .before .before .before .before .before .before .args) in
+    let x = (c .before .before .before .before .before .before .before .before .before .loop) in
+    let y = (c .before .before .before .before .before .before .width) in
     omega (arith, left-room (now (a .card)) (x .l) (x .at) (x .n) (x .numbers) (y .result) (x .inv) (y .ensures .0), x .inv .long)
 
 loop-less-2 : tie.Need-loop-less-2 Inv-loop μ-loop
 loop-less-2 c =
-    let a = (c .before .before .before .before .before .before .before .before .before .before .before .before .args) in
-    let x = (c .before .before .before .before .before .before .before .before .loop) in
-    let y = (c .before .before .before .before .before .width) in
+    let a = (c .before .before .before .before .before .before .before .before .before .before .before .before .before .args) in
+    let x = (c .before .before .before .before .before .before .before .before .before .loop) in
+    let y = (c .before .before .before .before .before .before .width) in
     omega (arith, left-room (now (a .card)) (x .l) (x .at) (x .n) (x .numbers) (y .result) (x .inv) (y .ensures .0), x .inv .long)
 
 loop-again-2 : tie.Need-loop-again-2 Inv-loop μ-loop
 loop-again-2 c =
+    let a = (c .before .before .before .before .before .before .before .before .before .before .before .before .before .args) in
+    let x = (c .before .before .before .before .before .before .before .before .before .loop) in
+    let y = (c .before .before .before .before .before .before .width) in
+    let z = (c .before .before .before .before .bit-field) in
+    let q = c .arc-step in
+    left-more (now (a .card)) (x .l) (x .at) (x .n) (x .numbers) (y .result) (x .inv) (y .ensures .0) (z .result) (More (q .result)) (omega arith) (z .ensures .0) (q .ensures (z .result)) (q .result) refl
+
+step-requires : tie.Need-step-requires Inv-loop μ-loop
+step-requires c κs =
     let a = (c .before .before .before .before .before .before .before .before .before .before .before .before .args) in
     let x = (c .before .before .before .before .before .before .before .before .loop) in
     let y = (c .before .before .before .before .before .width) in
     let z = (c .before .before .before .bit-field) in
-    let q = c .arc-again in
-    left-more (now (a .card)) (x .l) (x .at) (x .n) (x .numbers) (y .result) (x .inv) (y .ensures .0) (z .result) (More (q .result)) (omega arith) (z .ensures .0) (q .ensures (z .result) ((c .before .before .arc-behind) .ensures ((c .before .if3) .taken) .0)) (q .result) refl
-
-step-requires : tie.Need-step-requires Inv-loop μ-loop
-step-requires c κs =
-    let a = (c .before .before .before .before .before .before .before .before .before .before .before .args) in
-    let x = (c .before .before .before .before .before .before .before .loop) in
-    let y = (c .before .before .before .before .width) in
-    let z = (c .before .before .bit-field) in
     (x .inv .sane, rw (y .ensures .0) at (z .ensures .1))
 
 enum-known-m : tie.Need-enum-known-m Inv-loop μ-loop
@@ -200,34 +203,34 @@ mul-numbers-5 c = search needs
 
 slice-write-numbers-5 : tie.Need-slice-write-numbers-5 Inv-loop μ-loop
 slice-write-numbers-5 c =
-    let a = (c .before .before .before .before .before .before .before .before .before .before .before .before .before .before .before .args) in
-    let x = (c .before .before .before .before .before .before .before .before .before .before .before .loop) in
-    let y = (c .before .before .before .before .before .before .before .before .width) in
+    let a = (c .before .before .before .before .before .before .before .before .before .before .before .before .before .before .before .before .args) in
+    let x = (c .before .before .before .before .before .before .before .before .before .before .before .before .loop) in
+    let y = (c .before .before .before .before .before .before .before .before .before .width) in
     omega (arith, left-room (now (a .card)) (x .l) (x .at) (x .n) (x .numbers) (y .result) (x .inv) (y .ensures .0), x .inv .long)
 
 add-at-3 : tie.Need-add-at-3 Inv-loop μ-loop
-add-at-3 c = omega (arith, (c .before .before .before .before .before .before .before .before .before .before .before .loop) .inv .low, (c .before .before .before .before .before .before .before .before .before .before .before .loop) .inv .few)
+add-at-3 c = omega (arith, (c .before .before .before .before .before .before .before .before .before .before .before .before .loop) .inv .low, (c .before .before .before .before .before .before .before .before .before .before .before .before .loop) .inv .few)
 
 add-n-3 : tie.Need-add-n-3 Inv-loop μ-loop
 add-n-3 c =
-    let a = (c .before .before .before .before .before .before .before .before .before .before .before .before .before .before .before .args) in
-    let x = (c .before .before .before .before .before .before .before .before .before .before .before .loop) in
-    let y = (c .before .before .before .before .before .before .before .before .width) in
+    let a = (c .before .before .before .before .before .before .before .before .before .before .before .before .before .before .before .before .args) in
+    let x = (c .before .before .before .before .before .before .before .before .before .before .before .before .loop) in
+    let y = (c .before .before .before .before .before .before .before .before .before .width) in
     omega (arith, left-room (now (a .card)) (x .l) (x .at) (x .n) (x .numbers) (y .result) (x .inv) (y .ensures .0), x .inv .long)
 
 loop-less-3 : tie.Need-loop-less-3 Inv-loop μ-loop
 loop-less-3 c =
-    let a = (c .before .before .before .before .before .before .before .before .before .before .before .before .before .before .before .args) in
-    let x = (c .before .before .before .before .before .before .before .before .before .before .before .loop) in
-    let y = (c .before .before .before .before .before .before .before .before .width) in
+    let a = (c .before .before .before .before .before .before .before .before .before .before .before .before .before .before .before .before .args) in
+    let x = (c .before .before .before .before .before .before .before .before .before .before .before .before .loop) in
+    let y = (c .before .before .before .before .before .before .before .before .before .width) in
     omega (arith, left-room (now (a .card)) (x .l) (x .at) (x .n) (x .numbers) (y .result) (x .inv) (y .ensures .0), x .inv .long)
 
 loop-again-3 : tie.Need-loop-again-3 Inv-loop μ-loop
 loop-again-3 c =
-    let a = (c .before .before .before .before .before .before .before .before .before .before .before .before .before .before .before .args) in
-    let x = (c .before .before .before .before .before .before .before .before .before .before .before .loop) in
-    let y = (c .before .before .before .before .before .before .before .before .width) in
-    let z = (c .before .before .before .before .before .before .bit-field) in
+    let a = (c .before .before .before .before .before .before .before .before .before .before .before .before .before .before .before .before .args) in
+    let x = (c .before .before .before .before .before .before .before .before .before .before .before .before .loop) in
+    let y = (c .before .before .before .before .before .before .before .before .before .width) in
+    let z = (c .before .before .before .before .before .before .before .bit-field) in
     let q = (c .before .before .before .step) in
     left-more (now (a .card)) (x .l) (x .at) (x .n) (x .numbers) (y .result) (x .inv) (y .ensures .0) (z .result) (q .result) (omega arith) (z .ensures .0) (q .ensures) _ ((c .before .m) .given .1)
 
@@ -239,44 +242,47 @@ mul-numbers-6 c = search needs
 
 slice-write-numbers-6 : tie.Need-slice-write-numbers-6 Inv-loop μ-loop
 slice-write-numbers-6 c =
-    let a = (c .before .before .before .before .before .before .before .before .before .before .before .before .before .before .before .args) in
-    let x = (c .before .before .before .before .before .before .before .before .before .before .before .loop) in
-    let y = (c .before .before .before .before .before .before .before .before .width) in
-    omega (arith, left-room (now (a .card)) (x .l) (x .at) (x .n) (x .numbers) (y .result) (x .inv) (y .ensures .0), x .inv .long)
-
-add-ended : tie.Need-add-ended Inv-loop μ-loop
-add-ended c = omega (arith, (c .before .before .before .before .before .before .before .before .before .before .before .loop) .inv .low, (c .before .before .before .before .before .before .before .before .before .before .before .loop) .inv .few)
-
-ended-requires : tie.Need-ended-requires Inv-loop μ-loop
-ended-requires c κs = (omega arith, omega (arith, (c .before .before .before .before .before .before .before .before .before .before .before .loop) .inv .low, (c .before .before .before .before .before .before .before .before .before .before .before .loop) .inv .few))
-
-same-length-2 : tie.Need-same-length-2 Inv-loop μ-loop
-same-length-2 c = length-set ((c .before .before .before .before .before .before .before .before .before .before .before .before .loop) .numbers) ((c .before .before .before .before .before .before .before .before .before .before .before .before .loop) .n) _ ∙ (c .before .before .before .before .before .before .before .before .before .before .before .before .loop) .inv .long ∙ sym (ap length (c .before .before .before .before .before .before .before .before .before .before .before .before .before .before .before .before .pre) ∙ length-replicate {A = ℕ} tableSize 0)
-
-returns-2 : tie.Need-returns-2 Inv-loop μ-loop
-returns-2 c =
     let a = (c .before .before .before .before .before .before .before .before .before .before .before .before .before .before .before .before .args) in
     let x = (c .before .before .before .before .before .before .before .before .before .before .before .before .loop) in
     let y = (c .before .before .before .before .before .before .before .before .before .width) in
-    let z = (c .before .before .before .before .before .before .before .bit-field) in
+    omega (arith, left-room (now (a .card)) (x .l) (x .at) (x .n) (x .numbers) (y .result) (x .inv) (y .ensures .0), x .inv .long)
+
+add-ended : tie.Need-add-ended Inv-loop μ-loop
+add-ended c = omega (arith, (c .before .before .before .before .before .before .before .before .before .before .before .before .loop) .inv .low, (c .before .before .before .before .before .before .before .before .before .before .before .before .loop) .inv .few)
+
+ended-requires : tie.Need-ended-requires Inv-loop μ-loop
+ended-requires c κs =
+    let x = c .before .before .before .before .before .before .before .before .before .before .before .before .loop in
+    let y = c .before .before .before .before .before .before .before .before .before .width in
+    (omega arith, left-room (now (c .before .before .before .before .before .before .before .before .before .before .before .before .before .before .before .before .args .card)) (x .l) (x .at) (x .n) (x .numbers) (y .result) (x .inv) (y .ensures .0) .1)
+
+same-length-2 : tie.Need-same-length-2 Inv-loop μ-loop
+same-length-2 c = length-set ((c .before .before .before .before .before .before .before .before .before .before .before .before .before .loop) .numbers) ((c .before .before .before .before .before .before .before .before .before .before .before .before .before .loop) .n) _ ∙ (c .before .before .before .before .before .before .before .before .before .before .before .before .before .loop) .inv .long ∙ sym (ap length (c .before .before .before .before .before .before .before .before .before .before .before .before .before .before .before .before .before .pre) ∙ length-replicate {A = ℕ} tableSize 0)
+
+returns-2 : tie.Need-returns-2 Inv-loop μ-loop
+returns-2 c =
+    let a = (c .before .before .before .before .before .before .before .before .before .before .before .before .before .before .before .before .before .args) in
+    let x = (c .before .before .before .before .before .before .before .before .before .before .before .before .before .loop) in
+    let y = (c .before .before .before .before .before .before .before .before .before .before .width) in
+    let z = (c .before .before .before .before .before .before .before .before .bit-field) in
     let q = (c .before .before .before .before .step) in
     let d = left-done (now (a .card)) (x .l) (x .at) (x .n) (x .numbers) (y .result) (x .inv) (y .ensures .0) (z .result) (q .result) (omega arith) (z .ensures .0) (q .ensures) _ ((c .before .before .k) .given .1) in
-    (d .2 ∙ sym (ap length (c .before .before .before .before .before .before .before .before .before .before .before .before .before .before .before .before .pre) ∙ length-replicate {A = ℕ} tableSize 0), ended-is (now (a .card)) _ (x .at + y .result) (x .n + 1) _ ((c .ended) .result) (d .0) (d .2) (d .3) (d .1) ((c .ended) .ensures))
+    (d .2 ∙ sym (ap length (c .before .before .before .before .before .before .before .before .before .before .before .before .before .before .before .before .before .pre) ∙ length-replicate {A = ℕ} tableSize 0), ended-is (now (a .card)) _ (x .at + y .result) (x .n + 1) _ ((c .ended) .result) (d .0) (d .2) (d .3) (d .1) ((c .ended) .ensures))
 
 enum-known-f : tie.Need-enum-known-f Inv-loop μ-loop
 enum-known-f c = (c .match) .keys3
 
 same-length-3 : tie.Need-same-length-3 Inv-loop μ-loop
-same-length-3 c = (c .before .before .before .before .before .before .before .before .before .before .before .loop) .inv .long ∙ sym (ap length (c .before .before .before .before .before .before .before .before .before .before .before .before .before .before .before .pre) ∙ length-replicate {A = ℕ} tableSize 0)
+same-length-3 c = (c .before .before .before .before .before .before .before .before .before .before .before .before .loop) .inv .long ∙ sym (ap length (c .before .before .before .before .before .before .before .before .before .before .before .before .before .before .before .before .pre) ∙ length-replicate {A = ℕ} tableSize 0)
 
 returns-3 : tie.Need-returns-3 Inv-loop μ-loop
 returns-3 c =
-    let a = (c .before .before .before .before .before .before .before .before .before .before .before .before .before .before .before .args) in
-    let x = (c .before .before .before .before .before .before .before .before .before .before .before .loop) in
-    let y = (c .before .before .before .before .before .before .before .before .width) in
-    let z = (c .before .before .before .before .before .before .bit-field) in
+    let a = (c .before .before .before .before .before .before .before .before .before .before .before .before .before .before .before .before .args) in
+    let x = (c .before .before .before .before .before .before .before .before .before .before .before .before .loop) in
+    let y = (c .before .before .before .before .before .before .before .before .before .width) in
+    let z = (c .before .before .before .before .before .before .before .bit-field) in
     let q = (c .before .before .before .step) in
-    (x .inv .long ∙ sym (ap length (c .before .before .before .before .before .before .before .before .before .before .before .before .before .before .before .pre) ∙ length-replicate {A = ℕ} tableSize 0), refused-is (now (a .card)) _ (x .at) (x .numbers) (left-bad (now (a .card)) (x .l) (x .at) (x .n) (x .numbers) (y .result) (x .inv) (y .ensures .0) (z .result) (q .result) (omega arith) (z .ensures .0) (q .ensures) _ ((c .before .f) .given .1)))
+    (x .inv .long ∙ sym (ap length (c .before .before .before .before .before .before .before .before .before .before .before .before .before .before .before .before .pre) ∙ length-replicate {A = ℕ} tableSize 0), refused-is (now (a .card)) _ (x .at) (x .numbers) (left-bad (now (a .card)) (x .l) (x .at) (x .n) (x .numbers) (y .result) (x .inv) (y .ensures .0) (z .result) (q .result) (omega arith) (z .ensures .0) (q .ensures) _ ((c .before .f) .given .1)))
 
 pub fill-spec : {M : Type 1} → statement M
 fill-spec =
@@ -308,10 +314,11 @@ fill-spec =
     same-length
     returns
     bit-field-requires
-    arc-behind-requires
+    arc-field-requires
+    arc-goes-on-requires
     mul-numbers-4
     slice-write-numbers-4
-    arc-again-requires
+    arc-step-requires
     add-at-2
     add-n-2
     loop-less-2

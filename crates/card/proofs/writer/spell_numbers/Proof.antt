@@ -5,6 +5,7 @@ use native.Mathlib.Omega.{arith}
 use lib.ListN.{getD}
 use denote.Ref.{now}
 use Rattle.card.specs.Tables.{tableSize}
+use Rattle.card.specs.declared.layout.Move.the-variants.{More}
 use borrow.Author.Needs.{needs}
 use borrow.Author.Tests.{leb-true, leb-false}
 use Rattle.card.proofs.WriteTurn.{Behind, behind-start, behind-room, behind-wide, behind-bad, behind-more, behind-done}
@@ -61,35 +62,35 @@ put-field-requires c κs =
     let f = c .before .before .too-wide in
     (omega (arith, x .inv .long, x .inv .low, behind-room (now (a .numbers)) (x .l) (x .at) (x .n) (x .bytes) (y .result) (getD (now (a .numbers)) (x .n) 0) (x .inv) (y .ensures .0)), (omega arith, leb-false (2 ^ y .result) (getD (now (a .numbers)) (x .n) 0) (sym (f .ensures) ∙ c .before .if1 .left)))
 
-step-requires : tie.Need-step-requires Inv-loop μ-loop
-step-requires c κs =
-    let a = c .before .before .before .before .before .before .before .before .before .args in
-    let x = c .before .before .before .before .before .before .before .loop in
-    let y = c .before .before .before .before .before .before .width in
-    let f = c .before .before .before .before .too-wide in
-    (x .inv .sane, rw (y .ensures .0) at (leb-false (2 ^ y .result) (getD (now (a .numbers)) (x .n) 0) (sym (f .ensures) ∙ c .before .before .before .if1 .left)))
+arc-field-requires : tie.Need-arc-field-requires Inv-loop μ-loop
+arc-field-requires c κs = search needs
 
-enum-known-m : tie.Need-enum-known-m Inv-loop μ-loop
-enum-known-m c = c .match .keys1
+arc-goes-on-requires : tie.Need-arc-goes-on-requires Inv-loop μ-loop
+arc-goes-on-requires c κs = search needs
+
+arc-step-requires : tie.Need-arc-step-requires Inv-loop μ-loop
+arc-step-requires c κs = (c .before .before .arc-field .ensures, c .before .arc-goes-on .ensures (c .if2 .taken))
 
 add-at : tie.Need-add-at Inv-loop μ-loop
 add-at c =
+    let a = c .before .before .before .before .before .before .before .before .before .before .before .before .before .args in
     let x = c .before .before .before .before .before .before .before .before .before .before .before .loop in
-    omega (arith, x .inv .low, x .inv .few)
+    let y = c .before .before .before .before .before .before .before .before .before .before .width in
+    omega (arith, x .inv .low, x .inv .few, behind-room (now (a .numbers)) (x .l) (x .at) (x .n) (x .bytes) (y .result) (getD (now (a .numbers)) (x .n) 0) (x .inv) (y .ensures .0))
 
 add-n : tie.Need-add-n Inv-loop μ-loop
 add-n c =
     let a = c .before .before .before .before .before .before .before .before .before .before .before .before .before .args in
     let x = c .before .before .before .before .before .before .before .before .before .before .before .loop in
     let y = c .before .before .before .before .before .before .before .before .before .before .width in
-    omega (arith, behind-room (now (a .numbers)) (x .l) (x .at) (x .n) (x .bytes) (y .result) (getD (now (a .numbers)) (x .n) 0) (x .inv) (y .ensures .0))
+    omega (arith, x .inv .low, x .inv .few, behind-room (now (a .numbers)) (x .l) (x .at) (x .n) (x .bytes) (y .result) (getD (now (a .numbers)) (x .n) 0) (x .inv) (y .ensures .0))
 
 loop-less : tie.Need-loop-less Inv-loop μ-loop
 loop-less c =
     let a = c .before .before .before .before .before .before .before .before .before .before .before .before .before .args in
     let x = c .before .before .before .before .before .before .before .before .before .before .before .loop in
     let y = c .before .before .before .before .before .before .before .before .before .before .width in
-    omega (arith, behind-room (now (a .numbers)) (x .l) (x .at) (x .n) (x .bytes) (y .result) (getD (now (a .numbers)) (x .n) 0) (x .inv) (y .ensures .0))
+    omega (arith, x .inv .low, x .inv .few, behind-room (now (a .numbers)) (x .l) (x .at) (x .n) (x .bytes) (y .result) (getD (now (a .numbers)) (x .n) 0) (x .inv) (y .ensures .0))
 
 loop-again : tie.Need-loop-again Inv-loop μ-loop
 loop-again c =
@@ -98,31 +99,77 @@ loop-again c =
     let y = c .before .before .before .before .before .before .before .before .before .before .width in
     let f = c .before .before .before .before .before .before .before .before .too-wide in
     let p = c .before .before .before .before .before .put-field in
+    let q = c .arc-step in
+    behind-more (now (a .numbers)) (x .l) (x .at) (x .n) (x .bytes) (y .result) (getD (now (a .numbers)) (x .n) 0) (x .inv) (y .ensures .0) (More (q .result)) (p .last .0) refl (leb-false (2 ^ y .result) (getD (now (a .numbers)) (x .n) 0) (sym (f .ensures) ∙ c .before .before .before .before .before .before .before .if1 .left)) (p .ensures) (q .ensures _) (q .result) refl
+
+step-requires : tie.Need-step-requires Inv-loop μ-loop
+step-requires c κs =
+    let a = c .before .before .before .before .before .before .before .before .before .before .before .before .args in
+    let x = c .before .before .before .before .before .before .before .before .before .before .loop in
+    let y = c .before .before .before .before .before .before .before .before .before .width in
+    let f = c .before .before .before .before .before .before .before .too-wide in
+    (x .inv .sane, rw (y .ensures .0) at (leb-false (2 ^ y .result) (getD (now (a .numbers)) (x .n) 0) (sym (f .ensures) ∙ c .before .before .before .before .before .before .if1 .left)))
+
+enum-known-m : tie.Need-enum-known-m Inv-loop μ-loop
+enum-known-m c = c .match .keys1
+
+add-at-2 : tie.Need-add-at-2 Inv-loop μ-loop
+add-at-2 c =
+    let a = c .before .before .before .before .before .before .before .before .before .before .before .before .before .before .before .before .args in
+    let x = c .before .before .before .before .before .before .before .before .before .before .before .before .before .before .loop in
+    let y = c .before .before .before .before .before .before .before .before .before .before .before .before .before .width in
+    omega (arith, x .inv .low, x .inv .few, behind-room (now (a .numbers)) (x .l) (x .at) (x .n) (x .bytes) (y .result) (getD (now (a .numbers)) (x .n) 0) (x .inv) (y .ensures .0))
+
+add-n-2 : tie.Need-add-n-2 Inv-loop μ-loop
+add-n-2 c =
+    let a = c .before .before .before .before .before .before .before .before .before .before .before .before .before .before .before .before .args in
+    let x = c .before .before .before .before .before .before .before .before .before .before .before .before .before .before .loop in
+    let y = c .before .before .before .before .before .before .before .before .before .before .before .before .before .width in
+    omega (arith, x .inv .low, x .inv .few, behind-room (now (a .numbers)) (x .l) (x .at) (x .n) (x .bytes) (y .result) (getD (now (a .numbers)) (x .n) 0) (x .inv) (y .ensures .0))
+
+loop-less-2 : tie.Need-loop-less-2 Inv-loop μ-loop
+loop-less-2 c =
+    let a = c .before .before .before .before .before .before .before .before .before .before .before .before .before .before .before .before .args in
+    let x = c .before .before .before .before .before .before .before .before .before .before .before .before .before .before .loop in
+    let y = c .before .before .before .before .before .before .before .before .before .before .before .before .before .width in
+    omega (arith, x .inv .low, x .inv .few, behind-room (now (a .numbers)) (x .l) (x .at) (x .n) (x .bytes) (y .result) (getD (now (a .numbers)) (x .n) 0) (x .inv) (y .ensures .0))
+
+loop-again-2 : tie.Need-loop-again-2 Inv-loop μ-loop
+loop-again-2 c =
+    let a = c .before .before .before .before .before .before .before .before .before .before .before .before .before .before .before .before .args in
+    let x = c .before .before .before .before .before .before .before .before .before .before .before .before .before .before .loop in
+    let y = c .before .before .before .before .before .before .before .before .before .before .before .before .before .width in
+    let f = c .before .before .before .before .before .before .before .before .before .before .before .too-wide in
+    let p = c .before .before .before .before .before .before .before .before .put-field in
     let q = c .before .before .before .step in
-    behind-more (now (a .numbers)) (x .l) (x .at) (x .n) (x .bytes) (y .result) (getD (now (a .numbers)) (x .n) 0) (x .inv) (y .ensures .0) (q .result) (p .last .0) refl (leb-false (2 ^ y .result) (getD (now (a .numbers)) (x .n) 0) (sym (f .ensures) ∙ c .before .before .before .before .before .before .before .if1 .left)) (p .ensures) (q .ensures) _ (c .before .m .given .1)
+    behind-more (now (a .numbers)) (x .l) (x .at) (x .n) (x .bytes) (y .result) (getD (now (a .numbers)) (x .n) 0) (x .inv) (y .ensures .0) (q .result) (p .last .0) refl (leb-false (2 ^ y .result) (getD (now (a .numbers)) (x .n) 0) (sym (f .ensures) ∙ c .before .before .before .before .before .before .before .before .before .before .if1 .left)) (p .ensures) (q .ensures) _ (c .before .m .given .1)
 
 enum-known--k : tie.Need-enum-known--k Inv-loop μ-loop
 enum-known--k c = c .match .keys2
 
-add-t21 : tie.Need-add-t21 Inv-loop μ-loop
-add-t21 c =
-    let x = c .before .before .before .before .before .before .before .before .before .before .before .loop in
-    omega (arith, x .inv .low, x .inv .few)
+add-t23 : tie.Need-add-t23 Inv-loop μ-loop
+add-t23 c =
+    let a = c .before .before .before .before .before .before .before .before .before .before .before .before .before .before .before .before .args in
+    let x = c .before .before .before .before .before .before .before .before .before .before .before .before .before .before .loop in
+    let y = c .before .before .before .before .before .before .before .before .before .before .before .before .before .width in
+    omega (arith, x .inv .low, x .inv .few, behind-room (now (a .numbers)) (x .l) (x .at) (x .n) (x .bytes) (y .result) (getD (now (a .numbers)) (x .n) 0) (x .inv) (y .ensures .0))
 
-add-t22 : tie.Need-add-t22 Inv-loop μ-loop
-add-t22 c =
-    let x = c .before .before .before .before .before .before .before .before .before .before .before .loop in
-    omega (arith, x .inv .low, x .inv .few)
+add-t24 : tie.Need-add-t24 Inv-loop μ-loop
+add-t24 c =
+    let a = c .before .before .before .before .before .before .before .before .before .before .before .before .before .before .before .before .args in
+    let x = c .before .before .before .before .before .before .before .before .before .before .before .before .before .before .loop in
+    let y = c .before .before .before .before .before .before .before .before .before .before .before .before .before .width in
+    omega (arith, x .inv .low, x .inv .few, behind-room (now (a .numbers)) (x .l) (x .at) (x .n) (x .bytes) (y .result) (getD (now (a .numbers)) (x .n) 0) (x .inv) (y .ensures .0))
 
 returns-2 : tie.Need-returns-2 Inv-loop μ-loop
 returns-2 c =
-    let a = c .before .before .before .before .before .before .before .before .before .before .before .before .before .args in
-    let x = c .before .before .before .before .before .before .before .before .before .before .before .loop in
-    let y = c .before .before .before .before .before .before .before .before .before .before .width in
-    let f = c .before .before .before .before .before .before .before .before .too-wide in
-    let p = c .before .before .before .before .before .put-field in
+    let a = c .before .before .before .before .before .before .before .before .before .before .before .before .before .before .before .before .args in
+    let x = c .before .before .before .before .before .before .before .before .before .before .before .before .before .before .loop in
+    let y = c .before .before .before .before .before .before .before .before .before .before .before .before .before .width in
+    let f = c .before .before .before .before .before .before .before .before .before .before .before .too-wide in
+    let p = c .before .before .before .before .before .before .before .before .put-field in
     let q = c .before .before .before .step in
-    λ d k. behind-done (now (a .numbers)) (x .l) (x .at) (x .n) (x .bytes) (y .result) (getD (now (a .numbers)) (x .n) 0) (x .inv) (y .ensures .0) (q .result) (p .last .0) refl (leb-false (2 ^ y .result) (getD (now (a .numbers)) (x .n) 0) (sym (f .ensures) ∙ c .before .before .before .before .before .before .before .if1 .left)) (p .ensures) (q .ensures) _ (c .before .-k .given .1) d k _ refl refl
+    λ d k. behind-done (now (a .numbers)) (x .l) (x .at) (x .n) (x .bytes) (y .result) (getD (now (a .numbers)) (x .n) 0) (x .inv) (y .ensures .0) (q .result) (p .last .0) refl (leb-false (2 ^ y .result) (getD (now (a .numbers)) (x .n) 0) (sym (f .ensures) ∙ c .before .before .before .before .before .before .before .before .before .before .if1 .left)) (p .ensures) (q .ensures) _ (c .before .-k .given .1) d k _ refl refl
 
 enum-known-f : tie.Need-enum-known-f Inv-loop μ-loop
 enum-known-f c = c .match .keys3
@@ -132,13 +179,13 @@ unspelt-requires-2 c κs = search needs
 
 returns-3 : tie.Need-returns-3 Inv-loop μ-loop
 returns-3 c =
-    let a = c .before .before .before .before .before .before .before .before .before .before .before .before .before .before .args in
-    let x = c .before .before .before .before .before .before .before .before .before .before .before .before .loop in
-    let y = c .before .before .before .before .before .before .before .before .before .before .before .width in
-    let f = c .before .before .before .before .before .before .before .before .before .too-wide in
-    let p = c .before .before .before .before .before .before .put-field in
+    let a = c .before .before .before .before .before .before .before .before .before .before .before .before .before .before .before .before .before .args in
+    let x = c .before .before .before .before .before .before .before .before .before .before .before .before .before .before .before .loop in
+    let y = c .before .before .before .before .before .before .before .before .before .before .before .before .before .before .width in
+    let f = c .before .before .before .before .before .before .before .before .before .before .before .before .too-wide in
+    let p = c .before .before .before .before .before .before .before .before .before .put-field in
     let q = c .before .before .before .before .step in
-    λ d k. behind-bad (now (a .numbers)) (x .l) (x .at) (x .n) (x .bytes) (y .result) (getD (now (a .numbers)) (x .n) 0) (x .inv) (y .ensures .0) (q .result) (p .last .0) refl (leb-false (2 ^ y .result) (getD (now (a .numbers)) (x .n) 0) (sym (f .ensures) ∙ c .before .before .before .before .before .before .before .before .if1 .left)) (p .ensures) (q .ensures) _ (c .before .before .f .given .1) d k (c .unspelt2 .result) (c .unspelt2 .ensures)
+    λ d k. behind-bad (now (a .numbers)) (x .l) (x .at) (x .n) (x .bytes) (y .result) (getD (now (a .numbers)) (x .n) 0) (x .inv) (y .ensures .0) (q .result) (p .last .0) refl (leb-false (2 ^ y .result) (getD (now (a .numbers)) (x .n) 0) (sym (f .ensures) ∙ c .before .before .before .before .before .before .before .before .before .before .before .if1 .left)) (p .ensures) (q .ensures) _ (c .before .before .f .given .1) d k (c .unspelt2 .result) (c .unspelt2 .ensures)
 
 pub spell-numbers-spec : {M : Type 1} → statement M
 spell-numbers-spec =
@@ -156,15 +203,22 @@ spell-numbers-spec =
     returns
     slice-aggregate-put-field
     put-field-requires
-    step-requires
-    enum-known-m
+    arc-field-requires
+    arc-goes-on-requires
+    arc-step-requires
     add-at
     add-n
     loop-less
     loop-again
+    step-requires
+    enum-known-m
+    add-at-2
+    add-n-2
+    loop-less-2
+    loop-again-2
     enum-known--k
-    add-t21
-    add-t22
+    add-t23
+    add-t24
     returns-2
     enum-known-f
     unspelt-requires-2

@@ -6,36 +6,36 @@ use Rattle.flattening.proofs.rows.put_row.Tie as tie
 mul-k : tie.Need-mul-k
 mul-k c = search needs
 
-put-requires : tie.Need-put-requires
-put-requires c κs = search needs
+put-number-requires : tie.Need-put-number-requires
+put-number-requires c κs = search needs
 
-add-put : tie.Need-add-put
-add-put c = search needs
+add-put-number : tie.Need-add-put-number
+add-put-number c = search needs
 
-put-requires-2 : tie.Need-put-requires-2
-put-requires-2 c κs = search needs
+put-number-requires-2 : tie.Need-put-number-requires-2
+put-number-requires-2 c κs = search needs
 
-add-put-2 : tie.Need-add-put-2
-add-put-2 c = search needs
+add-put-number-2 : tie.Need-add-put-number-2
+add-put-number-2 c = search needs
 
-put-requires-3 : tie.Need-put-requires-3
-put-requires-3 c κs = search needs
+put-number-requires-3 : tie.Need-put-number-requires-3
+put-number-requires-3 c κs = search needs
 
 same-length : tie.Need-same-length
 same-length c = search needs
 
 returns : tie.Need-returns
-returns c = rw ((c .before .before .put3) .ensures, (c .before .before .before .before .before .before .put2) .ensures, (c .before .before .before .before .before .before .before .before .before .before .put) .ensures)
+returns c = rw ((c .before .before .put-number3) .ensures, (c .before .before .before .before .before .before .put-number2) .ensures, (c .before .before .before .before .before .before .before .before .before .before .put-number) .ensures)
 
 pub put-row-spec : {M : Type 1} → statement M
 put-row-spec =
     tie.close
     (tie.spec
     mul-k
-    put-requires
-    add-put
-    put-requires-2
-    add-put-2
-    put-requires-3
+    put-number-requires
+    add-put-number
+    put-number-requires-2
+    add-put-number-2
+    put-number-requires-3
     same-length
     returns)

@@ -38,14 +38,14 @@ add-p c = search needs
 number-of-requires : tie.Need-number-of-requires Inv-loop μ-loop
 number-of-requires c κs = search needs
 
-cast-put : tie.Need-cast-put Inv-loop μ-loop
-cast-put c = search needs
+cast-put-wide : tie.Need-cast-put-wide Inv-loop μ-loop
+cast-put-wide c = search needs
 
-mul-put : tie.Need-mul-put Inv-loop μ-loop
-mul-put c = search needs
+mul-put-wide : tie.Need-mul-put-wide Inv-loop μ-loop
+mul-put-wide c = search needs
 
-put-requires : tie.Need-put-requires Inv-loop μ-loop
-put-requires c κs = search needs
+put-wide-requires : tie.Need-put-wide-requires Inv-loop μ-loop
+put-wide-requires c κs = search needs
 
 add-n : tie.Need-add-n Inv-loop μ-loop
 add-n c = search needs
@@ -57,7 +57,7 @@ loop-again : tie.Need-loop-again Inv-loop μ-loop
 loop-again c =
     let a = (c .before .before .before .before .before .before .before .before .before .before .args) in
     let l = (c .before .before .before .before .before .before .loop) in
-    let p = (c .before .before .put) in (
+    let p = (c .before .before .put-wide) in (
       ap length (p .ensures) ∙ length-set (l .column) _ _ ∙ l .inv .0,
       omega (arith, (c .before .before .before .before .before .loop-test) .taken),
       λ k ss s h b er ef x. subnet-more k (h .meets) (now (a .numbers)) ss (h .loaded) s b (a .which) (a .row) (a .first) ((c .before .before .before .before .before .before .before .place-count) .result) (l .n) _ ((c .before .before .before .number-of) .result) (l .column) _ er ef ((c .before .before .before .before .before .before .before .place-count) .ensures) ((c .before .before .before .before .before .loop-test) .taken)
@@ -84,9 +84,9 @@ fill-subnet-spec =
     cast-p
     add-p
     number-of-requires
-    cast-put
-    mul-put
-    put-requires
+    cast-put-wide
+    mul-put-wide
+    put-wide-requires
     add-n
     loop-less
     loop-again
