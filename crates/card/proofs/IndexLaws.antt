@@ -14,7 +14,7 @@ use borrow.Author.Tests.{lt-ltb, le-ltb, le-leb, lt-leb}
 use Rattle.card.specs.Finite.{sumTo}
 use Rattle.card.specs.Card.{Card, subnetAt, transitionAt, firstPlace, firstTransition, firstArc}
 use Rattle.card.specs.Format.{count, size, sizeFrom}
-use Rattle.card.specs.Grammar.{header, subnet, place, transition, arc}
+use Rattle.card.specs.Grammar.{maxCount, maxArcs, header, subnet, place, transition, arc}
 use Rattle.card.specs.Writing.{subnetBit, transitionBit}
 use Rattle.card.specs.Index.{subnetRow, transitionRow, Lists, Laid, Indexed, startsSize, subnetStarts, transitionStarts, subnetBitStart, firstPlaceStart, firstTransitionStart, transitionRowStart, transitionBitStart, owner, transitionRowOf, transitionBitOf, upTo, startOf, startsOf}
 use Rattle.card.specs.inner.Indexing.{OnCard, Moved, putSubnet, Column, Listed, AtSubnet, TransitionsIndexed}
@@ -27,7 +27,7 @@ use Rattle.card.proofs.Prefix.{places-below, transitions-below}
 use Rattle.card.proofs.Positions.{counted, arcs-few, transition-order}
 
 module _ (c : Card) (w : Wellformed c) (s t : ℕ) (l : s < length (c .subnets)) (h : t ≤ firstTransition c (suc s)) where
-  few : (firstPlace c (suc s) ≤ 255) × (t ≤ 255) × (firstArc c t ≤ 31 * t)
+  few : (firstPlace c (suc s) ≤ maxCount) × (t ≤ maxCount) × (firstArc c t ≤ maxArcs * t)
   few =
       let n = counted c w in
       let u = transitions-below c n (suc s) l in
@@ -146,13 +146,13 @@ module _ (c : Card) (s : ℕ) (numbers old : List ℕ) (from : Position) (first 
           row = m .row ∙ rw (x .row, arcs, add-one) (sym (next-row c s t));
           bit = m .bit ∙ rw (x .bit, arcs, add-one, ev, a .laid .version) (sym (next-bit c s t));
           listed = rw (e2, e1) (record {
-            rows = column-other 132 256 (transitionRowOf c) (set starts (132 + t) (p .row)) (t + 1) (388 + t) (p .bit) (inr (omega arith))
-                (column-more 132 256 (transitionRowOf c) starts t (p .row) room (omega (arith, size-of)) (x .row ∙ ap (λ (r : ℕ). transitionRow c r t) (sym is)) (x .listed .rows));
-            bits = column-more 388 256 (transitionBitOf c) (set starts (132 + t) (p .row)) t (p .bit) room (omega (arith, size-of, length-set starts (132 + t) (p .row)))
+            rows = column-other (transitionRowStart 0) transitionStarts (transitionRowOf c) (set starts (transitionRowStart t) (p .row)) (t + 1) (transitionBitStart t) (p .bit) (inr (omega arith))
+                (column-more (transitionRowStart 0) transitionStarts (transitionRowOf c) starts t (p .row) room (omega (arith, size-of)) (x .row ∙ ap (λ (r : ℕ). transitionRow c r t) (sym is)) (x .listed .rows));
+            bits = column-more (transitionBitStart 0) transitionStarts (transitionBitOf c) (set starts (transitionRowStart t) (p .row)) t (p .bit) room (omega (arith, size-of, length-set starts (transitionRowStart t) (p .row)))
                 (x .bit ∙ ap (λ (r : ℕ). transitionBit c r t) (sym is))
-                (column-other 388 256 (transitionBitOf c) starts t (132 + t) (p .row) (inl (omega (arith, room))) (x .listed .bits));
+                (column-other (transitionBitStart 0) transitionStarts (transitionBitOf c) starts t (transitionRowStart t) (p .row) (inl (omega (arith, room))) (x .listed .bits));
           });
-          kept = λ i b. rw (e2, e1) (getD-set-other (set starts (132 + t) (p .row)) (388 + t) i (p .bit) 0 (λ g. omega arith) ∙ getD-set-other starts (132 + t) i (p .row) 0 (λ g. omega arith)) ∙ x .kept i b;
+          kept = λ i b. rw (e2, e1) (getD-set-other (set starts (transitionRowStart t) (p .row)) (transitionBitStart t) i (p .bit) 0 (λ g. omega arith) ∙ getD-set-other starts (transitionRowStart t) i (p .row) 0 (λ g. omega arith)) ∙ x .kept i b;
         }
       where
         listed : Lists c s t
@@ -161,10 +161,10 @@ module _ (c : Card) (s : ℕ) (numbers old : List ℕ) (from : Position) (first 
         is : owner c t ≡ s
         is = owner-is c s t listed
 
-        room : t < 256
+        room : t < transitionStarts
         room = omega (arith, few c (a .wellformed) s t (a .subnet) (x .high) .1)
 
-        size-of : length starts ≡ 644
+        size-of : length starts ≡ startsSize
         size-of = x .long ∙ a .long
 
         arcs : k ≡ (transitionAt c t) .arcs
@@ -191,8 +191,8 @@ first-bit c s = omega arith
 
 pub put-same : (starts : List ℕ) (s row bit place transition : ℕ) → length (putSubnet starts s row bit place transition) ≡ length starts
 put-same starts s row bit place transition =
-    set-long (set (set starts s row) (33 + s) bit) (set (set (set starts s row) (33 + s) bit) (66 + s) place) (putSubnet starts s row bit place transition) (66 + s) place (99 + s) transition refl refl
-    ∙ set-long starts (set starts s row) (set (set starts s row) (33 + s) bit) s row (33 + s) bit refl refl
+    set-long (set (set starts s row) (subnetBitStart s) bit) (set (set (set starts s row) (subnetBitStart s) bit) (firstPlaceStart s) place) (putSubnet starts s row bit place transition) (firstPlaceStart s) place (firstTransitionStart s) transition refl refl
+    ∙ set-long starts (set starts s row) (set (set starts s row) (subnetBitStart s) bit) s row (subnetBitStart s) bit refl refl
 
 -- the starts of the subnets before s are stored
 pub record Begun (c : Card) (starts : List ℕ) (s : ℕ) : Type 0 where
@@ -202,52 +202,52 @@ pub record Begun (c : Card) (starts : List ℕ) (s : ℕ) : Type 0 where
   pub transitions : Column starts (firstTransitionStart 0) subnetStarts s (firstTransition c)
 
 -- a column behind the subnets' is not touched by the starts of a subnet
-put-behind : (starts : List ℕ) (s row bit place transition o n k : ℕ) (f : ℕ → ℕ) → s < 33 → 132 ≤ o → Column starts o n k f → Column (putSubnet starts s row bit place transition) o n k f
+put-behind : (starts : List ℕ) (s row bit place transition o n k : ℕ) (f : ℕ → ℕ) → s < subnetStarts → transitionRowStart 0 ≤ o → Column starts o n k f → Column (putSubnet starts s row bit place transition) o n k f
 put-behind starts s row bit place transition o n k f small far x =
-    column-other o n f (set (set (set starts s row) (33 + s) bit) (66 + s) place) k (99 + s) transition (inl (omega arith))
-    (column-other o n f (set (set starts s row) (33 + s) bit) k (66 + s) place (inl (omega arith))
-    (column-other o n f (set starts s row) k (33 + s) bit (inl (omega arith)) (column-other o n f starts k s row (inl (omega arith)) x)))
+    column-other o n f (set (set (set starts s row) (subnetBitStart s) bit) (firstPlaceStart s) place) k (firstTransitionStart s) transition (inl (omega arith))
+    (column-other o n f (set (set starts s row) (subnetBitStart s) bit) k (firstPlaceStart s) place (inl (omega arith))
+    (column-other o n f (set starts s row) k (subnetBitStart s) bit (inl (omega arith)) (column-other o n f starts k s row (inl (omega arith)) x)))
 
 -- the starts of subnet s are stored too
-module _ (c : Card) (starts : List ℕ) (s row bit place transition : ℕ) (long : length starts ≡ 644) (small : s < 33) where
+module _ (c : Card) (starts : List ℕ) (s row bit place transition : ℕ) (long : length starts ≡ startsSize) (small : s < subnetStarts) where
   abbrev a₁ : List ℕ
   a₁ = set starts s row
 
   abbrev a₂ : List ℕ
-  a₂ = set a₁ (33 + s) bit
+  a₂ = set a₁ (subnetBitStart s) bit
 
   abbrev a₃ : List ℕ
-  a₃ = set a₂ (66 + s) place
+  a₃ = set a₂ (firstPlaceStart s) place
 
-  long₁ : length a₁ ≡ 644
+  long₁ : length a₁ ≡ startsSize
   long₁ = length-set starts s row ∙ long
 
-  long₂ : length a₂ ≡ 644
-  long₂ = length-set a₁ (33 + s) bit ∙ long₁
+  long₂ : length a₂ ≡ startsSize
+  long₂ = length-set a₁ (subnetBitStart s) bit ∙ long₁
 
-  long₃ : length a₃ ≡ 644
-  long₃ = length-set a₂ (66 + s) place ∙ long₂
+  long₃ : length a₃ ≡ startsSize
+  long₃ = length-set a₂ (firstPlaceStart s) place ∙ long₂
 
-  put-long : length (putSubnet starts s row bit place transition) ≡ 644
-  put-long = length-set a₃ (99 + s) transition ∙ long₃
+  put-long : length (putSubnet starts s row bit place transition) ≡ startsSize
+  put-long = length-set a₃ (firstTransitionStart s) transition ∙ long₃
 
   begun-more : row ≡ subnetRow c s → bit ≡ subnetBit c s → place ≡ firstPlace c s → transition ≡ firstTransition c s → Begun c starts s
       → Begun c (putSubnet starts s row bit place transition) (s + 1)
   begun-more er eb ep et x =
       record {
-        rows = column-other 0 33 (subnetRow c) a₃ (s + 1) (99 + s) transition (inr (omega arith))
-            (column-other 0 33 (subnetRow c) a₂ (s + 1) (66 + s) place (inr (omega arith))
-            (column-other 0 33 (subnetRow c) a₁ (s + 1) (33 + s) bit (inr (omega arith)) (subst (λ (j : ℕ). Column (set starts j row) 0 33 (s + 1) (subnetRow c)) (zero-add s)
-            (column-more 0 33 (subnetRow c) starts s row small (omega (arith, long)) er (x .rows)))));
-        bits = column-other 33 33 (subnetBit c) a₃ (s + 1) (99 + s) transition (inr (omega arith))
-            (column-other 33 33 (subnetBit c) a₂ (s + 1) (66 + s) place (inr (omega arith))
-            (column-more 33 33 (subnetBit c) a₁ s bit small (omega (arith, long₁)) eb (column-other 33 33 (subnetBit c) starts s s row (inl (omega arith)) (x .bits))));
-        places = column-other 66 33 (firstPlace c) a₃ (s + 1) (99 + s) transition (inr (omega arith))
-            (column-more 66 33 (firstPlace c) a₂ s place small (omega (arith, long₂)) ep
-            (column-other 66 33 (firstPlace c) a₁ s (33 + s) bit (inl (omega arith)) (column-other 66 33 (firstPlace c) starts s s row (inl (omega arith)) (x .places))));
-        transitions = column-more 99 33 (firstTransition c) a₃ s transition small (omega (arith, long₃)) et
-            (column-other 99 33 (firstTransition c) a₂ s (66 + s) place (inl (omega arith))
-            (column-other 99 33 (firstTransition c) a₁ s (33 + s) bit (inl (omega arith)) (column-other 99 33 (firstTransition c) starts s s row (inl (omega arith)) (x .transitions))));
+        rows = column-other 0 subnetStarts (subnetRow c) a₃ (s + 1) (firstTransitionStart s) transition (inr (omega arith))
+            (column-other 0 subnetStarts (subnetRow c) a₂ (s + 1) (firstPlaceStart s) place (inr (omega arith))
+            (column-other 0 subnetStarts (subnetRow c) a₁ (s + 1) (subnetBitStart s) bit (inr (omega arith)) (subst (λ (j : ℕ). Column (set starts j row) 0 subnetStarts (s + 1) (subnetRow c)) (zero-add s)
+            (column-more 0 subnetStarts (subnetRow c) starts s row small (omega (arith, long)) er (x .rows)))));
+        bits = column-other (subnetBitStart 0) subnetStarts (subnetBit c) a₃ (s + 1) (firstTransitionStart s) transition (inr (omega arith))
+            (column-other (subnetBitStart 0) subnetStarts (subnetBit c) a₂ (s + 1) (firstPlaceStart s) place (inr (omega arith))
+            (column-more (subnetBitStart 0) subnetStarts (subnetBit c) a₁ s bit small (omega (arith, long₁)) eb (column-other (subnetBitStart 0) subnetStarts (subnetBit c) starts s s row (inl (omega arith)) (x .bits))));
+        places = column-other (firstPlaceStart 0) subnetStarts (firstPlace c) a₃ (s + 1) (firstTransitionStart s) transition (inr (omega arith))
+            (column-more (firstPlaceStart 0) subnetStarts (firstPlace c) a₂ s place small (omega (arith, long₂)) ep
+            (column-other (firstPlaceStart 0) subnetStarts (firstPlace c) a₁ s (subnetBitStart s) bit (inl (omega arith)) (column-other (firstPlaceStart 0) subnetStarts (firstPlace c) starts s s row (inl (omega arith)) (x .places))));
+        transitions = column-more (firstTransitionStart 0) subnetStarts (firstTransition c) a₃ s transition small (omega (arith, long₃)) et
+            (column-other (firstTransitionStart 0) subnetStarts (firstTransition c) a₂ s (firstPlaceStart s) place (inl (omega arith))
+            (column-other (firstTransitionStart 0) subnetStarts (firstTransition c) a₁ s (subnetBitStart s) bit (inl (omega arith)) (column-other (firstTransitionStart 0) subnetStarts (firstTransition c) starts s s row (inl (omega arith)) (x .transitions))));
       }
 
 -- the walk is at subnet s
@@ -262,23 +262,23 @@ pub record Indexing (c : Card) (starts : List ℕ) (p : Position) (place transit
   pub listed : Listed c starts (firstTransition c s)
 
 module _ (c : Card) (w : Wellformed c) (numbers : List ℕ) (d : Laid c numbers) where
-  pub index-start : (p : Position) (v : ℕ) → v ≡ getD numbers 0 0 → p .row ≡ count header → p .bit ≡ sizeFrom v header → Indexing c (replicate 644 0) p 0 0 0
+  pub index-start : (p : Position) (v : ℕ) → v ≡ getD numbers 0 0 → p .row ≡ count header → p .bit ≡ sizeFrom v header → Indexing c (replicate startsSize 0) p 0 0 0
   unfolding subnetRow subnetBit firstPlace firstTransition firstArc sumTo count size header subnet place transition arc
   index-start p v ev er eb =
       record {
         inside = omega arith;
-        long = length-replicate {A = ℕ} 644 0;
+        long = length-replicate {A = ℕ} startsSize 0;
         row = er;
         bit = eb ∙ ap (λ (i : ℕ). sizeFrom i header) (ev ∙ d .version) ∙ omega arith;
         isPlace = refl;
         isTransition = refl;
         begun = record {
-          rows = column-blank 0 33 (subnetRow c) 644 (omega arith);
-          bits = column-blank 33 33 (subnetBit c) 644 (omega arith);
-          places = column-blank 66 33 (firstPlace c) 644 (omega arith);
-          transitions = column-blank 99 33 (firstTransition c) 644 (omega arith);
+          rows = column-blank 0 subnetStarts (subnetRow c) startsSize (omega arith);
+          bits = column-blank (subnetBitStart 0) subnetStarts (subnetBit c) startsSize (omega arith);
+          places = column-blank (firstPlaceStart 0) subnetStarts (firstPlace c) startsSize (omega arith);
+          transitions = column-blank (firstTransitionStart 0) subnetStarts (firstTransition c) startsSize (omega arith);
         };
-        listed = record { rows = column-blank 132 256 (transitionRowOf c) 644 (omega arith); bits = column-blank 388 256 (transitionBitOf c) 644 (omega arith) };
+        listed = record { rows = column-blank (transitionRowStart 0) transitionStarts (transitionRowOf c) startsSize (omega arith); bits = column-blank (transitionBitStart 0) transitionStarts (transitionBitOf c) startsSize (omega arith) };
       }
 
   module _ (starts : List ℕ) (p : Position) (place transition s : ℕ) (x : Indexing c starts p place transition s) where
@@ -290,13 +290,13 @@ module _ (c : Card) (w : Wellformed c) (numbers : List ℕ) (d : Laid c numbers)
           bit = omega (arith, x .bit, first-bit c s, few-bits c w s (firstTransition c s) l (omega (arith, t)));
         }
 
-    small : s < 33
+    small : s < subnetStarts
     small = omega (arith, x .inside, w .fewSubnets)
 
     abbrev one : List ℕ
     one = putSubnet starts s (p .row) (p .bit) place transition
 
-    one-long : length one ≡ 644
+    one-long : length one ≡ startsSize
     one-long = put-long c starts s (p .row) (p .bit) place transition (x .long) small
 
     one-begun : Begun c one (s + 1)
@@ -305,8 +305,8 @@ module _ (c : Card) (w : Wellformed c) (numbers : List ℕ) (d : Laid c numbers)
     one-listed : Listed c one (firstTransition c s)
     one-listed =
         record {
-          rows = put-behind starts s (p .row) (p .bit) place transition 132 256 (firstTransition c s) (transitionRowOf c) small (omega arith) (x .listed .rows);
-          bits = put-behind starts s (p .row) (p .bit) place transition 388 256 (firstTransition c s) (transitionBitOf c) small (omega arith) (x .listed .bits);
+          rows = put-behind starts s (p .row) (p .bit) place transition (transitionRowStart 0) transitionStarts (firstTransition c s) (transitionRowOf c) small (omega arith) (x .listed .rows);
+          bits = put-behind starts s (p .row) (p .bit) place transition (transitionBitStart 0) transitionStarts (firstTransition c s) (transitionBitOf c) small (omega arith) (x .listed .bits);
         }
 
     module _ (l : s < length (c .subnets)) (n k : ℕ) (en : n ≡ getD numbers (p .row + 2) 0) (ek : k ≡ getD numbers (p .row + 3) 0) (q : Position)
@@ -342,16 +342,16 @@ module _ (c : Card) (w : Wellformed c) (numbers : List ℕ) (d : Laid c numbers)
             isTransition = rw (add-one s) (unfold firstTransition sumTo in rw (x .isTransition, transitions-is));
             begun = record {
               rows = λ i h. g .kept (0 + i) (omega arith) ∙ one-begun .rows i h;
-              bits = λ i h. g .kept (33 + i) (omega arith) ∙ one-begun .bits i h;
-              places = λ i h. g .kept (66 + i) (omega arith) ∙ one-begun .places i h;
-              transitions = λ i h. g .kept (99 + i) (omega arith) ∙ one-begun .transitions i h;
+              bits = λ i h. g .kept (subnetBitStart i) (omega arith) ∙ one-begun .bits i h;
+              places = λ i h. g .kept (firstPlaceStart i) (omega arith) ∙ one-begun .places i h;
+              transitions = λ i h. g .kept (firstTransitionStart i) (omega arith) ∙ one-begun .transitions i h;
             };
             listed = rw (add-one s) (g .listed);
           }
 
     pub index-done : length (c .subnets) ≤ s → one ≡ startsOf c
     unfolding startsOf
-    index-done h = ext-getD 0 one _ (one-long ∙ sym (table-length 0 644 (startOf c))) (λ i l. at i (omega (arith, one-long)) ∙ sym (table-at 644 (startOf c) 0 i (omega (arith, one-long))))
+    index-done h = ext-getD 0 one _ (one-long ∙ sym (table-length 0 startsSize (startOf c))) (λ i l. at i (omega (arith, one-long)) ∙ sym (table-at startsSize (startOf c) 0 i (omega (arith, one-long))))
       where
         ended : s + 1 ≡ suc (length (c .subnets))
         ended = omega (arith, x .inside)
@@ -369,73 +369,73 @@ module _ (c : Card) (w : Wellformed c) (numbers : List ℕ) (d : Laid c numbers)
         column : (o n k j : ℕ) (f : ℕ → ℕ) → Column one o n k f → k ≡ j → (i : ℕ) → o ≤ i → i < o + n → getD one i 0 ≡ upTo j f (i - o)
         column o n k j f y e i a b = subst (λ (r : ℕ). getD one r 0 ≡ upTo j f (i - o)) (omega arith) (y (i - o) (omega arith) ∙ ap (λ (r : ℕ). upTo r f (i - o)) e)
 
-        at : (i : ℕ) → i < 644 → getD one i 0 ≡ startOf c i
+        at : (i : ℕ) → i < startsSize → getD one i 0 ≡ startOf c i
         at i l =
-            pick i 33 _ _ _ (λ b. column 0 33 (s + 1) (suc (length (c .subnets))) (subnetRow c) (one-begun .rows) ended i (omega arith) b ∙ ap (upTo (suc (length (c .subnets))) (subnetRow c)) (let e : i - 0 ≡ i = omega arith in e))
-            (λ b. pick i 66 _ _ _ (λ b₂. column 33 33 (s + 1) (suc (length (c .subnets))) (subnetBit c) (one-begun .bits) ended i b b₂)
-            (λ b₂. pick i 99 _ _ _ (λ b₃. column 66 33 (s + 1) (suc (length (c .subnets))) (firstPlace c) (one-begun .places) ended i b₂ b₃)
-            (λ b₃. pick i 132 _ _ _ (λ b₄. column 99 33 (s + 1) (suc (length (c .subnets))) (firstTransition c) (one-begun .transitions) ended i b₃ b₄)
-            (λ b₄. pick i 388 _ _ _ (λ b₅. column 132 256 (firstTransition c s) (length (c .transitions)) (transitionRowOf c) (one-listed .rows) all i b₄ b₅)
-            (λ b₅. column 388 256 (firstTransition c s) (length (c .transitions)) (transitionBitOf c) (one-listed .bits) all i b₅ l)))))
+            pick i (subnetBitStart 0) _ _ _ (λ b. column 0 subnetStarts (s + 1) (suc (length (c .subnets))) (subnetRow c) (one-begun .rows) ended i (omega arith) b ∙ ap (upTo (suc (length (c .subnets))) (subnetRow c)) (let e : i - 0 ≡ i = omega arith in e))
+            (λ b. pick i (firstPlaceStart 0) _ _ _ (λ b₂. column (subnetBitStart 0) subnetStarts (s + 1) (suc (length (c .subnets))) (subnetBit c) (one-begun .bits) ended i b b₂)
+            (λ b₂. pick i (firstTransitionStart 0) _ _ _ (λ b₃. column (firstPlaceStart 0) subnetStarts (s + 1) (suc (length (c .subnets))) (firstPlace c) (one-begun .places) ended i b₂ b₃)
+            (λ b₃. pick i (transitionRowStart 0) _ _ _ (λ b₄. column (firstTransitionStart 0) subnetStarts (s + 1) (suc (length (c .subnets))) (firstTransition c) (one-begun .transitions) ended i b₃ b₄)
+            (λ b₄. pick i (transitionBitStart 0) _ _ _ (λ b₅. column (transitionRowStart 0) transitionStarts (firstTransition c s) (length (c .transitions)) (transitionRowOf c) (one-listed .rows) all i b₄ b₅)
+            (λ b₅. column (transitionBitStart 0) transitionStarts (firstTransition c s) (length (c .transitions)) (transitionBitOf c) (one-listed .bits) all i b₅ l)))))
 
 -- `starts-indexed`: THE SECOND TABLE HOLDS WHERE A CARD'S ROWS BEGIN
 module _ (c : Card) (w : Wellformed c) where
   abbrev ends : ℕ
   ends = suc (length (c .subnets))
 
-  start-at : (i x : ℕ) → i < 644 → startOf c i ≡ x → getD (startsOf c) i 0 ≡ x
+  start-at : (i x : ℕ) → i < startsSize → startOf c i ≡ x → getD (startsOf c) i 0 ≡ x
   unfolding startsOf
-  start-at i x l e = table-at 644 (startOf c) 0 i l ∙ e
+  start-at i x l e = table-at startsSize (startOf c) 0 i l ∙ e
 
-  of-subnet : (s : ℕ) → s ≤ length (c .subnets) → s < 33
+  of-subnet : (s : ℕ) → s ≤ length (c .subnets) → s < subnetStarts
   of-subnet s l = omega (arith, w .fewSubnets)
 
-  of-transition : (s t : ℕ) → Lists c s t → (t < length (c .transitions)) × (t < 256)
+  of-transition : (s t : ℕ) → Lists c s t → (t < length (c .transitions)) × (t < transitionStarts)
   of-transition s t l =
       let below = transitions-below c (counted c w) (suc s) (omega (arith, l .subnet)) in
       (omega (arith, l .last, below), omega (arith, l .last, below, w .rows .fewTransitions))
 
-  bit-at : (s : ℕ) → s < 33 → startOf c (33 + s) ≡ upTo ends (subnetBit c) s
-  bit-at s l = rw (le-ltb (33 + s) 33 (omega arith), lt-ltb (33 + s) 66 (omega arith), (let e : 33 + s - 33 ≡ s = omega arith in e))
+  bit-at : (s : ℕ) → s < subnetStarts → startOf c (subnetBitStart s) ≡ upTo ends (subnetBit c) s
+  bit-at s l = rw (le-ltb (subnetBitStart s) (subnetBitStart 0) (omega arith), lt-ltb (subnetBitStart s) (firstPlaceStart 0) (omega arith), (let e : subnetBitStart s - subnetBitStart 0 ≡ s = omega arith in e))
 
-  place-at : (s : ℕ) → s < 33 → startOf c (66 + s) ≡ upTo ends (firstPlace c) s
-  place-at s l = rw (le-ltb (66 + s) 33 (omega arith), le-ltb (66 + s) 66 (omega arith), lt-ltb (66 + s) 99 (omega arith), (let e : 66 + s - 66 ≡ s = omega arith in e))
+  place-at : (s : ℕ) → s < subnetStarts → startOf c (firstPlaceStart s) ≡ upTo ends (firstPlace c) s
+  place-at s l = rw (le-ltb (firstPlaceStart s) (subnetBitStart 0) (omega arith), le-ltb (firstPlaceStart s) (firstPlaceStart 0) (omega arith), lt-ltb (firstPlaceStart s) (firstTransitionStart 0) (omega arith), (let e : firstPlaceStart s - firstPlaceStart 0 ≡ s = omega arith in e))
 
-  transition-at : (s : ℕ) → s < 33 → startOf c (99 + s) ≡ upTo ends (firstTransition c) s
+  transition-at : (s : ℕ) → s < subnetStarts → startOf c (firstTransitionStart s) ≡ upTo ends (firstTransition c) s
   transition-at s l =
-      rw (le-ltb (99 + s) 33 (omega arith), le-ltb (99 + s) 66 (omega arith), le-ltb (99 + s) 99 (omega arith), lt-ltb (99 + s) 132 (omega arith), (let e : 99 + s - 99 ≡ s = omega arith in e))
+      rw (le-ltb (firstTransitionStart s) (subnetBitStart 0) (omega arith), le-ltb (firstTransitionStart s) (firstPlaceStart 0) (omega arith), le-ltb (firstTransitionStart s) (firstTransitionStart 0) (omega arith), lt-ltb (firstTransitionStart s) (transitionRowStart 0) (omega arith), (let e : firstTransitionStart s - firstTransitionStart 0 ≡ s = omega arith in e))
 
-  row-of : (t : ℕ) → t < 256 → startOf c (132 + t) ≡ upTo (length (c .transitions)) (transitionRowOf c) t
+  row-of : (t : ℕ) → t < transitionStarts → startOf c (transitionRowStart t) ≡ upTo (length (c .transitions)) (transitionRowOf c) t
   row-of t l =
       rw (
-        le-ltb (132 + t) 33 (omega arith),
-        le-ltb (132 + t) 66 (omega arith),
-        le-ltb (132 + t) 99 (omega arith),
-        le-ltb (132 + t) 132 (omega arith),
-        lt-ltb (132 + t) 388 (omega arith),
-        (let e : 132 + t - 132 ≡ t = omega arith in e),
+        le-ltb (transitionRowStart t) (subnetBitStart 0) (omega arith),
+        le-ltb (transitionRowStart t) (firstPlaceStart 0) (omega arith),
+        le-ltb (transitionRowStart t) (firstTransitionStart 0) (omega arith),
+        le-ltb (transitionRowStart t) (transitionRowStart 0) (omega arith),
+        lt-ltb (transitionRowStart t) (transitionBitStart 0) (omega arith),
+        (let e : transitionRowStart t - transitionRowStart 0 ≡ t = omega arith in e),
       )
 
-  bit-of : (t : ℕ) → t < 256 → startOf c (388 + t) ≡ upTo (length (c .transitions)) (transitionBitOf c) t
+  bit-of : (t : ℕ) → t < transitionStarts → startOf c (transitionBitStart t) ≡ upTo (length (c .transitions)) (transitionBitOf c) t
   bit-of t l =
       rw (
-        le-ltb (388 + t) 33 (omega arith),
-        le-ltb (388 + t) 66 (omega arith),
-        le-ltb (388 + t) 99 (omega arith),
-        le-ltb (388 + t) 132 (omega arith),
-        le-ltb (388 + t) 388 (omega arith),
-        (let e : 388 + t - 388 ≡ t = omega arith in e),
+        le-ltb (transitionBitStart t) (subnetBitStart 0) (omega arith),
+        le-ltb (transitionBitStart t) (firstPlaceStart 0) (omega arith),
+        le-ltb (transitionBitStart t) (firstTransitionStart 0) (omega arith),
+        le-ltb (transitionBitStart t) (transitionRowStart 0) (omega arith),
+        le-ltb (transitionBitStart t) (transitionBitStart 0) (omega arith),
+        (let e : transitionBitStart t - transitionBitStart 0 ≡ t = omega arith in e),
       )
 
   pub starts-indexed : Indexed c (startsOf c)
   starts-indexed =
       record {
-        subnetRow = λ s l. start-at s _ (omega (arith, of-subnet s (omega arith))) (rw (lt-ltb s 33 (of-subnet s (omega arith))) (up-below ends (subnetRow c) s (omega arith)));
-        subnetBit = λ s l. start-at (33 + s) _ (omega (arith, of-subnet s (omega arith))) (bit-at s (of-subnet s (omega arith)) ∙ up-below ends (subnetBit c) s (omega arith));
-        firstPlace = λ s l. start-at (66 + s) _ (omega (arith, of-subnet s l)) (place-at s (of-subnet s l) ∙ up-below ends (firstPlace c) s (omega arith));
-        firstTransition = λ s l. start-at (99 + s) _ (omega (arith, of-subnet s l)) (transition-at s (of-subnet s l) ∙ up-below ends (firstTransition c) s (omega arith));
-        transitionRow = λ s t l. start-at (132 + t) _ (omega (arith, of-transition s t l))
+        subnetRow = λ s l. start-at s _ (omega (arith, of-subnet s (omega arith))) (rw (lt-ltb s (subnetBitStart 0) (of-subnet s (omega arith))) (up-below ends (subnetRow c) s (omega arith)));
+        subnetBit = λ s l. start-at (subnetBitStart s) _ (omega (arith, of-subnet s (omega arith))) (bit-at s (of-subnet s (omega arith)) ∙ up-below ends (subnetBit c) s (omega arith));
+        firstPlace = λ s l. start-at (firstPlaceStart s) _ (omega (arith, of-subnet s l)) (place-at s (of-subnet s l) ∙ up-below ends (firstPlace c) s (omega arith));
+        firstTransition = λ s l. start-at (firstTransitionStart s) _ (omega (arith, of-subnet s l)) (transition-at s (of-subnet s l) ∙ up-below ends (firstTransition c) s (omega arith));
+        transitionRow = λ s t l. start-at (transitionRowStart t) _ (omega (arith, of-transition s t l))
             (row-of t (of-transition s t l .1) ∙ up-below (length (c .transitions)) (transitionRowOf c) t (of-transition s t l .0) ∙ ap (λ (r : ℕ). transitionRow c r t) (owner-is c s t l));
-        transitionBit = λ s t l. start-at (388 + t) _ (omega (arith, of-transition s t l))
+        transitionBit = λ s t l. start-at (transitionBitStart t) _ (omega (arith, of-transition s t l))
             (bit-of t (of-transition s t l .1) ∙ up-below (length (c .transitions)) (transitionBitOf c) t (of-transition s t l .0) ∙ ap (λ (r : ℕ). transitionBit c r t) (owner-is c s t l));
       }

@@ -125,12 +125,12 @@ module _ (bytes : List ℕ) where
       go (some i) q = excess-is k end i t e q
 
   -- what is made of it
-  pub fill-refused : (a : ReadAnswer) (f : FormatFault) (at : ℕ) (t : List ℕ) (r : CardRead) → IsFilled (readCard bytes) a t → a ≡ Refused f at → IsRefused f at r
+  pub fill-refused : (a : ReadAnswer) (f : FormatFault) (at : ℕ) (t : List ℕ) (r : CardRead) → IsFilled (readCard bytes) a t → a ≡ Refused f at → IsRefused a r
       → IsRead (readCard bytes) r
   fill-refused a f at t r h e g = go (readCard bytes) (sym (ap readOutcome e) ∙ h .answer)
     where
       go : (x : Parsing Card) → readOutcome (Refused f at) ≡ outcomeOf x → IsRead x r
-      go (refused n i) q = record { answer = ap readOutcome (g .answer) ∙ q; numbers = g .numbers; starts = g .starts }
+      go (refused n i) q = record { answer = ap readOutcome (g .answer ∙ e) ∙ q; numbers = g .numbers; starts = g .starts }
       go (whole c end) q = absurd (let z : _≡_ {A = ℕ} 0 1 = cc in omega arith)
 
   pub fill-whole : (a : ReadAnswer) (k : Counts) (t starts : List ℕ) → IsFilled (readCard bytes) a t → a ≡ Whole k

@@ -98,11 +98,12 @@ fn arc_head(card: &[u8], at: usize) -> ArcHead
     }
 }
 
-fn refused(f: FormatFault, at: usize) -> CardRead
-    ensures { λ r. ⌜ IsRefused f at r ⌝ }
+// An answer with tables of zeros.
+fn refused(a: ReadAnswer) -> CardRead
+    ensures { λ r. ⌜ IsRefused a r ⌝ }
 {
     CardRead {
-        answer: ReadAnswer::Refused(f, at),
+        answer: a,
         numbers: [0; TABLE],
         starts: [0; STARTS],
     }
@@ -175,12 +176,12 @@ pub fn read(card: &[u8]) -> CardRead
 {
     let mut numbers = [0; TABLE];
     let a = fill(card, &mut numbers);
-    match a {
-        ReadAnswer::Refused(f, at) => refused(f, at),
-        ReadAnswer::Whole(k) => CardRead {
-            answer: ReadAnswer::Whole(k),
-            numbers: numbers,
-            starts: index(&numbers, k.subnets),
-        },
+    let ReadAnswer::Whole(k) = a else {
+        return refused(a);
+    };
+    CardRead {
+        answer: a,
+        numbers: numbers,
+        starts: index(&numbers, k.subnets),
     }
 }

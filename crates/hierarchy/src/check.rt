@@ -83,13 +83,14 @@ pub fn load(card: &[u8]) -> CheckedCard
     let ReadAnswer::Whole(k) = a else {
         return handed_on(a);
     };
-    match first_fault(&r.numbers, &r.starts, k.subnets) {
-        Finding::Fault(f, at) => turned_back(f, at),
-        Finding::Nothing => CheckedCard {
-            answer: accepted(k),
-            numbers: r.numbers,
-            starts: r.starts,
-        },
+    let found = first_fault(&r.numbers, &r.starts, k.subnets);
+    if let Finding::Fault(f, at) = found {
+        return turned_back(f, at);
+    }
+    CheckedCard {
+        answer: accepted(k),
+        numbers: r.numbers,
+        starts: r.starts,
     }
 }
 

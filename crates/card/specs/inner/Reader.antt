@@ -20,9 +20,9 @@ use Rattle.card.specs.Parsing.{Parsing, whole}
 use Rattle.card.specs.Tables.{tableSize, zeros, numbersTable, readOutcome, outcomeOf}
 use Rattle.card.specs.declared.reader.ReadAnswer.{ReadAnswer}
 
--- a refusal, with an empty table
-pub record IsRefused (f : FormatFault) (at : ℕ) (r : CardRead) : Type 0 where
-  pub answer : r .answer ≡ Refused f at
+-- an answer, with tables of zeros
+pub record IsRefused (a : ReadAnswer) (r : CardRead) : Type 0 where
+  pub answer : r .answer ≡ a
   pub numbers : r .numbers ≡ zeros tableSize
   pub starts : r .starts ≡ zeros startsSize
 

@@ -15,11 +15,16 @@ fill-requires c κs = refl
 enum-known-a : tie.Need-enum-known-a
 enum-known-a c = search needs
 
+enum-told : tie.Need-enum-told
+enum-told c = search needs
+
 refused-requires : tie.Need-refused-requires
 refused-requires c κs = search needs
 
-enum-known-a-2 : tie.Need-enum-known-a-2
-enum-known-a-2 c = search needs
+returns : tie.Need-returns
+returns c =
+    let x = c .before .before .before .before .fill in
+    fill-refused (now (c .before .before .before .before .before .before .before .args .card)) (x .result) _ _ _ (c .refused .result) (x .ensures .1) (c .before .enum-told .given .1) (c .refused .ensures)
 
 slice-aggregate-index : tie.Need-slice-aggregate-index
 slice-aggregate-index c = search needs
@@ -27,17 +32,10 @@ slice-aggregate-index c = search needs
 index-requires : tie.Need-index-requires
 index-requires c κs = search needs
 
-returns : tie.Need-returns
-returns c =
-    let a = c .before .before .before .before .before .before .before .before .args in
-    let x = c .before .before .before .before .before .fill in
-    fill-refused (now (a .card)) (x .result) _ _ _ (c .refused .result) (x .ensures .1) (c .before .before .a .given .1) (c .refused .ensures)
-
 returns-2 : tie.Need-returns-2
 returns-2 c =
-    let a = c .before .before .before .before .before .before .before .before .before .args in
     let x = c .before .before .before .before .before .before .fill in
-    fill-whole (now (a .card)) (x .result) _ _ (c .index .result) (x .ensures .1) (c .before .before .before .a2 .given .1) (c .index .ensures)
+    fill-whole (now (c .before .before .before .before .before .before .before .before .before .args .card)) (x .result) _ _ (c .index .result) (x .ensures .1) (c .before .before .before .a .given .1) (c .index .ensures)
 
 pub read-spec : {M : Type 1} → statement M
 read-spec =
@@ -46,9 +44,9 @@ read-spec =
     slice-aggregate-fill
     fill-requires
     enum-known-a
+    enum-told
     refused-requires
-    enum-known-a-2
+    returns
     slice-aggregate-index
     index-requires
-    returns
     returns-2)

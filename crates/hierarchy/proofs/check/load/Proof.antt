@@ -22,16 +22,25 @@ handed-on-requires : tie.Need-handed-on-requires
 handed-on-requires c κs = search needs
 
 returns : tie.Need-returns
-returns c = read-refused (now ((c .before .before .before .before .before .args) .card)) ((c .before .before .before .read) .result) ((c .before .before .before .read) .ensures) _ _ ((c .handed-on) .result) ((c .before .enum-told) .given .1) (subst (λ (x : ReadAnswer). HandedOn x ((c .handed-on) .result)) ((c .before .enum-told) .given .1) ((c .handed-on) .ensures))
+returns c =
+    let r = c .before .before .before .read in
+    let h = c .handed-on in
+    read-refused (now (c .before .before .before .before .before .args .card)) (r .result) (r .ensures) _ _ (h .result) (c .before .enum-told .given .1) (subst (λ (x : ReadAnswer). HandedOn x (h .result)) (c .before .enum-told .given .1) (h .ensures))
 
 first-fault-requires : tie.Need-first-fault-requires
 first-fault-requires c κs = search needs
 
-enum-known-f : tie.Need-enum-known-f
-enum-known-f c = search needs
+enum-known-found : tie.Need-enum-known-found
+enum-known-found c = search needs
 
 turned-back-requires : tie.Need-turned-back-requires
 turned-back-requires c κs = search needs
+
+returns-2 : tie.Need-returns-2
+returns-2 c =
+    let r = c .before .before .before .before .before .before .before .before .before .before .before .before .before .read in
+    let t = c .turned-back in
+    check-refused (now (c .before .before .before .before .before .before .before .before .before .before .before .before .before .before .before .args .card)) (r .result) (r .ensures) _ (c .before .before .before .before .before .before .before .before .before .before .before .a .given .1) _ _ (t .result) (λ d l s w. sym (ap findingOf (c .before .before .found .given .1)) ∙ c .before .before .before .before .first-fault .ensures d l s w) (t .ensures)
 
 enum-told-2 : tie.Need-enum-told-2
 enum-told-2 c = search needs
@@ -39,11 +48,10 @@ enum-told-2 c = search needs
 accepted-requires : tie.Need-accepted-requires
 accepted-requires c κs = search needs
 
-returns-2 : tie.Need-returns-2
-returns-2 c = check-refused (now ((c .before .before .before .before .before .before .before .before .before .before .before .before .before .before .before .args) .card)) ((c .before .before .before .before .before .before .before .before .before .before .before .before .before .read) .result) ((c .before .before .before .before .before .before .before .before .before .before .before .before .before .read) .ensures) _ ((c .before .before .before .before .before .before .before .before .before .before .before .a) .given .1) _ _ ((c .turned-back) .result) (λ d l s w. sym (ap findingOf ((c .before .before .f) .given .1)) ∙ (c .before .before .before .before .first-fault) .ensures d l s w) ((c .turned-back) .ensures)
-
 returns-3 : tie.Need-returns-3
-returns-3 c = rw (c .before .before .accepted .ensures) (check-accepted (now ((c .before .before .before .before .before .before .before .before .before .before .before .before .before .before .before .before .args) .card)) ((c .before .before .before .before .before .before .before .before .before .before .before .before .before .before .read) .result) ((c .before .before .before .before .before .before .before .before .before .before .before .before .before .before .read) .ensures) _ ((c .before .before .before .before .before .before .before .before .before .before .before .before .a) .given .1) (λ d l s w. sym (ap findingOf ((c .before .before .before .enum-told2) .given .1)) ∙ (c .before .before .before .before .before .first-fault) .ensures d l s w))
+returns-3 c =
+    let r = c .before .before .before .before .before .before .before .before .before .before .before .before .before .before .read in
+    rw (c .before .before .accepted .ensures) (check-accepted (now (c .before .before .before .before .before .before .before .before .before .before .before .before .before .before .before .before .args .card)) (r .result) (r .ensures) _ (c .before .before .before .before .before .before .before .before .before .before .before .before .a .given .1) (λ d l s w. sym (ap findingOf (c .before .before .before .enum-told2 .given .1)) ∙ c .before .before .before .before .before .first-fault .ensures d l s w))
 
 pub load-spec : {M : Type 1} → statement M
 load-spec =
@@ -55,9 +63,9 @@ load-spec =
     handed-on-requires
     returns
     first-fault-requires
-    enum-known-f
+    enum-known-found
     turned-back-requires
+    returns-2
     enum-told-2
     accepted-requires
-    returns-2
     returns-3)
