@@ -31,8 +31,8 @@ read bytes (done a) at = whole a at
 read bytes (get w value fault next) at =
     let v : ℕ = bitField (bit bytes) at w in
     let rest = read bytes (next v) (at + w) in
-    let held = unlessFault (fault v) at rest in
-    cond (ltb (8 * length bytes) (at + w)) (refused (number Truncated) at) held
+    let tested = unlessFault (fault v) at rest in
+    cond (ltb (8 * length bytes) (at + w)) (refused (number Truncated) at) tested
 
 -- Zero bits fill the last byte; nothing follows. 9: the first nonzero fill bit, else the first bit of a further byte, of a card that ends
 -- before bit end.
