@@ -528,6 +528,17 @@ def embed_tests(archive):
         yield "examples/embed/run, 28 bytes", run(cut), (b"the card: refused, 1: the card ends inside a field, bit 224\n", 1)
 
 
+def size_tests():
+    """The most bytes of a card, which the code, the definitions, the header and the functions for Rust each have once."""
+    def number(file, pattern):
+        return re.search(pattern, (root / "crates" / file).read_text(), re.M).group(1)
+
+    code = number("card/src/lib.rt", r"^pub const CARD_BYTES: usize = (\d+);$")
+    yield "cardBytes", number("card/specs/Tables.antt", r"^cardBytes = (\d+)$"), code
+    yield "NET_CARD_BYTES", number("net_runner/net_runner.h", r"^#define NET_CARD_BYTES (\d+)$"), code
+    yield "CARD_BYTES for Rust", number("net_runner/net_runner.rs", r"^pub const CARD_BYTES: usize = (\d+);$"), code
+
+
 def main():
     seed = int(sys.argv[1]) if len(sys.argv) > 1 else random.SystemRandom().randrange(1 << 32)
     print(f"seed {seed}", flush=True)
@@ -546,7 +557,7 @@ def main():
           + ", ".join(f"{number or 'ok'} {harness.answers[FLAT_ROW, number] + harness.answers[SUBNET_ROW, number]}"
                       for number in (0, 20, 21, 22, 23, 25)))
     passed, failed = rust_calls(archive)
-    for name, got, expected in embed_tests(archive):
+    for name, got, expected in itertools.chain(embed_tests(archive), size_tests()):
         if got != expected:
             failed += 1
             print(f"{name}: {got!r} is not {expected!r}")

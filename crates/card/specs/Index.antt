@@ -79,7 +79,7 @@ pub record Laid (c : Card) (numbers : List ℕ) : Type 0 where
   pub transition : (s t : ℕ) → Lists c s t → TransitionThere numbers (transitionRow c s t) (transitionAt c t)
   pub arc : (s t j : ℕ) → Lists c s t → j < (transitionAt c t) .arcs → ArcThere numbers (transitionRow c s t) j (arcAt c t j)
 
--- A second table has six columns of starts: four with an entry for each subnet and one for the end of the last, two with one for each transition.
+-- A second table has six columns of starts: four with an entry for each subnet and one for the end of the last, two with one for each transition (and one more, which is 0).
 abbrev pub subnetStarts : ℕ
 subnetStarts = suc maxSubnets
 

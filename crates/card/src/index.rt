@@ -21,7 +21,7 @@ use crate::tables::put_wide;
 use crate::tables::transition_count;
 use crate::tables::version;
 ghost use mathlib.Core.Path.{_≡_};
-ghost use Prim.Native.Nat.{ℕ, _+_, _*_, _≤_, _<_};
+ghost use Prim.Native.Nat.{ℕ, _+_, _*_, _<_};
 ghost use lib.ListN.{length};
 ghost use Rattle.card.specs.Card.{Card};
 ghost use Rattle.card.specs.Format.{count, size};

@@ -142,7 +142,7 @@ pub fn moved(l: Layout, p: Phase) -> Layout
     }
 }
 
-// Whether an arc comes next.
+// Says yes only where an arc comes next.
 pub fn arc_next(l: Layout) -> bool
     ensures { λ r. ⌜ (r ≡ true → l .phase ≡ Direction) ⌝ }
 {
@@ -153,7 +153,7 @@ pub fn arc_next(l: Layout) -> bool
     }
 }
 
-// Which field of an arc comes next: 0 to 3, and 4 where none does.
+// Which field of an arc comes next: 0 to 3; of 4 nothing is said.
 pub fn arc_field(l: Layout) -> usize
     ensures { λ r. ⌜ IsArcField l r ⌝ }
 {
@@ -167,7 +167,7 @@ pub fn arc_field(l: Layout) -> usize
     }
 }
 
-// Whether another field of the transition's arcs stands behind field k of this one.
+// Says yes only where another field of the transition's arcs stands behind field k of this one.
 pub fn arc_goes_on(l: Layout, k: usize) -> bool
     ensures { λ r. ⌜ (r ≡ true → ArcGoesOn l k) ⌝ }
 {

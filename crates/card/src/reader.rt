@@ -72,7 +72,7 @@ pub struct ArcHead {
     pub place: u16,
 }
 
-// Whether an arc comes next and all of its fields before the weight are there.
+// Says yes only where an arc comes next and all of its fields before the weight are there. Where these say no, the reader goes by `step`.
 fn arc_ahead(l: Layout, at: usize, bytes: usize) -> bool
     requires { ⌜ at ≤ cardBits ⌝ }
     ensures { λ r. ⌜ (r ≡ true → (l .phase ≡ Direction) × (at + arcHeadWidth ≤ 8 * bytes)) ⌝ }

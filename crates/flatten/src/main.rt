@@ -1,5 +1,5 @@
 // Reads a card from standard input and writes the flat card's bytes; of a refused card, one line: no, number, position. Of a longer input
-// the first 33,027 bytes decide (long-input in card/proofs/LongInput.antt), so no more are read.
+// the first INPUT_BYTES decide (long-input in card/proofs/LongInput.antt), so no more are read.
 use card::CARD_BYTES;
 use card::INPUT_BYTES;
 use flattening::flatten;

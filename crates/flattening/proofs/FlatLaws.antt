@@ -33,7 +33,10 @@ transition-flat c t = refl
 pub net-flat : (c : Card) → SameNet c (flatten c)
 net-flat c =
     record {
+      version = unfold flatten in refl;
       signals = unfold flatten in refl;
+      limit = unfold flatten in refl;
+      scale = unfold flatten in refl;
       capacities = λ p. ap (λ (r : Place). r .capacity) (place-flat c p);
       tokens = λ p. ap (λ (r : Place). r .tokens) (place-flat c p);
       transitions = transition-flat c;

@@ -30,9 +30,12 @@ flatten c =
       arcs = map (flatArc c) (c .arcs);
     }
 
--- the net of f is the net of c: signals, capacities and first tokens by flat place, transitions, and arcs resolved to flat places
+-- the net of f is the net of c: version, signals, limit and scale, capacities and first tokens by flat place, transitions, and arcs resolved to flat places
 pub record SameNet (c f : Card) : Type 0 where
+  pub version : f .version ≡ c .version
   pub signals : f .signals ≡ c .signals
+  pub limit : f .limit ≡ c .limit
+  pub scale : f .scale ≡ c .scale
   pub capacities : (p : ℕ) → (placeAt f p) .capacity ≡ (placeAt c p) .capacity
   pub tokens : (p : ℕ) → (placeAt f p) .tokens ≡ (placeAt c p) .tokens
   pub transitions : (t : ℕ) → transitionAt f t ≡ transitionAt c t

@@ -22,7 +22,6 @@ use hierarchy::write::write;
 use rows::flat_arcs;
 use rows::flat_places;
 use rows::flat_transitions;
-ghost use mathlib.Core.Path.{_≡_};
 ghost use Rattle.card.specs.Card.{Card};
 ghost use Rattle.card.specs.Index.{Loaded};
 ghost use Rattle.card.specs.Writing.{encode};

@@ -7,7 +7,7 @@ use card::tables::subnet_row;
 ghost use mathlib.Core.Path.{_≡_};
 ghost use mathlib.Core.Bool.{_&&_};
 ghost use Prim.Native.Nat.{_≤_, _<_};
-ghost use lib.ListN.{length, getD};
+ghost use lib.ListN.{length};
 ghost use lib.Dec.{eqb};
 ghost use Rattle.card.specs.Grammar.{maxSubnets};
 ghost use Rattle.card.specs.Card.{Card};

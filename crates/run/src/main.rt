@@ -1,5 +1,5 @@
 // Runs the card in the file net.card on the rows of standard input, and prints the flat runner's answers, a line a row; of a refused card, one
-// line: no, number, position. No such file: no bytes. Of a longer file the first 33,027 bytes decide (long-input in
+// line: no, number, position. No such file: no bytes. Of a longer file the first INPUT_BYTES decide (long-input in
 // card/proofs/LongInput.antt), so no more are read.
 mod rows;
 

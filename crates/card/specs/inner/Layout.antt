@@ -160,7 +160,7 @@ stepAt p l v = orBad (faultAt p l v) (moveAt p l v)
 abbrev pub stepOf : Layout → (v : ℕ) → Move
 stepOf l v = stepAt (l .phase) l v
 
--- before the subnets begin, none is counted
+-- while the number of subnets is still to come, none is counted
 abbrev pub headed : Phase → (subnet : ℕ) → Type 0
 headed Version s = s ≡ 0
 headed SubnetCount s = s ≡ 0

@@ -8,7 +8,6 @@ use Rattle.card.specs.Card.{Card}
 use Rattle.card.specs.inner.Layout.{widthAt}
 use Rattle.card.specs.Index.{startsSize}
 use Rattle.card.specs.declared.Counts.{Counts}
-use Rattle.card.specs.declared.FormatFault.{FormatFault}
 use Rattle.card.specs.declared.FormatFault.the-variants.{BadFill}
 use Rattle.card.specs.declared.layout.Phase.the-variants.{Direction, ArcSubnet, ArcPlace}
 use Rattle.card.specs.declared.reader.ArcHead.{ArcHead}
