@@ -100,7 +100,7 @@ def call_both(rng, cases, tally):
     last = signals * (0,)
     for turn in range(4):
         if turn == 3 and rng.randrange(3) == 0:
-            cases.set(*random_entry(rng, cases.lent[0].view()))
+            cases.set(*random_entry(rng, cases.lent[0].used()))
         row = rising_row(rng, last) if turn and rng.randrange(2) else random_call_row(rng, signals)
         replies = cases.call(random_order(rng, subnets), row)
         last = row if len(row) == signals and max(row) <= 1000 else last

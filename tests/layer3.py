@@ -40,12 +40,17 @@ class Lent:
         self.entries = [entries[:most] for entries, most in zip(self.entries, (255, 255, 63))]
         self.counts = [len(state.markings), len(state.progress), len(state.degrees)]
 
+    def used(self):
+        """The entries in use, as far as the arrays go."""
+        return [entries[:count] for entries, count in zip(self.entries, self.counts)]
+
     def view(self):
-        return net.State(*(tuple(entries[:count]) for entries, count in zip(self.entries, self.counts)))
+        """As many entries as the counts say, so that a count past an array's end is no card's."""
+        return net.State(*(tuple(entries) + (count - len(entries)) * (0,) for entries, count in zip(self.used(), self.counts)))
 
     def store(self, state):
         for entries, new in zip(self.entries, state):
-            entries[:len(new)] = new
+            entries[:len(new)] = new[:len(entries)]
 
     def set(self, field, at, value):
         if field >= PLACES:
@@ -55,9 +60,9 @@ class Lent:
             self.entries[field][at] = (value, None if low == IDLE else low, low)[field]
 
     def lines(self, number):
-        state = self.view()
-        progress = ["-" if c is None else c for c in state.progress]
-        return line(number, "ok", *state.markings, "|", *progress) + line(number, "ok", *state.degrees, "|")
+        markings, progress, degrees = self.used()
+        progress = ["-" if c is None else c for c in progress]
+        return line(number, "ok", *markings, "|", *progress) + line(number, "ok", *degrees, "|")
 
 
 class Answers:

@@ -151,6 +151,18 @@ def lent():
         yield cases
 
 
+def full():
+    """25 for a count past the end of an array that the card's own signals fill."""
+    card = cards.one_subnet(63, [(1, 1), (1, 0)], [(62, [(DRAW, 0, 1), (FILL, 1, 1)])])
+    for count in (64, 255, 70000):
+        cases = run(card, [63 * (400,)], [("ok",)])
+        cases.set(layer3.SIGNALS, 0, count)
+        assert cases.call([0], 63 * (500,)) == 2 * [("refused", 25)], count
+        cases.set(layer3.SIGNALS, 0, 63)
+        assert cases.call([0], 63 * (500,)) == 2 * [("ok",)], count
+        yield cases
+
+
 # Visiting orders of bench card A, and whether they are 23.
 ORDERS = [([0, 1], False), ([1, 0], False), ([], True), ([0], True), ([1], True), ([0, 0], True), ([1, 1], True), ([0, 2], True),
           ([1, 65535], True), ([0, 32], True), ([0, 33], True), ([0, 1, 0], True), ([0, 1, 2], True), (40 * [0, 1], True)]
@@ -193,7 +205,7 @@ def random_cases(rng):
 
 def made():
     rng = random.Random(1)
-    return [*paper(), *telling(), *flattened(), *lent(), *ordered(), *rows(), *random_cases(rng)]
+    return [*paper(), *telling(), *flattened(), *lent(), *full(), *ordered(), *rows(), *random_cases(rng)]
 
 
 def files():
