@@ -11,7 +11,7 @@ use Rattle.card.specs.Finite.{sumTo, table, All}
 use Rattle.card.specs.Card.{Card, subnetAt, placeAt, transitionAt, arcAt, firstPlace, firstTransition, firstArc, noTransition, headerFields, subnetFields, placeFields, transitionFields, arcFields}
 use Rattle.card.specs.Format.{count}
 use Rattle.card.specs.Grammar.{header, subnet, place, transition, arc, maxArcs}
-use Rattle.card.specs.Tables.{numbersOf, numbersTable, tableSize}
+use Rattle.card.specs.Tables.{numbersOf, tableSize}
 use Rattle.card.specs.inner.Runs.{runs}
 use Rattle.card.specs.Index.{subnetRow, transitionRow, placeField, arcField, SubnetThere, PlaceThere, TransitionThere, ArcThere, Lists, Laid}
 use Rattle.card.specs.Wellformed.{Wellformed, TransitionRow}
@@ -190,20 +190,7 @@ module _ (c : Card) (w : Wellformed c) where
   numbers-few =
       omega (arith, numbers-long c counted, w .fewSubnets, w .rows .fewPlaces, w .rows .fewTransitions, w .rows .arcCount, arcs-few c (length (c .transitions)) (w .rows .transitions) (omega arith))
 
-  -- the table holds each of them
-  entered : (i : ℕ) → getD (numbersTable c) i 0 ≡ getD (numbersOf c) i 0
-  unfolding numbersTable
-  entered i = go (lt-or-ge i tableSize)
-    where
-      go : (i < tableSize) ⊎ (tableSize ≤ i) → getD (numbersTable c) i 0 ≡ getD (numbersOf c) i 0
-      go (inl l) = table-at tableSize (λ j. getD (numbersOf c) j 0) 0 i l
-      go (inr l) =
-          List·getD-eq-default (numbersTable c) 0 (omega (arith, table-length 0 tableSize (λ j. getD (numbersOf c) j 0)))
-          ∙ sym (List·getD-eq-default (numbersOf c) 0 (omega (arith, numbers-few)))
-
-  abbrev numbers : List ℕ
-  numbers = numbersTable c
-
+module _ (c : Card) (w : Wellformed c) (numbers : List ℕ) (entered : (i : ℕ) → getD numbers i 0 ≡ getD (numbersOf c) i 0) where
   there-subnet : (s : ℕ) → s < length (c .subnets) → SubnetThere numbers (subnetRow c s) (subnetAt c s)
   unfolding subnetNumbers
   there-subnet s l =
@@ -215,34 +202,34 @@ module _ (c : Card) (w : Wellformed c) where
       }
     where
       at : (k : ℕ) → k < 4 → getD numbers (subnetRow c s + k) 0 ≡ getD (subnetNumbers c s) k 0
-      at k h = entered (subnetRow c s + k) ∙ in-subnet c counted s k l (omega arith)
+      at k h = entered (subnetRow c s + k) ∙ in-subnet c (counted c w) s k l (omega arith)
 
   there-place : (s m : ℕ) → s < length (c .subnets) → m < (subnetAt c s) .places → PlaceThere numbers (subnetRow c s) m (placeAt c (firstPlace c s + m))
   there-place s m l h = record { kind = at 0 (omega arith); capacity = at 1 (omega arith); tokens = at 2 (omega arith) }
     where
       at : (k : ℕ) → k < 3 → getD numbers (placeField (subnetRow c s) m k) 0 ≡ getD (placeNumbers (placeAt c (firstPlace c s + m))) k 0
-      at k b = entered (placeField (subnetRow c s) m k) ∙ in-place c counted s m k l h b
+      at k b = entered (placeField (subnetRow c s) m k) ∙ in-place c (counted c w) s m k l h b
 
   there-transition : (s t : ℕ) → Lists c s t → TransitionThere numbers (transitionRow c s t) (transitionAt c t)
   unfolding transitionNumbers
   there-transition s t l = record { signal = ap (λ (i : ℕ). getD numbers i 0) (sym (add-zero (transitionRow c s t))) ∙ at 0 (omega arith); arcs = at 1 (omega arith); rank = at 2 (omega arith) }
     where
       at : (k : ℕ) → k < transitionFields → getD numbers (transitionRow c s t + k) 0 ≡ getD (transitionNumbers c t) k 0
-      at k b = entered (transitionRow c s t + k) ∙ in-transition c counted s t k l (omega arith)
+      at k b = entered (transitionRow c s t + k) ∙ in-transition c (counted c w) s t k l (omega arith)
 
   there-arc : (s t j : ℕ) → Lists c s t → j < (transitionAt c t) .arcs → ArcThere numbers (transitionRow c s t) j (arcAt c t j)
   there-arc s t j l h = record { direction = at 0 (omega arith); subnet = at 1 (omega arith); place = at 2 (omega arith); weight = at 3 (omega arith) }
     where
       at : (k : ℕ) → k < 4 → getD numbers (arcField (transitionRow c s t) j k) 0 ≡ getD (arcNumbers (arcAt c t j)) k 0
-      at k b = entered (arcField (transitionRow c s t) j k) ∙ in-arc c counted s t j k l h b
+      at k b = entered (arcField (transitionRow c s t) j k) ∙ in-arc c (counted c w) s t j k l h b
 
-  -- THE TABLE OF A CARD'S NUMBERS HOLDS ITS ROWS
+  -- A TABLE THAT HOLDS A CARD'S NUMBERS HOLDS ITS ROWS
   pub laid : Laid c numbers
   laid = record {
-    version = entered 0 ∙ ap (λ xs. getD xs 0 0) (numbers-rows c counted);
-    signals = entered 2 ∙ ap (λ xs. getD xs 2 0) (numbers-rows c counted);
-    limit = entered 3 ∙ ap (λ xs. getD xs 3 0) (numbers-rows c counted);
-    scale = entered 4 ∙ ap (λ xs. getD xs 4 0) (numbers-rows c counted);
+    version = entered 0 ∙ ap (λ xs. getD xs 0 0) (numbers-rows c (counted c w));
+    signals = entered 2 ∙ ap (λ xs. getD xs 2 0) (numbers-rows c (counted c w));
+    limit = entered 3 ∙ ap (λ xs. getD xs 3 0) (numbers-rows c (counted c w));
+    scale = entered 4 ∙ ap (λ xs. getD xs 4 0) (numbers-rows c (counted c w));
     subnet = there-subnet;
     place = there-place;
     transition = there-transition;

@@ -1,8 +1,10 @@
 -- A card's numbers in one table, as the reader leaves them for the layers above.
-use Prim.Native.Nat.{ℕ, _+_, _*_}
+use Prim.Native.Nat.{ℕ, _+_, _*_, _/_, _≤_}
 use mathlib.Core.Path.{_≡_}
+use mathlib.Core.Bool.{Bool, true, false, cond}
 use mathlib.Core.List.{List, map}
 use lib.ListN.{length, getD}
+use lib.Dec.{leb}
 use Rattle.card.specs.Finite.{table}
 use Rattle.card.specs.Numbers.{number}
 use Rattle.card.specs.Card.{Card, headerFields, subnetFields, placeFields, transitionFields, arcFields}
@@ -43,17 +45,17 @@ abbrev pub outcomeOf : Parsing Card → ReadOutcome
 outcomeOf (Parsing.whole c end) = whole (length (c .subnets)) (length (c .places)) (length (c .transitions))
 outcomeOf (Parsing.refused n at) = refused n at
 
--- the table of a card's numbers, with zeros behind them
-unfoldable pub numbersTable : Card → List ℕ
-numbersTable c = table 0 tableSize (λ i. getD (numbersOf c) i 0)
+-- a table of so many numbers: those of a card, with zeros behind them
+unfoldable pub numbersTable : (size : ℕ) → Card → List ℕ
+numbersTable size c = table 0 size (λ i. getD (numbersOf c) i 0)
 
 abbrev pub zeros : (size : ℕ) → List ℕ
 zeros size = table 0 size (λ i. 0)
 
 -- the two tables of a card that was read: its numbers, and where its rows begin; of a refused one, zeros
-abbrev pub tableOf : Parsing Card → List ℕ
-tableOf (Parsing.whole c end) = numbersTable c
-tableOf (Parsing.refused n at) = zeros tableSize
+abbrev pub tableOf : (size : ℕ) → Parsing Card → List ℕ
+tableOf size (Parsing.whole c end) = numbersTable size c
+tableOf size (Parsing.refused n at) = zeros size
 
 abbrev pub startsRead : Parsing Card → List ℕ
 startsRead (Parsing.whole c end) = startsOf c
@@ -61,5 +63,19 @@ startsRead (Parsing.refused n at) = zeros startsSize
 
 pub record IsRead (x : Parsing Card) (r : CardRead) : Type 0 where
   pub answer : readOutcome (r .answer) ≡ outcomeOf x
-  pub numbers : r .numbers ≡ tableOf x
   pub starts : r .starts ≡ startsRead x
+
+-- A table has room for the numbers of any card of so many bytes: it is the largest card's, or has a number for each bit. (Where fields of no
+-- bits stand on a card, fields with more bits than one stand before them.)
+abbrev pub hasRoom : (bytes size : ℕ) → Bool
+hasRoom bytes size = cond (leb tableSize size) true (leb bytes (size / 8))
+
+-- a table of so many numbers that was filled, and has room for all of them
+pub record IsTable (x : Parsing Card) (size : ℕ) (numbers : List ℕ) : Type 0 where
+  pub is : numbers ≡ tableOf size x
+  pub fits : (c : Card) (end : ℕ) → x ≡ Parsing.whole c end → length (numbersOf c) ≤ size
+
+-- a lent table after a reading: filled where it has room, else as it was
+abbrev pub IsLent : Parsing Card → (room : Bool) → (before after : List ℕ) → Type 0
+IsLent x true before after = IsTable x (length before) after
+IsLent x false before after = after ≡ before

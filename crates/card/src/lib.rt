@@ -48,6 +48,11 @@ pub const TABLE: usize = HEADER_FIELDS
 // The most bytes of a card (`bytes-few` in proofs/Length.antt).
 pub const CARD_BYTES: usize = 22770;
 
+// Cards of up to so many bytes, a robot's among them, get by with a table of so many numbers: a card has at least a bit for each of its numbers.
+pub const SMALL_CARD: usize = 512;
+
+pub const SMALL_TABLE: usize = 8 * SMALL_CARD;
+
 // Of a longer input as many bytes decide (`long-input` in proofs/LongInput.antt).
 pub const INPUT_BYTES: usize = CARD_BYTES + 1;
 

@@ -24,8 +24,8 @@ ghost use mathlib.Core.Bool.{true};
 ghost use Prim.Native.Nat.{_+_, _*_, _≤_};
 ghost use lib.ListN.{length, replicate};
 ghost use Rattle.card.specs.Parsing.{readCard, excess};
-ghost use Rattle.card.specs.Tables.{tableSize, cardBits, IsRead};
-ghost use Rattle.card.specs.inner.Reader.{IsRefused, excessOf, arcHeadWidth, IsArcHead, endedAs, IsFilled};
+ghost use Rattle.card.specs.Tables.{cardBits, hasRoom, IsRead, IsTable, IsLent};
+ghost use Rattle.card.specs.inner.Reader.{excessOf, arcHeadWidth, IsArcHead, endedAs, IsFilled};
 ghost use Rattle.card.specs.declared.layout.Phase.the-variants.{Direction};
 
 // Whole: how many subnets, places and transitions. Refused: why, and at which bit.
@@ -34,10 +34,9 @@ pub enum ReadAnswer {
     Refused(FormatFault, usize),
 }
 
-// The answer; the card's numbers field after field, with zeros behind them; and where its rows begin (see tables.rt).
+// The answer, and where the card's rows begin among its numbers (see tables.rt).
 pub struct CardRead {
     pub answer: ReadAnswer,
-    pub numbers: [u16; TABLE],
     pub starts: [u32; STARTS],
 }
 
@@ -98,17 +97,6 @@ fn arc_head(card: &[u8], at: usize) -> ArcHead
     }
 }
 
-// An answer with tables of zeros.
-fn refused(a: ReadAnswer) -> CardRead
-    ensures { λ r. ⌜ IsRefused a r ⌝ }
-{
-    CardRead {
-        answer: a,
-        numbers: [0; TABLE],
-        starts: [0; STARTS],
-    }
-}
-
 // The answer once the last field, which ends before bit end, is read.
 fn ended(card: &[u8], end: usize, k: Counts) -> ReadAnswer
     requires { ⌜ (end ≤ 8 * length (now card)) × (end ≤ cardBits) ⌝ }
@@ -122,7 +110,7 @@ fn ended(card: &[u8], end: usize, k: Counts) -> ReadAnswer
 
 // Reads the fields of a card into a lent table of zeros. Of a card that is refused some numbers may stand there.
 fn fill(card: &[u8], numbers: &mut [u16]) -> ReadAnswer
-    requires { ⌜ now numbers ≡ replicate tableSize 0 ⌝ }
+    requires { ⌜ (now numbers ≡ replicate (length (now numbers)) 0) × (hasRoom (length (now card)) (length (now numbers)) ≡ true) ⌝ }
     ensures { λ r. ⌜ length (now (numbers .exit)) ≡ length (now (numbers .entry)) ⌝ }
     ensures { λ r. ⌜ IsFilled (readCard (now (card .entry))) r (now (numbers .exit)) ⌝ }
 {
@@ -169,19 +157,61 @@ fn fill(card: &[u8], numbers: &mut [u16]) -> ReadAnswer
     }
 }
 
-// Reads a card. Two wrong readers that this rules out: one that does not look at the fill bits, and one that leaves gaps between the
-// numbers.
-pub fn read(card: &[u8]) -> CardRead
-    ensures { λ r. ⌜ IsRead (readCard (now (card .entry))) r ⌝ }
+// Whether a table of so many numbers has room for those of any card of so many bytes. Two wrong answers that this rules out: one that asks for
+// the largest card's table always, and one that counts a byte for each number.
+pub fn has_room(bytes: usize, size: usize) -> bool
+    ensures { λ r. ⌜ r ≡ hasRoom bytes size ⌝ }
 {
-    let mut numbers = [0; TABLE];
-    let a = fill(card, &mut numbers);
+    if TABLE <= size {
+        return true;
+    }
+    bytes <= size / 8
+}
+
+// Stores zeros in a table.
+fn clear(numbers: &mut [u16])
+    ensures { λ r. ⌜ now (numbers .exit) ≡ replicate (length (now (numbers .entry))) 0 ⌝ }
+{
+    let mut i: usize = 0;
+    while i < numbers.len() {
+        numbers[i] = 0;
+        i += 1;
+    }
+}
+
+// Reads a card into a lent table that has room for it.
+fn read_into(card: &[u8], numbers: &mut [u16]) -> CardRead
+    requires { ⌜ hasRoom (length (now card)) (length (now numbers)) ≡ true ⌝ }
+    ensures { λ r. ⌜ length (now (numbers .exit)) ≡ length (now (numbers .entry)) ⌝ }
+    ensures { λ r. ⌜ IsRead (readCard (now (card .entry))) r ⌝ }
+    ensures { λ r. ⌜ IsTable (readCard (now (card .entry))) (length (now (numbers .entry))) (now (numbers .exit)) ⌝ }
+{
+    clear(numbers);
+    let a = fill(card, numbers);
     let ReadAnswer::Whole(k) = a else {
-        return refused(a);
+        clear(numbers);
+        return CardRead {
+            answer: a,
+            starts: [0; STARTS],
+        };
     };
     CardRead {
         answer: a,
-        numbers: numbers,
-        starts: index(&numbers, k.subnets),
+        starts: index(numbers, k.subnets),
     }
+}
+
+// Reads a card, and leaves its numbers in a lent table, field after field with zeros behind them; of a refused card, zeros. A table that may be
+// too small is left as it was. Two wrong readers that this rules out: one that does not look at the fill bits, and one that leaves gaps
+// between the numbers.
+pub fn read(card: &[u8], numbers: &mut [u16]) -> CardRead
+    ensures { λ r. ⌜ length (now (numbers .exit)) ≡ length (now (numbers .entry)) ⌝ }
+    ensures { λ r. ⌜ IsRead (readCard (now (card .entry))) r ⌝ }
+    ensures { λ r. ⌜ IsLent (readCard (now (card .entry))) (hasRoom (length (now (card .entry))) (length (now (numbers .entry)))) (now (numbers .entry)) (now (numbers .exit)) ⌝ }
+{
+    if has_room(card.len(), numbers.len()) {
+        return read_into(card, numbers);
+    }
+    let mut own = [0; TABLE];
+    read_into(card, &mut own)
 }

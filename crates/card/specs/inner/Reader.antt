@@ -1,12 +1,12 @@
 -- What the functions that the reader is made of promise.
-use Prim.Native.Nat.{ℕ, _+_}
+use Prim.Native.Nat.{ℕ, _+_, _≤_}
 use mathlib.Core.Path.{_≡_}
 use mathlib.Core.List.{List}
+use lib.ListN.{length}
 use mathlib.Core.Option.{Option, none, some}
 use Rattle.card.specs.Bits.{bit, bitField}
 use Rattle.card.specs.Card.{Card}
 use Rattle.card.specs.inner.Layout.{widthAt}
-use Rattle.card.specs.Index.{startsSize}
 use Rattle.card.specs.declared.Counts.{Counts}
 use Rattle.card.specs.declared.FormatFault.the-variants.{BadFill}
 use Rattle.card.specs.declared.layout.Phase.the-variants.{Direction, ArcSubnet, ArcPlace}
@@ -14,16 +14,9 @@ use Rattle.card.specs.declared.reader.ArcHead.{ArcHead}
 use Rattle.card.specs.declared.reader.Excess.{Excess}
 use Rattle.card.specs.declared.reader.Excess.the-variants.{Nothing, At}
 use Rattle.card.specs.declared.reader.ReadAnswer.the-variants.{Whole, Refused}
-use Rattle.card.specs.declared.reader.CardRead.{CardRead}
 use Rattle.card.specs.Parsing.{Parsing, whole}
-use Rattle.card.specs.Tables.{tableSize, zeros, numbersTable, readOutcome, outcomeOf}
+use Rattle.card.specs.Tables.{numbersOf, numbersTable, readOutcome, outcomeOf}
 use Rattle.card.specs.declared.reader.ReadAnswer.{ReadAnswer}
-
--- an answer, with tables of zeros
-pub record IsRefused (a : ReadAnswer) (r : CardRead) : Type 0 where
-  pub answer : r .answer ≡ a
-  pub numbers : r .numbers ≡ zeros tableSize
-  pub starts : r .starts ≡ zeros startsSize
 
 -- an arc's fields before the weight, which hold any number, and where they lie from bit at on
 abbrev pub arcHeadWidth : ℕ
@@ -42,7 +35,8 @@ endedAs (some i) k = Refused BadFill i
 -- what the walk over a card's fields says, and the table that it leaves of a card that is whole
 pub record IsFilled (x : Parsing Card) (r : ReadAnswer) (numbers : List ℕ) : Type 0 where
   pub answer : readOutcome r ≡ outcomeOf x
-  pub table : (c : Card) (end : ℕ) → x ≡ whole c end → numbers ≡ numbersTable c
+  pub table : (c : Card) (end : ℕ) → x ≡ whole c end → numbers ≡ numbersTable (length numbers) c
+  pub fits : (c : Card) (end : ℕ) → x ≡ whole c end → length (numbersOf c) ≤ length numbers
 
 abbrev pub excessOf : Excess → Option ℕ
 excessOf Nothing = none

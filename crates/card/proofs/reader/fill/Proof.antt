@@ -6,16 +6,16 @@ use Rattle.card.specs.Tables.{tableSize}
 use borrow.Author.Needs.{needs}
 use Rattle.card.specs.Grammar.{arc}
 use Rattle.card.specs.declared.FormatFault.the-variants.{Truncated}
-use Rattle.card.proofs.Turn.{Left, left-start, left-room, left-ends, left-bad, left-more, left-done, arc-room, left-arc}
+use Rattle.card.proofs.Turn.{Left, left-start, left-room, left-fits, left-ends, left-bad, left-more, left-done, arc-room, left-arc}
 use Rattle.card.proofs.ReadLaws.{refused-is, ended-is}
 use Rattle.card.specs.declared.layout.Move.the-variants.{More}
 use mathlib.Core.Path.{refl, sym, ap, _∙_}
-use lib.ListN.{length, set, length-set, length-replicate}
+use lib.ListN.{length, set, length-set}
 use Rattle.card.proofs.reader.fill.Statement.{statement}
 use Rattle.card.proofs.reader.fill.Tie as tie
 
 abbrev Inv-loop : tie.InvT-loop
-Inv-loop card numbers₀ l₀ at₀ n₀ numbers l at n = Left card l at n numbers
+Inv-loop card numbers₀ l₀ at₀ n₀ numbers l at n = Left card (length numbers₀) l at n numbers
 
 abbrev μ-loop : tie.MeasureT-loop
 μ-loop card numbers₀ l₀ at₀ n₀ numbers l at n = tableSize - n
@@ -24,7 +24,9 @@ start-requires : tie.Need-start-requires Inv-loop μ-loop
 start-requires c κs = search needs
 
 loop-holds : tie.Need-loop-holds Inv-loop μ-loop
-loop-holds c = rw ((c .start) .ensures, (c .before .before .before .pre)) (left-start (now ((c .before .before .before .args) .card)))
+loop-holds c =
+    let p = c .before .before .before .pre in
+    rw ((c .start) .ensures) (left-start (now ((c .before .before .before .args) .card)) (length (now ((c .before .before .before .args) .numbers))) _ (p .0) (p .1))
 
 arc-ahead-requires : tie.Need-arc-ahead-requires Inv-loop μ-loop
 arc-ahead-requires c κs = omega (arith, (c .loop) .inv .low, (c .loop) .inv .few)
@@ -41,7 +43,7 @@ slice-write-numbers c =
     let x = (c .before .before .before .loop) in
     let y = (c .before .before .arc-ahead) .ensures ((c .before .if1) .taken) in
     let h = (c .arc-head) in
-    omega (arith, arc-room (now (a .card)) (x .l) (x .at) (x .n) (x .numbers) (x .inv) (y .0) (y .1) (h .result) (h .ensures), x .inv .long)
+    omega (arith, arc-room (now (a .card)) (length (now (a .numbers))) (x .l) (x .at) (x .n) (x .numbers) (x .inv) (y .0) (y .1) (h .result) (h .ensures) .1, x .inv .long)
 
 add-numbers : tie.Need-add-numbers Inv-loop μ-loop
 add-numbers c =
@@ -49,7 +51,7 @@ add-numbers c =
     let x = (c .before .before .before .loop) in
     let y = (c .before .before .arc-ahead) .ensures ((c .before .if1) .taken) in
     let h = (c .arc-head) in
-    omega (arith, arc-room (now (a .card)) (x .l) (x .at) (x .n) (x .numbers) (x .inv) (y .0) (y .1) (h .result) (h .ensures))
+    omega (arith, arc-room (now (a .card)) (length (now (a .numbers))) (x .l) (x .at) (x .n) (x .numbers) (x .inv) (y .0) (y .1) (h .result) (h .ensures) .0)
 
 mul-numbers-2 : tie.Need-mul-numbers-2 Inv-loop μ-loop
 mul-numbers-2 c = search needs
@@ -60,7 +62,7 @@ slice-write-numbers-2 c =
     let x = (c .before .before .before .loop) in
     let y = (c .before .before .arc-ahead) .ensures ((c .before .if1) .taken) in
     let h = (c .arc-head) in
-    omega (arith, arc-room (now (a .card)) (x .l) (x .at) (x .n) (x .numbers) (x .inv) (y .0) (y .1) (h .result) (h .ensures), x .inv .long, length-set (x .numbers) (x .n) (h .result .direction))
+    omega (arith, arc-room (now (a .card)) (length (now (a .numbers))) (x .l) (x .at) (x .n) (x .numbers) (x .inv) (y .0) (y .1) (h .result) (h .ensures) .1, x .inv .long, length-set (x .numbers) (x .n) (h .result .direction))
 
 add-numbers-2 : tie.Need-add-numbers-2 Inv-loop μ-loop
 add-numbers-2 c =
@@ -68,7 +70,7 @@ add-numbers-2 c =
     let x = (c .before .before .before .loop) in
     let y = (c .before .before .arc-ahead) .ensures ((c .before .if1) .taken) in
     let h = (c .arc-head) in
-    omega (arith, arc-room (now (a .card)) (x .l) (x .at) (x .n) (x .numbers) (x .inv) (y .0) (y .1) (h .result) (h .ensures))
+    omega (arith, arc-room (now (a .card)) (length (now (a .numbers))) (x .l) (x .at) (x .n) (x .numbers) (x .inv) (y .0) (y .1) (h .result) (h .ensures) .0)
 
 mul-numbers-3 : tie.Need-mul-numbers-3 Inv-loop μ-loop
 mul-numbers-3 c = search needs
@@ -79,7 +81,7 @@ slice-write-numbers-3 c =
     let x = (c .before .before .before .loop) in
     let y = (c .before .before .arc-ahead) .ensures ((c .before .if1) .taken) in
     let h = (c .arc-head) in
-    omega (arith, arc-room (now (a .card)) (x .l) (x .at) (x .n) (x .numbers) (x .inv) (y .0) (y .1) (h .result) (h .ensures), x .inv .long, length-set (x .numbers) (x .n) (h .result .direction), length-set (set (x .numbers) (x .n) (h .result .direction)) (x .n + 1) (h .result .subnet))
+    omega (arith, arc-room (now (a .card)) (length (now (a .numbers))) (x .l) (x .at) (x .n) (x .numbers) (x .inv) (y .0) (y .1) (h .result) (h .ensures) .1, x .inv .long, length-set (x .numbers) (x .n) (h .result .direction), length-set (set (x .numbers) (x .n) (h .result .direction)) (x .n + 1) (h .result .subnet))
 
 moved-requires : tie.Need-moved-requires Inv-loop μ-loop
 moved-requires c κs = search needs
@@ -94,7 +96,7 @@ add-at c =
     let x = (c .before .before .before .before .before .loop) in
     let y = (c .before .before .before .before .arc-ahead) .ensures ((c .before .before .before .if1) .taken) in
     let h = (c .before .before .arc-head) in
-    omega (arith, arc-room (now (a .card)) (x .l) (x .at) (x .n) (x .numbers) (x .inv) (y .0) (y .1) (h .result) (h .ensures), (c .arc-head-width) .ensures, x .inv .low, x .inv .few)
+    omega (arith, arc-room (now (a .card)) (length (now (a .numbers))) (x .l) (x .at) (x .n) (x .numbers) (x .inv) (y .0) (y .1) (h .result) (h .ensures) .0, (c .arc-head-width) .ensures, x .inv .low, x .inv .few)
 
 add-n : tie.Need-add-n Inv-loop μ-loop
 add-n c =
@@ -102,7 +104,7 @@ add-n c =
     let x = (c .before .before .before .before .before .loop) in
     let y = (c .before .before .before .before .arc-ahead) .ensures ((c .before .before .before .if1) .taken) in
     let h = (c .before .before .arc-head) in
-    omega (arith, arc-room (now (a .card)) (x .l) (x .at) (x .n) (x .numbers) (x .inv) (y .0) (y .1) (h .result) (h .ensures))
+    omega (arith, arc-room (now (a .card)) (length (now (a .numbers))) (x .l) (x .at) (x .n) (x .numbers) (x .inv) (y .0) (y .1) (h .result) (h .ensures) .0)
 
 loop-less : tie.Need-loop-less Inv-loop μ-loop
 loop-less c =
@@ -110,7 +112,7 @@ loop-less c =
     let x = (c .before .before .before .before .before .loop) in
     let y = (c .before .before .before .before .arc-ahead) .ensures ((c .before .before .before .if1) .taken) in
     let h = (c .before .before .arc-head) in
-    omega (arith, arc-room (now (a .card)) (x .l) (x .at) (x .n) (x .numbers) (x .inv) (y .0) (y .1) (h .result) (h .ensures))
+    omega (arith, arc-room (now (a .card)) (length (now (a .numbers))) (x .l) (x .at) (x .n) (x .numbers) (x .inv) (y .0) (y .1) (h .result) (h .ensures) .0)
 
 loop-again : tie.Need-loop-again Inv-loop μ-loop
 loop-again c =
@@ -118,7 +120,7 @@ loop-again c =
     let x = (c .before .before .before .before .before .loop) in
     let y = (c .before .before .before .before .arc-ahead) .ensures ((c .before .before .before .if1) .taken) in
     let h = (c .before .before .arc-head) in
-    rw ((c .arc-head-width) .ensures, (c .before .moved) .ensures) (left-arc (now (a .card)) (x .l) (x .at) (x .n) (x .numbers) (x .inv) (y .0) (y .1) (h .result) (h .ensures))
+    rw ((c .arc-head-width) .ensures, (c .before .moved) .ensures) (left-arc (now (a .card)) (length (now (a .numbers))) (x .l) (x .at) (x .n) (x .numbers) (x .inv) (y .0) (y .1) (h .result) (h .ensures))
 
 width-requires : tie.Need-width-requires Inv-loop μ-loop
 width-requires c κs = search needs
@@ -130,14 +132,14 @@ add-if2-2 : tie.Need-add-if2-2 Inv-loop μ-loop
 add-if2-2 c = omega (arith, (c .before .before .before .loop) .inv .low, (c .before .before .before .loop) .inv .few, (c .width) .ensures)
 
 same-length : tie.Need-same-length Inv-loop μ-loop
-same-length c = (c .before .before .before .before .loop) .inv .long ∙ sym (ap length (c .before .before .before .before .before .before .before .before .pre) ∙ length-replicate {A = ℕ} tableSize 0)
+same-length c = (c .before .before .before .before .loop) .inv .long
 
 returns : tie.Need-returns Inv-loop μ-loop
 returns c =
     let a = (c .before .before .before .before .before .before .before .before .args) in
     let x = (c .before .before .before .before .loop) in
     let y = (c .before .width) in
-    (x .inv .long ∙ sym (ap length (c .before .before .before .before .before .before .before .before .pre) ∙ length-replicate {A = ℕ} tableSize 0), refused-is (now (a .card)) Truncated (x .at) (x .numbers) (left-ends (now (a .card)) (x .l) (x .at) (x .n) (x .numbers) (y .result) (x .inv) (y .ensures .0) (omega arith)))
+    (x .inv .long, refused-is (now (a .card)) Truncated (x .at) (x .numbers) (left-ends (now (a .card)) (length (now (a .numbers))) (x .l) (x .at) (x .n) (x .numbers) (y .result) (x .inv) (y .ensures .0) (omega arith)))
 
 bit-field-requires : tie.Need-bit-field-requires Inv-loop μ-loop
 bit-field-requires c κs = (omega arith, omega arith)
@@ -156,7 +158,7 @@ slice-write-numbers-4 c =
     let a = (c .before .before .before .before .before .before .before .before .before .before .before .before .args) in
     let x = (c .before .before .before .before .before .before .before .before .loop) in
     let y = (c .before .before .before .before .before .width) in
-    omega (arith, left-room (now (a .card)) (x .l) (x .at) (x .n) (x .numbers) (y .result) (x .inv) (y .ensures .0), x .inv .long)
+    omega (arith, left-fits (now (a .card)) (length (now (a .numbers))) (x .l) (x .at) (x .n) (x .numbers) (y .result) (x .inv) (y .ensures .0) (omega arith), x .inv .long)
 
 arc-step-requires : tie.Need-arc-step-requires Inv-loop μ-loop
 arc-step-requires c κs = (c .before .before .arc-field .ensures, c .before .arc-goes-on .ensures (c .if3 .taken))
@@ -169,14 +171,14 @@ add-n-2 c =
     let a = (c .before .before .before .before .before .before .before .before .before .before .before .before .before .args) in
     let x = (c .before .before .before .before .before .before .before .before .before .loop) in
     let y = (c .before .before .before .before .before .before .width) in
-    omega (arith, left-room (now (a .card)) (x .l) (x .at) (x .n) (x .numbers) (y .result) (x .inv) (y .ensures .0), x .inv .long)
+    omega (arith, left-room (now (a .card)) (length (now (a .numbers))) (x .l) (x .at) (x .n) (x .numbers) (y .result) (x .inv) (y .ensures .0), x .inv .long)
 
 loop-less-2 : tie.Need-loop-less-2 Inv-loop μ-loop
 loop-less-2 c =
     let a = (c .before .before .before .before .before .before .before .before .before .before .before .before .before .args) in
     let x = (c .before .before .before .before .before .before .before .before .before .loop) in
     let y = (c .before .before .before .before .before .before .width) in
-    omega (arith, left-room (now (a .card)) (x .l) (x .at) (x .n) (x .numbers) (y .result) (x .inv) (y .ensures .0), x .inv .long)
+    omega (arith, left-room (now (a .card)) (length (now (a .numbers))) (x .l) (x .at) (x .n) (x .numbers) (y .result) (x .inv) (y .ensures .0), x .inv .long)
 
 loop-again-2 : tie.Need-loop-again-2 Inv-loop μ-loop
 loop-again-2 c =
@@ -185,7 +187,7 @@ loop-again-2 c =
     let y = (c .before .before .before .before .before .before .width) in
     let z = (c .before .before .before .before .bit-field) in
     let q = c .arc-step in
-    left-more (now (a .card)) (x .l) (x .at) (x .n) (x .numbers) (y .result) (x .inv) (y .ensures .0) (z .result) (More (q .result)) (omega arith) (z .ensures .0) (q .ensures (z .result)) (q .result) refl
+    left-more (now (a .card)) (length (now (a .numbers))) (x .l) (x .at) (x .n) (x .numbers) (y .result) (x .inv) (y .ensures .0) (z .result) (More (q .result)) (omega arith) (z .ensures .0) (q .ensures (z .result)) (q .result) refl
 
 step-requires : tie.Need-step-requires Inv-loop μ-loop
 step-requires c κs =
@@ -206,7 +208,7 @@ slice-write-numbers-5 c =
     let a = (c .before .before .before .before .before .before .before .before .before .before .before .before .before .before .before .before .args) in
     let x = (c .before .before .before .before .before .before .before .before .before .before .before .before .loop) in
     let y = (c .before .before .before .before .before .before .before .before .before .width) in
-    omega (arith, left-room (now (a .card)) (x .l) (x .at) (x .n) (x .numbers) (y .result) (x .inv) (y .ensures .0), x .inv .long)
+    omega (arith, left-fits (now (a .card)) (length (now (a .numbers))) (x .l) (x .at) (x .n) (x .numbers) (y .result) (x .inv) (y .ensures .0) (omega arith), x .inv .long)
 
 add-at-3 : tie.Need-add-at-3 Inv-loop μ-loop
 add-at-3 c = omega (arith, (c .before .before .before .before .before .before .before .before .before .before .before .before .loop) .inv .low, (c .before .before .before .before .before .before .before .before .before .before .before .before .loop) .inv .few)
@@ -216,14 +218,14 @@ add-n-3 c =
     let a = (c .before .before .before .before .before .before .before .before .before .before .before .before .before .before .before .before .args) in
     let x = (c .before .before .before .before .before .before .before .before .before .before .before .before .loop) in
     let y = (c .before .before .before .before .before .before .before .before .before .width) in
-    omega (arith, left-room (now (a .card)) (x .l) (x .at) (x .n) (x .numbers) (y .result) (x .inv) (y .ensures .0), x .inv .long)
+    omega (arith, left-room (now (a .card)) (length (now (a .numbers))) (x .l) (x .at) (x .n) (x .numbers) (y .result) (x .inv) (y .ensures .0), x .inv .long)
 
 loop-less-3 : tie.Need-loop-less-3 Inv-loop μ-loop
 loop-less-3 c =
     let a = (c .before .before .before .before .before .before .before .before .before .before .before .before .before .before .before .before .args) in
     let x = (c .before .before .before .before .before .before .before .before .before .before .before .before .loop) in
     let y = (c .before .before .before .before .before .before .before .before .before .width) in
-    omega (arith, left-room (now (a .card)) (x .l) (x .at) (x .n) (x .numbers) (y .result) (x .inv) (y .ensures .0), x .inv .long)
+    omega (arith, left-room (now (a .card)) (length (now (a .numbers))) (x .l) (x .at) (x .n) (x .numbers) (y .result) (x .inv) (y .ensures .0), x .inv .long)
 
 loop-again-3 : tie.Need-loop-again-3 Inv-loop μ-loop
 loop-again-3 c =
@@ -232,7 +234,7 @@ loop-again-3 c =
     let y = (c .before .before .before .before .before .before .before .before .before .width) in
     let z = (c .before .before .before .before .before .before .before .bit-field) in
     let q = (c .before .before .before .step) in
-    left-more (now (a .card)) (x .l) (x .at) (x .n) (x .numbers) (y .result) (x .inv) (y .ensures .0) (z .result) (q .result) (omega arith) (z .ensures .0) (q .ensures) _ ((c .before .m) .given .1)
+    left-more (now (a .card)) (length (now (a .numbers))) (x .l) (x .at) (x .n) (x .numbers) (y .result) (x .inv) (y .ensures .0) (z .result) (q .result) (omega arith) (z .ensures .0) (q .ensures) _ ((c .before .m) .given .1)
 
 enum-known-k : tie.Need-enum-known-k Inv-loop μ-loop
 enum-known-k c = (c .match) .keys2
@@ -245,7 +247,7 @@ slice-write-numbers-6 c =
     let a = (c .before .before .before .before .before .before .before .before .before .before .before .before .before .before .before .before .args) in
     let x = (c .before .before .before .before .before .before .before .before .before .before .before .before .loop) in
     let y = (c .before .before .before .before .before .before .before .before .before .width) in
-    omega (arith, left-room (now (a .card)) (x .l) (x .at) (x .n) (x .numbers) (y .result) (x .inv) (y .ensures .0), x .inv .long)
+    omega (arith, left-fits (now (a .card)) (length (now (a .numbers))) (x .l) (x .at) (x .n) (x .numbers) (y .result) (x .inv) (y .ensures .0) (omega arith), x .inv .long)
 
 add-ended : tie.Need-add-ended Inv-loop μ-loop
 add-ended c = omega (arith, (c .before .before .before .before .before .before .before .before .before .before .before .before .loop) .inv .low, (c .before .before .before .before .before .before .before .before .before .before .before .before .loop) .inv .few)
@@ -254,10 +256,10 @@ ended-requires : tie.Need-ended-requires Inv-loop μ-loop
 ended-requires c κs =
     let x = c .before .before .before .before .before .before .before .before .before .before .before .before .loop in
     let y = c .before .before .before .before .before .before .before .before .before .width in
-    (omega arith, left-room (now (c .before .before .before .before .before .before .before .before .before .before .before .before .before .before .before .before .args .card)) (x .l) (x .at) (x .n) (x .numbers) (y .result) (x .inv) (y .ensures .0) .1)
+    (omega arith, left-room (now (c .before .before .before .before .before .before .before .before .before .before .before .before .before .before .before .before .args .card)) (length (now (c .before .before .before .before .before .before .before .before .before .before .before .before .before .before .before .before .args .numbers))) (x .l) (x .at) (x .n) (x .numbers) (y .result) (x .inv) (y .ensures .0) .1)
 
 same-length-2 : tie.Need-same-length-2 Inv-loop μ-loop
-same-length-2 c = length-set ((c .before .before .before .before .before .before .before .before .before .before .before .before .before .loop) .numbers) ((c .before .before .before .before .before .before .before .before .before .before .before .before .before .loop) .n) _ ∙ (c .before .before .before .before .before .before .before .before .before .before .before .before .before .loop) .inv .long ∙ sym (ap length (c .before .before .before .before .before .before .before .before .before .before .before .before .before .before .before .before .before .pre) ∙ length-replicate {A = ℕ} tableSize 0)
+same-length-2 c = length-set ((c .before .before .before .before .before .before .before .before .before .before .before .before .before .loop) .numbers) ((c .before .before .before .before .before .before .before .before .before .before .before .before .before .loop) .n) _ ∙ (c .before .before .before .before .before .before .before .before .before .before .before .before .before .loop) .inv .long
 
 returns-2 : tie.Need-returns-2 Inv-loop μ-loop
 returns-2 c =
@@ -266,14 +268,14 @@ returns-2 c =
     let y = (c .before .before .before .before .before .before .before .before .before .before .width) in
     let z = (c .before .before .before .before .before .before .before .before .bit-field) in
     let q = (c .before .before .before .before .step) in
-    let d = left-done (now (a .card)) (x .l) (x .at) (x .n) (x .numbers) (y .result) (x .inv) (y .ensures .0) (z .result) (q .result) (omega arith) (z .ensures .0) (q .ensures) _ ((c .before .before .k) .given .1) in
-    (d .2 ∙ sym (ap length (c .before .before .before .before .before .before .before .before .before .before .before .before .before .before .before .before .before .pre) ∙ length-replicate {A = ℕ} tableSize 0), ended-is (now (a .card)) _ (x .at + y .result) (x .n + 1) _ ((c .ended) .result) (d .0) (d .2) (d .3) (d .1) ((c .ended) .ensures))
+    let d = left-done (now (a .card)) (length (now (a .numbers))) (x .l) (x .at) (x .n) (x .numbers) (y .result) (x .inv) (y .ensures .0) (z .result) (q .result) (omega arith) (z .ensures .0) (q .ensures) _ ((c .before .before .k) .given .1) in
+    (d .2, ended-is (now (a .card)) _ (x .at + y .result) (x .n + 1) _ ((c .ended) .result) (d .0) (d .3) (d .1) ((c .ended) .ensures))
 
 enum-known-f : tie.Need-enum-known-f Inv-loop μ-loop
 enum-known-f c = (c .match) .keys3
 
 same-length-3 : tie.Need-same-length-3 Inv-loop μ-loop
-same-length-3 c = (c .before .before .before .before .before .before .before .before .before .before .before .before .loop) .inv .long ∙ sym (ap length (c .before .before .before .before .before .before .before .before .before .before .before .before .before .before .before .before .pre) ∙ length-replicate {A = ℕ} tableSize 0)
+same-length-3 c = (c .before .before .before .before .before .before .before .before .before .before .before .before .loop) .inv .long
 
 returns-3 : tie.Need-returns-3 Inv-loop μ-loop
 returns-3 c =
@@ -282,7 +284,7 @@ returns-3 c =
     let y = (c .before .before .before .before .before .before .before .before .before .width) in
     let z = (c .before .before .before .before .before .before .before .bit-field) in
     let q = (c .before .before .before .step) in
-    (x .inv .long ∙ sym (ap length (c .before .before .before .before .before .before .before .before .before .before .before .before .before .before .before .before .pre) ∙ length-replicate {A = ℕ} tableSize 0), refused-is (now (a .card)) _ (x .at) (x .numbers) (left-bad (now (a .card)) (x .l) (x .at) (x .n) (x .numbers) (y .result) (x .inv) (y .ensures .0) (z .result) (q .result) (omega arith) (z .ensures .0) (q .ensures) _ ((c .before .f) .given .1)))
+    (x .inv .long, refused-is (now (a .card)) _ (x .at) (x .numbers) (left-bad (now (a .card)) (length (now (a .numbers))) (x .l) (x .at) (x .n) (x .numbers) (y .result) (x .inv) (y .ensures .0) (z .result) (q .result) (omega arith) (z .ensures .0) (q .ensures) _ ((c .before .f) .given .1)))
 
 pub fill-spec : {M : Type 1} → statement M
 fill-spec =

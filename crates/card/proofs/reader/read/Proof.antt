@@ -1,52 +1,42 @@
 -- `card::reader::read` meets its contract. Assumes nothing.
-use mathlib.Core.Path.{refl}
+use mathlib.Core.Path.{refl, sym, _∙_}
 use denote.Ref.{now}
-use Rattle.card.proofs.ReadLaws.{fill-refused, fill-whole}
+use Rattle.card.proofs.ReadLaws.{lent-filled, lent-kept}
 use borrow.Author.Needs.{needs}
 use Rattle.card.proofs.reader.read.Statement.{statement}
 use Rattle.card.proofs.reader.read.Tie as tie
 
-slice-aggregate-fill : tie.Need-slice-aggregate-fill
-slice-aggregate-fill c = search needs
+has-room-requires : tie.Need-has-room-requires
+has-room-requires c κs = search needs
 
-fill-requires : tie.Need-fill-requires
-fill-requires c κs = refl
+read-into-requires : tie.Need-read-into-requires
+read-into-requires c κs = sym (c .before .before .has-room .ensures) ∙ c .before .if1 .taken
 
-enum-known-a : tie.Need-enum-known-a
-enum-known-a c = search needs
-
-enum-told : tie.Need-enum-told
-enum-told c = search needs
-
-refused-requires : tie.Need-refused-requires
-refused-requires c κs = search needs
+same-length : tie.Need-same-length
+same-length c = search needs
 
 returns : tie.Need-returns
 returns c =
-    let x = c .before .before .before .before .fill in
-    fill-refused (now (c .before .before .before .before .before .before .before .args .card)) (x .result) _ _ _ (c .refused .result) (x .ensures .1) (c .before .enum-told .given .1) (c .refused .ensures)
+    let x = c .before .before .read-into in
+    (x .ensures .0, (x .ensures .1 .0, lent-filled _ _ _ _ (sym (c .before .before .before .before .before .has-room .ensures) ∙ c .before .before .before .before .if1 .taken) (x .ensures .1 .1)))
 
-slice-aggregate-index : tie.Need-slice-aggregate-index
-slice-aggregate-index c = search needs
+slice-aggregate-read-into : tie.Need-slice-aggregate-read-into
+slice-aggregate-read-into c = search needs
 
-index-requires : tie.Need-index-requires
-index-requires c κs = search needs
+read-into-requires-2 : tie.Need-read-into-requires-2
+read-into-requires-2 c κs = refl
 
 returns-2 : tie.Need-returns-2
-returns-2 c =
-    let x = c .before .before .before .before .before .before .fill in
-    fill-whole (now (c .before .before .before .before .before .before .before .before .before .args .card)) (x .result) _ _ (c .index .result) (x .ensures .1) (c .before .before .before .a .given .1) (c .index .ensures)
+returns-2 c = (refl, (c .before .read-into2 .ensures .1 .0, lent-kept _ _ _ (sym (c .before .before .before .before .has-room .ensures) ∙ c .before .before .before .if1 .left)))
 
 pub read-spec : {M : Type 1} → statement M
 read-spec =
     tie.close
     (tie.spec
-    slice-aggregate-fill
-    fill-requires
-    enum-known-a
-    enum-told
-    refused-requires
+    has-room-requires
+    read-into-requires
+    same-length
     returns
-    slice-aggregate-index
-    index-requires
+    slice-aggregate-read-into
+    read-into-requires-2
     returns-2)
