@@ -199,6 +199,9 @@ module _ (bytes : List ℕ) where
 pub lent-filled : (x : Parsing Card) (room : Bool) (before after : List ℕ) → room ≡ true → IsTable x (length before) after → IsLent x room before after
 lent-filled x room before after e h = rw e h
 
+pub lent-is : (x : Parsing Card) (room : Bool) (before after : List ℕ) → IsLent x room before after → room ≡ true → IsTable x (length before) after
+lent-is x room before after h e = subst (λ (b : Bool). IsLent x b before after) e h
+
 pub lent-kept : (x : Parsing Card) (room : Bool) (before : List ℕ) → room ≡ false → IsLent x room before before
 lent-kept x room before e = rw e refl
 

@@ -10,13 +10,16 @@ use Rattle.card.specs.Card.{Card}
 use Rattle.card.specs.Index.{Loaded}
 use Rattle.card.specs.Parsing.{Parsing, readCard}
 use Rattle.card.specs.Parsing
+use Rattle.card.specs.Tables.{IsTable}
 use Rattle.card.specs.Writing.{encode, readTables}
 use Rattle.card.proofs.Ranges.{read-wellformed}
-use Rattle.card.proofs.ReadLaws.{tables-loaded}
+use Rattle.card.proofs.ReadLaws.{read-loaded}
 use Rattle.card.proofs.RoundTrip.{read-write, write-read, wellformed-reads, wellformed-tables}
 use Rattle.hierarchy.specs.Conditions.{Meets}
 use Rattle.hierarchy.specs.Check.{Found, check}
-use Rattle.hierarchy.specs.Judgement.{accepted, refused, checked, judged, judge, judgeTables, IsChecked}
+use Rattle.hierarchy.specs.Judgement.{Judgement, accepted, refused, checked, judged, judge, judgeTables, outcomeOf, IsChecked}
+use Rattle.hierarchy.specs.Numbers.{checkOutcome}
+use Rattle.hierarchy.specs.declared.Answer.{Answer}
 use Rattle.hierarchy.specs.declared.check.CheckedCard.{CheckedCard}
 use Rattle.hierarchy.proofs.Agree.{check-is}
 
@@ -85,6 +88,21 @@ written-accepted c d e = go (readTables c) refl e
     go (Parsing.refused n at) p q = absurd (not-accepted _ _ _ q)
     go (Parsing.whole x end) p q = found x end (check x) p refl q
 
--- `accepted-loaded`: THE TABLES THAT THE CHECK HANDS ON HOLD THE CARD'S ROWS
-pub accepted-loaded : (c : Card) → Meets c → (k : CheckedCard) → IsChecked (accepted c) k → Loaded c (k .numbers) (k .starts)
-accepted-loaded c m k h = rw (h .numbers, h .starts) (tables-loaded c (m .wellformed))
+-- the check's answer to a card's bytes, and the tables that it left
+pub record Checked (j : Judgement) (a : Answer) (numbers starts : List ℕ) : Type 0 where
+  pub answer : checkOutcome a ≡ outcomeOf j
+  pub loaded : (c : Card) → j ≡ accepted c → Loaded c numbers starts
+
+-- `accepted-loaded`: THE TABLES THAT THE CHECK LEAVES HOLD AN ACCEPTED CARD'S ROWS
+pub accepted-loaded : (bytes : List ℕ) (k : CheckedCard) (size : ℕ) (numbers : List ℕ) → IsChecked bytes k → IsTable (readCard bytes) size numbers
+    → Checked (judge bytes) (k .answer) numbers (k .starts)
+unfolding judge
+accepted-loaded bytes k size numbers h t = record { answer = h .answer; loaded = λ c e. go c (readCard bytes) refl e }
+  where
+    found : (c d : Card) (end : ℕ) (x : Option Found) → readCard bytes ≡ Parsing.whole d end → checked x d ≡ accepted c → Loaded c numbers (k .starts)
+    found c d end (some f) p r = absurd (not-accepted _ _ _ r)
+    found c d end none p r = let s : d ≡ c = cc in subst (λ (x : Card). Loaded x numbers (k .starts)) s (read-loaded bytes d end size numbers (k .starts) p (h .starts) t)
+
+    go : (c : Card) (x : Parsing Card) → readCard bytes ≡ x → judged x ≡ accepted c → Loaded c numbers (k .starts)
+    go c (Parsing.refused n at) p q = absurd (not-accepted _ _ _ q)
+    go c (Parsing.whole d end) p q = found c d end (check d) p q

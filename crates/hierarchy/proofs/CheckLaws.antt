@@ -1,33 +1,33 @@
 -- What the check found is what judging a card says. Assumes nothing.
 use Prim.Native.Nat.{ℕ, _≤_}
-use mathlib.Core.Path.{_≡_, refl, sym, ap, subst, _∙_}
+use mathlib.Core.Path.{_≡_, refl, sym, ap, _∙_}
 use mathlib.Core.List.{List}
 use mathlib.Core.Option.{Option}
 use native.Mathlib.Omega.{arith}
 use lib.ListN.{length}
 use Rattle.card.specs.Finite.{_otherwise_}
 use Rattle.card.specs.Card.{Card}
-use Rattle.card.specs.Index.{startsSize, Loaded}
+use Rattle.card.specs.Index.{Loaded}
 use Rattle.card.specs.Parsing.{Parsing, readCard}
 use Rattle.card.specs.Parsing
-use Rattle.card.specs.Tables.{tableSize, zeros, readOutcome, outcomeOf, IsRead}
-use Rattle.card.specs.Tables
+use Rattle.card.specs.Tables.{readOutcome, outcomeOf, IsRead, IsTable}
 use Rattle.card.specs.Numbers
 use Rattle.card.specs.declared.Counts.{Counts}
 use Rattle.card.specs.declared.FormatFault.{FormatFault}
 use Rattle.card.specs.declared.reader.CardRead.{CardRead}
+use Rattle.card.specs.declared.reader.ReadAnswer.{ReadAnswer}
 use Rattle.card.specs.declared.reader.ReadAnswer.the-variants.{Whole, Refused as NotRead}
 use Rattle.card.proofs.Ranges.{read-wellformed}
 use Rattle.card.proofs.ReadLaws.{read-loaded}
 use Rattle.hierarchy.specs.Check.{Found, findingOf, check}
 use Rattle.hierarchy.specs.Numbers.{checkOutcome}
-use Rattle.hierarchy.specs.Judgement.{judge, judged, answer, IsChecked, IsTurnedBack}
+use Rattle.hierarchy.specs.Judgement.{judge, judged, answer, IsReadInto}
+use Rattle.hierarchy.specs.Judgement
 use Rattle.hierarchy.specs.declared.CardFault.{CardFault}
 use Rattle.hierarchy.specs.declared.CardFault.the-variants.{Format}
 use Rattle.hierarchy.specs.declared.Answer.the-variants.{Accepted, Refused}
 use Rattle.hierarchy.specs.declared.Finding.{Finding}
 use Rattle.hierarchy.specs.declared.Finding.the-variants.{Nothing, Fault}
-use Rattle.hierarchy.specs.declared.check.CheckedCard.{CheckedCard}
 
 -- one pass after another: the first finding is the check's
 module _ (r : Finding) (a b : Option Found) (h : findingOf r ≡ a) where
@@ -41,7 +41,7 @@ same-counts : (a b d x y z : ℕ) → a ≡ x → b ≡ y → d ≡ z → Rattle
 same-counts a b d x y z p q r = rw (p, q, r)
 
 -- a card that was read, with its counts
-pub record Read (bytes : List ℕ) (k : Counts) : Type 0 where
+record Read (bytes : List ℕ) (k : Counts) : Type 0 where
   pub card : Card
   pub end : ℕ
   pub is : readCard bytes ≡ Parsing.whole card end
@@ -49,60 +49,46 @@ pub record Read (bytes : List ℕ) (k : Counts) : Type 0 where
   pub places : k .places ≡ length (card .places)
   pub transitions : k .transitions ≡ length (card .transitions)
 
-module _ (bytes : List ℕ) (r : CardRead) (h : IsRead (readCard bytes) r) where
-  pub read-whole : (k : Counts) → r .answer ≡ Whole k → Read bytes k
+-- what pass two finds in the tables of a card that was read is what it finds on the card
+abbrev Finds : (numbers starts : List ℕ) → (subnets : ℕ) → Finding → Type 0
+Finds numbers starts subnets r = (d : Card) → Loaded d numbers starts → subnets ≡ length (d .subnets) → length (d .subnets) ≤ 32 → findingOf r ≡ check d
+
+module _ (bytes : List ℕ) (a : ReadAnswer) (numbers starts : List ℕ) (h : IsReadInto bytes a numbers starts) where
+  read-whole : (k : Counts) → a ≡ Whole k → Read bytes k
   read-whole k e = go (readCard bytes) refl (sym (ap readOutcome e) ∙ h .answer)
     where
       go : (x : Parsing Card) → readCard bytes ≡ x → readOutcome (Whole k) ≡ outcomeOf x → Read bytes k
       go (Parsing.refused n at) p q = absurd (let z : _≡_ {A = ℕ} 0 1 = cc in omega arith)
       go (Parsing.whole c end) p q = record { card = c; end = end; is = p; subnets = cc; places = cc; transitions = cc }
 
-  pub read-refused : (f : FormatFault) (at : ℕ) (c : CheckedCard) → r .answer ≡ NotRead f at → IsTurnedBack (Format f) at c → IsChecked (judge bytes) c
+  pub answer-unread : (f : FormatFault) (at : ℕ) → a ≡ NotRead f at → checkOutcome (Refused (Format f) at) ≡ answer bytes
   unfolding judge
-  read-refused f at c e t = go (readCard bytes) (sym (ap readOutcome e) ∙ h .answer)
+  answer-unread f at e = go (readCard bytes) (sym (ap readOutcome e) ∙ h .answer)
     where
-      go : (x : Parsing Card) → readOutcome (NotRead f at) ≡ outcomeOf x → IsChecked (judged x) c
+      go : (x : Parsing Card) → readOutcome (NotRead f at) ≡ outcomeOf x → checkOutcome (Refused (Format f) at) ≡ Judgement.outcomeOf (judged x)
       go (Parsing.refused n i) q =
           let a : Numbers.number f ≡ n = cc in
           let b : at ≡ i = cc in
-          rw (← a, ← b) (record { answer = rw (t .answer); numbers = t .numbers; starts = t .starts })
+          rw (← a, ← b)
       go (Parsing.whole d end) q = absurd (let z : _≡_ {A = ℕ} 0 1 = cc in omega arith)
 
-  module _ (k : Counts) (e : r .answer ≡ Whole k) where
-    card-tables : Loaded ((read-whole k e) .card) (r .numbers) (r .starts)
-    card-tables = read-loaded bytes ((read-whole k e) .card) ((read-whole k e) .end) r ((read-whole k e) .is) h
-
-    pub check-refused : (f : CardFault) (at : ℕ) (c : CheckedCard)
-        → ((d : Card) → Loaded d (r .numbers) (r .starts) → k .subnets ≡ length (d .subnets) → length (d .subnets) ≤ 32 → findingOf (Fault f at) ≡ check d) → IsTurnedBack f at c → IsChecked (judge bytes) c
-    unfolding judge
-    check-refused f at c g t =
+  module _ (k : Counts) (e : a ≡ Whole k) where
+    found : (r : Finding) → Finds numbers starts (k .subnets) r → findingOf r ≡ check ((read-whole k e) .card)
+    found r g =
         let x = read-whole k e in
-        let q = g (x .card) card-tables (x .subnets) ((read-wellformed bytes (x .card) (x .end) (x .is)) .fewSubnets) in
-        rw (x .is, ← q) (record { answer = rw (t .answer); numbers = t .numbers; starts = t .starts })
+        g (x .card) (read-loaded bytes (x .card) (x .end) _ numbers starts (x .is) (h .rows) (h .table)) (x .subnets) ((read-wellformed bytes (x .card) (x .end) (x .is)) .fewSubnets)
 
-    pub check-accepted : ((d : Card) → Loaded d (r .numbers) (r .starts) → k .subnets ≡ length (d .subnets) → length (d .subnets) ≤ 32 → findingOf Nothing ≡ check d)
-        → IsChecked (judge bytes) (record { answer = Accepted (k .subnets) (k .places) (k .transitions); numbers = r .numbers; starts = r .starts })
+    pub answer-refused : (f : CardFault) (at : ℕ) → Finds numbers starts (k .subnets) (Fault f at) → checkOutcome (Refused f at) ≡ answer bytes
     unfolding judge
-    check-accepted g =
+    answer-refused f at g = rw ((read-whole k e) .is, ← found (Fault f at) g)
+
+    pub answer-accepted : Finds numbers starts (k .subnets) Nothing → checkOutcome (Accepted (k .subnets) (k .places) (k .transitions)) ≡ answer bytes
+    unfolding judge
+    answer-accepted g =
         let x = read-whole k e in
-        let q = g (x .card) card-tables (x .subnets) ((read-wellformed bytes (x .card) (x .end) (x .is)) .fewSubnets) in
-        let z : IsRead (Parsing.whole (x .card) (x .end)) r = subst (λ (y : Parsing Card). IsRead y r) (x .is) h in
-        rw (x .is, ← q) (record { answer = same-counts _ _ _ _ _ _ (x .subnets) (x .places) (x .transitions); numbers = z .numbers; starts = z .starts })
+        rw (x .is, ← found Nothing g) (same-counts _ _ _ _ _ _ (x .subnets) (x .places) (x .transitions))
 
--- the same of the answer alone
-abbrev blank : CardFault → (at : ℕ) → CheckedCard
-blank f at = record { answer = Refused f at; numbers = zeros tableSize; starts = zeros startsSize }
-
-module _ (bytes : List ℕ) (r : CardRead) (h : IsRead (readCard bytes) r) where
-  pub answer-unread : (f : FormatFault) (at : ℕ) → r .answer ≡ NotRead f at → checkOutcome (Refused (Format f) at) ≡ answer bytes
-  answer-unread f at e = read-refused bytes r h f at (blank (Format f) at) e (record { answer = refl; numbers = refl; starts = refl }) .answer
-
-  module _ (k : Counts) (e : r .answer ≡ Whole k) where
-    pub answer-refused : (f : CardFault) (at : ℕ)
-        → ((d : Card) → Loaded d (r .numbers) (r .starts) → k .subnets ≡ length (d .subnets) → length (d .subnets) ≤ 32 → findingOf (Fault f at) ≡ check d)
-        → checkOutcome (Refused f at) ≡ answer bytes
-    answer-refused f at g = check-refused bytes r h k e f at (blank f at) g (record { answer = refl; numbers = refl; starts = refl }) .answer
-
-    pub answer-accepted : ((d : Card) → Loaded d (r .numbers) (r .starts) → k .subnets ≡ length (d .subnets) → length (d .subnets) ≤ 32 → findingOf Nothing ≡ check d)
-        → checkOutcome (Accepted (k .subnets) (k .places) (k .transitions)) ≡ answer bytes
-    answer-accepted g = check-accepted bytes r h k e g .answer
+-- what was read into a lent table with room
+pub read-into : (bytes : List ℕ) (r : CardRead) (before after : List ℕ) → IsRead (readCard bytes) r → length after ≡ length before → IsTable (readCard bytes) (length before) after
+    → IsReadInto bytes (r .answer) after (r .starts)
+read-into bytes r before after h long t = record { answer = h .answer; rows = h .starts; table = rw long t }

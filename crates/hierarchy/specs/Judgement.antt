@@ -5,8 +5,8 @@ use mathlib.Core.List.{List}
 use mathlib.Core.Option.{Option, none, some}
 use lib.ListN.{length}
 use Rattle.card.specs.Card.{Card}
-use Rattle.card.specs.Tables.{tableSize, numbersTable, zeros}
-use Rattle.card.specs.Index.{startsSize, startsOf}
+use Rattle.card.specs.Tables.{readOutcome, startsRead, IsTable}
+use Rattle.card.specs.Tables
 use Rattle.card.specs.Parsing.{Parsing, readCard}
 use Rattle.card.specs.Parsing
 use Rattle.card.specs.Writing.{readTables}
@@ -14,11 +14,6 @@ use Rattle.hierarchy.specs.Numbers.{number, CheckOutcome, checkOutcome}
 use Rattle.hierarchy.specs.Numbers
 use Rattle.hierarchy.specs.Check.{Found, check}
 use Rattle.card.specs.declared.reader.ReadAnswer.{ReadAnswer}
-use Rattle.card.specs.declared.reader.ReadAnswer.the-variants.{Whole, Refused as NotRead}
-use Rattle.hierarchy.specs.declared.Answer.the-variants.{Refused}
-use Rattle.hierarchy.specs.declared.CardFault.{CardFault}
-use Rattle.hierarchy.specs.declared.CardFault.the-variants.{Format}
-use Rattle.card.specs.declared.FormatFault.the-variants.{Truncated}
 use Rattle.hierarchy.specs.declared.check.CheckedCard.{CheckedCard}
 
 -- accepted: the card; refused: the paper's number and the bit
@@ -50,22 +45,13 @@ outcomeOf (refused n at) = Numbers.CheckOutcome.refused n at
 abbrev pub answer : (bytes : List ℕ) → CheckOutcome
 answer bytes = outcomeOf (judge bytes)
 
--- the two tables of an accepted card, for the layer above: its numbers, and where its rows begin; of a refused one, zeros
-abbrev pub tablesOf : Judgement → List ℕ × List ℕ
-tablesOf (accepted c) = (numbersTable c, startsOf c)
-tablesOf (refused n at) = (zeros tableSize, zeros startsSize)
+-- pass one read a card into two tables
+pub record IsReadInto (bytes : List ℕ) (a : ReadAnswer) (numbers starts : List ℕ) : Type 0 where
+  pub answer : readOutcome a ≡ Tables.outcomeOf (readCard bytes)
+  pub rows : starts ≡ startsRead (readCard bytes)
+  pub table : IsTable (readCard bytes) (length numbers) numbers
 
-pub record IsChecked (x : Judgement) (r : CheckedCard) : Type 0 where
-  pub answer : checkOutcome (r .answer) ≡ outcomeOf x
-  pub numbers : r .numbers ≡ (tablesOf x) .0
-  pub starts : r .starts ≡ (tablesOf x) .1
-
--- a refusal, with empty tables; and one of the layer below (a card that was read whole is as one that ends in front of its first field)
-pub record IsTurnedBack (f : CardFault) (at : ℕ) (r : CheckedCard) : Type 0 where
-  pub answer : r .answer ≡ Refused f at
-  pub numbers : r .numbers ≡ zeros tableSize
-  pub starts : r .starts ≡ zeros startsSize
-
-abbrev pub HandedOn : ReadAnswer → CheckedCard → Type 0
-HandedOn (NotRead f at) r = IsTurnedBack (Format f) at r
-HandedOn (Whole k) r = IsTurnedBack (Format Truncated) 0 r
+-- what a caller gets beside the table of numbers that it lends: the answer, and where the rows begin
+pub record IsChecked (bytes : List ℕ) (r : CheckedCard) : Type 0 where
+  pub answer : checkOutcome (r .answer) ≡ answer bytes
+  pub starts : r .starts ≡ startsRead (readCard bytes)

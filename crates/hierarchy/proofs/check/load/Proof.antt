@@ -1,71 +1,42 @@
 -- `hierarchy::check::load` meets its contract. Assumes nothing.
-use mathlib.Core.Path.{sym, ap, subst, _∙_}
+use mathlib.Core.Path.{refl, sym, _∙_}
 use denote.Ref.{now}
-use Rattle.card.specs.declared.reader.ReadAnswer.{ReadAnswer}
-use Rattle.hierarchy.specs.Judgement.{HandedOn}
-use Rattle.hierarchy.specs.Check.{findingOf}
-use Rattle.hierarchy.proofs.CheckLaws.{read-refused, check-refused, check-accepted}
+use Rattle.card.proofs.ReadLaws.{lent-filled, lent-kept}
 use borrow.Author.Needs.{needs}
 use Rattle.hierarchy.proofs.check.load.Statement.{statement}
 use Rattle.hierarchy.proofs.check.load.Tie as tie
 
-read-requires : tie.Need-read-requires
-read-requires c κs = search needs
+has-room-requires : tie.Need-has-room-requires
+has-room-requires c κs = search needs
 
-enum-known-a : tie.Need-enum-known-a
-enum-known-a c = search needs
+load-into-requires : tie.Need-load-into-requires
+load-into-requires c κs = sym (c .before .before .has-room .ensures) ∙ c .before .if1 .taken
 
-enum-told : tie.Need-enum-told
-enum-told c = search needs
-
-handed-on-requires : tie.Need-handed-on-requires
-handed-on-requires c κs = search needs
+same-length : tie.Need-same-length
+same-length c = search needs
 
 returns : tie.Need-returns
 returns c =
-    let r = c .before .before .before .read in
-    let h = c .handed-on in
-    read-refused (now (c .before .before .before .before .before .args .card)) (r .result) (r .ensures) _ _ (h .result) (c .before .enum-told .given .1) (subst (λ (x : ReadAnswer). HandedOn x (h .result)) (c .before .enum-told .given .1) (h .ensures))
+    let x = c .before .before .load-into in
+    (x .ensures .0, (x .ensures .1 .0, lent-filled _ _ _ _ (sym (c .before .before .before .before .before .has-room .ensures) ∙ c .before .before .before .before .if1 .taken) (x .ensures .1 .1)))
 
-first-fault-requires : tie.Need-first-fault-requires
-first-fault-requires c κs = search needs
+slice-aggregate-load-into : tie.Need-slice-aggregate-load-into
+slice-aggregate-load-into c = search needs
 
-enum-known-found : tie.Need-enum-known-found
-enum-known-found c = search needs
-
-turned-back-requires : tie.Need-turned-back-requires
-turned-back-requires c κs = search needs
+load-into-requires-2 : tie.Need-load-into-requires-2
+load-into-requires-2 c κs = refl
 
 returns-2 : tie.Need-returns-2
-returns-2 c =
-    let r = c .before .before .before .before .before .before .before .before .before .before .before .before .before .read in
-    let t = c .turned-back in
-    check-refused (now (c .before .before .before .before .before .before .before .before .before .before .before .before .before .before .before .args .card)) (r .result) (r .ensures) _ (c .before .before .before .before .before .before .before .before .before .before .before .a .given .1) _ _ (t .result) (λ d l s w. sym (ap findingOf (c .before .before .found .given .1)) ∙ c .before .before .before .before .first-fault .ensures d l s w) (t .ensures)
-
-enum-told-2 : tie.Need-enum-told-2
-enum-told-2 c = search needs
-
-accepted-requires : tie.Need-accepted-requires
-accepted-requires c κs = search needs
-
-returns-3 : tie.Need-returns-3
-returns-3 c =
-    let r = c .before .before .before .before .before .before .before .before .before .before .before .before .before .before .read in
-    rw (c .before .before .accepted .ensures) (check-accepted (now (c .before .before .before .before .before .before .before .before .before .before .before .before .before .before .before .before .args .card)) (r .result) (r .ensures) _ (c .before .before .before .before .before .before .before .before .before .before .before .before .a .given .1) (λ d l s w. sym (ap findingOf (c .before .before .before .enum-told2 .given .1)) ∙ c .before .before .before .before .before .first-fault .ensures d l s w))
+returns-2 c = (refl, (c .before .load-into2 .ensures .1 .0, lent-kept _ _ _ (sym (c .before .before .before .before .has-room .ensures) ∙ c .before .before .before .if1 .left)))
 
 pub load-spec : {M : Type 1} → statement M
 load-spec =
     tie.close
     (tie.spec
-    read-requires
-    enum-known-a
-    enum-told
-    handed-on-requires
+    has-room-requires
+    load-into-requires
+    same-length
     returns
-    first-fault-requires
-    enum-known-found
-    turned-back-requires
-    returns-2
-    enum-told-2
-    accepted-requires
-    returns-3)
+    slice-aggregate-load-into
+    load-into-requires-2
+    returns-2)
