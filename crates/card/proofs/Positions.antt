@@ -168,7 +168,7 @@ module _ (c : Card) (n : Counted c) where
       ∙ run-at 0 (λ i. arcNumbers (arcAt c t i)) ((transitionAt c t) .arcs) j k h lk
       ∙ ap (λ (i : ℕ). getD (arcNumbers (arcAt c t i)) k 0) (zero-add j)
 
-  numbers-long : length (numbersOf c) ≡ headerFields + subnetFields * length (c .subnets) + placeFields * length (c .places) + transitionFields * length (c .transitions) + arcFields * length (c .arcs)
+  pub numbers-long : length (numbersOf c) ≡ headerFields + subnetFields * length (c .subnets) + placeFields * length (c .places) + transitionFields * length (c .transitions) + arcFields * length (c .arcs)
   numbers-long =
       let e = ap length (numbers-rows c n) in
       let f = runs-length 0 (subnetNumbers c) (length (c .subnets)) in

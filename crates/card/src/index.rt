@@ -32,7 +32,7 @@ ghost use Rattle.card.specs.inner.Indexing.{Moved, OnCard, putSubnet, At
 ghost use Rattle.card.specs.inner.Runs.{Tells};
 
 // Where a row begins: at which number, and at which bit.
-pub struct Position {
+struct Position {
     pub row: u32,
     pub bit: u32,
 }

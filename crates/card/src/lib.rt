@@ -2,7 +2,7 @@
 
 mod bits;
 pub mod fields;
-mod index;
+pub mod index;
 mod layout;
 pub mod reader;
 mod rows;
