@@ -1,5 +1,6 @@
 // Flattening: the flat card of a card, written into a lent buffer. specs/ says which card it is.
 mod rows;
+mod tables;
 
 use card::ARC_FIELDS;
 use card::Head;
