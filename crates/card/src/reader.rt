@@ -19,6 +19,7 @@ use crate::layout::start;
 use crate::layout::step;
 use crate::layout::width;
 use crate::layout::width_at;
+use crate::tables::clear;
 ghost use mathlib.Core.Path.{_≡_};
 ghost use mathlib.Core.Bool.{true};
 ghost use Prim.Native.Nat.{_+_, _*_, _≤_};
@@ -166,17 +167,6 @@ pub fn has_room(bytes: usize, size: usize) -> bool
         return true;
     }
     bytes <= size / 8
-}
-
-// Stores zeros in a table.
-fn clear(numbers: &mut [u16])
-    ensures { λ r. ⌜ now (numbers .exit) ≡ replicate (length (now (numbers .entry))) 0 ⌝ }
-{
-    let mut i: usize = 0;
-    while i < numbers.len() {
-        numbers[i] = 0;
-        i += 1;
-    }
 }
 
 // Reads a card into a lent table that has room for it.

@@ -13,7 +13,7 @@ use crate::layout::transition_fields;
 use crate::layout::transition_width;
 ghost use mathlib.Core.Path.{_≡_};
 ghost use Prim.Native.Nat.{_+_, _*_, _≤_, _<_};
-ghost use lib.ListN.{getD, set};
+ghost use lib.ListN.{length, getD, set, replicate};
 ghost use Rattle.card.specs.Index.{ArcThere, arcOf, placeField, arcField, subnetBitStart, firstPlaceStart, firstTransitionStart, transitionRowStart, transitionBitStart};
 ghost use Rattle.card.specs.Format.{size};
 ghost use Rattle.card.specs.Grammar.{transition, arc};
@@ -29,6 +29,17 @@ fn start_at(starts: &[u32], i: usize) -> u32
     ensures { λ r. ⌜ r ≡ getD (now (starts .entry)) i 0 ⌝ }
 {
     if i < starts.len() { starts[i] } else { 0 }
+}
+
+// Stores zeros in a table. Two wrong ones that this rules out: one that leaves the last number, and one that stores zeros up to the first zero.
+pub fn clear(numbers: &mut [u16])
+    ensures { λ r. ⌜ now (numbers .exit) ≡ replicate (length (now (numbers .entry))) 0 ⌝ }
+{
+    let mut i: usize = 0;
+    while i < numbers.len() {
+        numbers[i] = 0;
+        i += 1;
+    }
 }
 
 // Stores entry i of a slice; past its end it stores nothing.

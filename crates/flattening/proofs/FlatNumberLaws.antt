@@ -12,12 +12,12 @@ use Rattle.card.specs.Card.{Card, placeAt, transitionAt, arcAt, firstPlace, fir
 use Rattle.card.specs.Format.{count}
 use Rattle.card.specs.Grammar.{header, subnet, place, transition, arc}
 use Rattle.card.specs.Index.{subnetRow, transitionRow, placeField, arcField, PlaceThere, TransitionThere, ArcThere, Lists, Laid}
-use Rattle.card.specs.Tables.{numbersOf, numbersTable, tableSize}
+use Rattle.card.specs.Tables.{numbersOf, tableSize}
 use Rattle.card.specs.Wellformed.{Wellformed}
 use Rattle.card.proofs.BitLaws.{lt-or-ge}
 use Rattle.card.proofs.Sums.{map-length}
 use Rattle.card.proofs.RowNumbers.{numbers-rows}
-use Rattle.card.proofs.Positions.{counted, laid, entered, numbers-long, arcs-few}
+use Rattle.card.proofs.Positions.{counted, laid, numbers-long, arcs-few}
 use Rattle.hierarchy.specs.Conditions.{Meets}
 use Rattle.flattening.specs.Flattening.{flatPlaceRow, flatArc, flatten}
 use Rattle.flattening.specs.inner.FlatNumbers.{flatNumber, placePosition, transitionPosition, arcPosition, putThree, putFour, Filled}
@@ -89,11 +89,11 @@ module _ (c : Card) (m : Meets c) where
   whole : Wellformed (flatten c)
   whole = (flat-meets c m) .wellformed
 
-  number-at : (i j v : ℕ) → getD (numbersTable (flatten c)) i 0 ≡ v → i ≡ j → v ≡ flatNumber c j
-  number-at i j v e q = sym e ∙ entered (flatten c) whole i ∙ ap (flatNumber c) q
+  number-at : (i j v : ℕ) → getD (numbersOf (flatten c)) i 0 ≡ v → i ≡ j → v ≡ flatNumber c j
+  number-at i j v e q = sym e ∙ ap (flatNumber c) q
 
-  laid-flat : Laid (flatten c) (numbersTable (flatten c))
-  laid-flat = laid (flatten c) whole
+  laid-flat : Laid (flatten c) (numbersOf (flatten c))
+  laid-flat = laid (flatten c) whole (numbersOf (flatten c)) (λ i. refl)
 
   -- WHAT THE NUMBERS OF THE FLAT CARD ARE: header and subnet
   pub record HeadNumbers : Type 0 where
@@ -126,7 +126,7 @@ module _ (c : Card) (m : Meets c) where
 
   -- a place
   module _ (p : ℕ) (l : p < length (c .places)) where
-    place-there : PlaceThere (numbersTable (flatten c)) (subnetRow (flatten c) 0) p (flatPlaceRow (placeAt c p))
+    place-there : PlaceThere (numbersOf (flatten c)) (subnetRow (flatten c) 0) p (flatPlaceRow (placeAt c p))
     place-there =
         let z : firstPlace (flatten c) 0 + p ≡ p = (unfold firstPlace sumTo in zero-add p) in
         rw (z, place-flat c p) at (laid-flat .place 0 p (unfold flatten in omega arith) (unfold flatten in l))
@@ -145,7 +145,7 @@ module _ (c : Card) (m : Meets c) where
     lists-flat : Lists (flatten c) 0 t
     lists-flat = record { subnet = (unfold flatten in omega arith); first = (unfold firstTransition sumTo in omega arith); last = omega (arith, main-transitions c) }
 
-    transition-there : TransitionThere (numbersTable (flatten c)) (transitionRow (flatten c) 0 t) (transitionAt c t)
+    transition-there : TransitionThere (numbersOf (flatten c)) (transitionRow (flatten c) 0 t) (transitionAt c t)
     transition-there = rw (transition-flat c t) at (laid-flat .transition 0 t lists-flat)
 
     pub transition-signal : (transitionAt c t) .signal ≡ flatNumber c (transitionPosition c t)
@@ -159,7 +159,7 @@ module _ (c : Card) (m : Meets c) where
 
     -- an arc
     module _ (j : ℕ) (b : j < (transitionAt c t) .arcs) where
-      arc-there : ArcThere (numbersTable (flatten c)) (transitionRow (flatten c) 0 t) j (flatArc c (arcAt c t j))
+      arc-there : ArcThere (numbersOf (flatten c)) (transitionRow (flatten c) 0 t) j (flatArc c (arcAt c t j))
       arc-there = rw (arc-flat c t j) at (laid-flat .arc 0 t j lists-flat (unfold flatten in b))
 
       pub arc-direction : (arcAt c t j) .direction ≡ flatNumber c (arcPosition c t j)
@@ -187,16 +187,7 @@ module _ (c : Card) (m : Meets c) where
   pub inside : (t : ℕ) → t ≤ length (c .transitions) → transitionPosition c t ≤ tableSize
   inside t l = omega (arith, arcs-few c t (m .wellformed .rows .transitions) l, m .wellformed .rows .fewPlaces, m .wellformed .rows .fewTransitions)
 
--- a table with the same numbers holds the same rows
-pub laid-same : (c : Card) (xs ys : List ℕ) → ((i : ℕ) → getD ys i 0 ≡ getD xs i 0) → Laid c xs → Laid c ys
-laid-same c xs ys e h =
-    record {
-      version = e 0 ∙ h .version;
-      signals = e 2 ∙ h .signals;
-      limit = e 3 ∙ h .limit;
-      scale = e 4 ∙ h .scale;
-      subnet = λ s l. let r = h .subnet s l in record { parent = e _ ∙ r .parent; type = e _ ∙ r .type; places = e _ ∙ r .places; transitions = e _ ∙ r .transitions };
-      place = λ s n l b. let r = h .place s n l b in record { kind = e _ ∙ r .kind; capacity = e _ ∙ r .capacity; tokens = e _ ∙ r .tokens };
-      transition = λ s t l. let r = h .transition s t l in record { signal = e _ ∙ r .signal; arcs = e _ ∙ r .arcs; rank = e _ ∙ r .rank };
-      arc = λ s t j l b. let r = h .arc s t j l b in record { direction = e _ ∙ r .direction; subnet = e _ ∙ r .subnet; place = e _ ∙ r .place; weight = e _ ∙ r .weight };
-    }
+-- the flat card has no more numbers than the card
+pub flat-few : (c : Card) → Meets c → length (numbersOf (flatten c)) ≤ length (numbersOf c)
+flat-few c m =
+    omega (arith, flat-long c m, numbers-long c (counted c (m .wellformed)), m .wellformed .rows .arcCount, m .wellformed .someSubnets)

@@ -10,17 +10,17 @@ use lib.ListN.{length, getD, set, length-set, List·getD-eq-default}
 use Rattle.card.specs.Finite.{sumTo}
 use Rattle.card.specs.Card.{Arc, Card, subnetAt, transitionAt, arcAt, firstPlace}
 use Rattle.card.specs.Index.{placeField, firstPlaceStart, transitionRowStart, Begins, ArcThere, Laid, Loaded, startsOf}
-use Rattle.card.specs.Tables.{numbersOf, numbersTable, tableSize}
+use Rattle.card.specs.Tables.{numbersOf, tableSize}
 use Rattle.card.specs.Wellformed.{Wellformed}
 use Rattle.card.proofs.BitLaws.{lt-or-ge}
 use Rattle.card.proofs.Prefix.{places-below}
-use Rattle.card.proofs.Positions.{counted, laid, entered}
+use Rattle.card.proofs.Positions.{counted, laid}
 use Rattle.hierarchy.specs.Conditions.{Meets}
 use Rattle.flattening.specs.Flattening.{flatten}
 use Rattle.flattening.specs.inner.FlatNumbers.{flatNumber, placePosition, transitionPosition, arcPosition, putThree, putFour, Filled, OfSubnet, OfTransition, HeadPut, PlacePut, PlacesPut, AllPlacesPut, ArcPut, ArcsPut, TransitionPut, AllTransitionsPut, IsFlat, FlatTables}
 use Rattle.flattening.proofs.FlatLaws.{flat-meets}
 use Rattle.flattening.proofs.FlatRowLaws.{next-place, next-arc, below-all, no-arc, owned, flat-number, place-start}
-use Rattle.flattening.proofs.FlatNumberLaws.{fill, three-long, fill-three, four-long, fill-four, head-numbers, place-kind, place-capacity, place-tokens, transition-signal, transition-arcs, transition-rank, arc-direction, arc-subnet, arc-place, arc-weight, flat-long, inside, laid-same}
+use Rattle.flattening.proofs.FlatNumberLaws.{fill, three-long, fill-three, four-long, fill-four, head-numbers, place-kind, place-capacity, place-tokens, transition-signal, transition-arcs, transition-rank, arc-direction, arc-subnet, arc-place, arc-weight, flat-long, inside}
 
 pub head-put : {numbers : List ℕ} {p t v g l q : ℕ} {x₀ x₁ x₂ x₃ x₄ : List ℕ} → v ≡ getD numbers 0 0 → g ≡ getD numbers 2 0 → x₁ ≡ putThree x₀ 0 v 1 g
     → l ≡ getD numbers 3 0 → x₂ ≡ set x₁ 3 l → q ≡ getD numbers 4 0 → x₃ ≡ set x₂ 4 q → x₄ ≡ putFour x₃ 5 0 0 p t → HeadPut numbers p t x₀ x₄
@@ -223,7 +223,7 @@ module _ (c : Card) (m : Meets c) (xs : List ℕ) (f : Filled c (length (numbers
   flat-laid : Laid (flatten c) xs
   flat-laid =
       let w = (flat-meets c m) .wellformed in
-      laid-same (flatten c) (numbersTable (flatten c)) xs (λ i. all-held i ∙ sym (entered (flatten c) w i)) (laid (flatten c) w)
+      laid (flatten c) w xs all-held
 
   is-flat : (starts : List ℕ) → ((d : Card) → Wellformed d → Laid d xs → 1 ≡ length (d .subnets) → starts ≡ startsOf d) → IsFlat c xs starts
   is-flat starts h = record { held = all-held; begin = h (flatten c) ((flat-meets c m) .wellformed) flat-laid (unfold flatten in refl) }

@@ -14,14 +14,14 @@ use Rattle.card.proofs.Sums.{table-length, table-at, map-length}
 use Rattle.hierarchy.specs.Conditions.{Meets}
 use Rattle.card.specs.Index.{Loaded}
 use Rattle.hierarchy.specs.Numbers.{number, checkOutcome}
-use Rattle.hierarchy.specs.Judgement.{Judgement, accepted, refused, judged, judge, judgeTables, outcomeOf, IsChecked}
+use Rattle.hierarchy.specs.Judgement.{Judgement, accepted, refused, judged, judge, judgeTables, outcomeOf}
 use Rattle.hierarchy.specs.Output.{delivered, writeRows, IsWritten}
 use Rattle.hierarchy.specs.declared.Written.{Written}
 use Rattle.hierarchy.specs.declared.Written.the-variants.{Refused as NotWritten}
 use Rattle.hierarchy.specs.declared.Answer.the-variants.{Accepted, Refused}
 use Rattle.hierarchy.specs.declared.CardFault.{CardFault}
-use Rattle.hierarchy.specs.declared.check.CheckedCard.{CheckedCard}
-use Rattle.hierarchy.proofs.Accepted.{accepted-meets, accepted-loaded, meets-written}
+use Rattle.hierarchy.specs.declared.Answer.{Answer}
+use Rattle.hierarchy.proofs.Accepted.{accepted-meets, meets-written, Checked}
 use Rattle.flattening.specs.Flattening.{flatPlaceRow, flatArc, flatten, flattenCall}
 use Rattle.flattening.specs.inner.FlatRows.{Sizes, PlacesTo, TransitionsTo, ArcsTo}
 use Rattle.card.specs.Grammar.{maxCount, maxArcs}
@@ -111,8 +111,8 @@ module _ (c : Card) (m : Meets c) (ps ts arcs : List ℕ) (hp : PlacesTo c ps (l
   flat-written v g l q p t a ev eg el eq ep et ea buffer out r h = subst (λ (x : Judgement). IsWritten (delivered x encode buffer) r out) judged-flat (rw (ev, eg, el, eq, ep, et, ea) at h)
 
 -- flattening a card that was checked
-module _ (bytes buffer : List ℕ) (k : CheckedCard) (h : IsChecked (judge bytes) k) where
-  pub flatten-refused : (f : CardFault) (at : ℕ) (r : Written) → k .answer ≡ Refused f at → r ≡ NotWritten f at → IsWritten (flattenCall bytes buffer) r buffer
+module _ (bytes buffer : List ℕ) (k : Answer) (numbers starts : List ℕ) (h : Checked (judge bytes) k numbers starts) where
+  pub flatten-refused : (f : CardFault) (at : ℕ) (r : Written) → k ≡ Refused f at → r ≡ NotWritten f at → IsWritten (flattenCall bytes buffer) r buffer
   unfolding flattenCall
   flatten-refused f at r e t = go (judge bytes) (sym (ap checkOutcome e) ∙ h .answer)
     where
@@ -123,21 +123,21 @@ module _ (bytes buffer : List ℕ) (k : CheckedCard) (h : IsChecked (judge bytes
           rw (t, ← a, ← b) (record { answer = refl; bytes = refl })
       go (accepted d) q = absurd (let z : _≡_ {A = ℕ} 0 1 = cc in omega arith)
 
-  pub flatten-accepted : (s p t s′ p′ t′ : ℕ) → k .answer ≡ Accepted s p t → (s < 65536 → s′ ≡ s) → (p < 65536 → p′ ≡ p) → (t < 65536 → t′ ≡ t) → (out : List ℕ) (r : Written)
-      → ((c : Card) → Meets c → Loaded c (k .numbers) (k .starts) → Sizes c s′ p′ t′ → IsWritten (delivered (accepted c) (λ d. encode (flatten d)) buffer) r out)
+  pub flatten-accepted : (s p t s′ p′ t′ : ℕ) → k ≡ Accepted s p t → (s < 65536 → s′ ≡ s) → (p < 65536 → p′ ≡ p) → (t < 65536 → t′ ≡ t) → (out : List ℕ) (r : Written)
+      → ((c : Card) → Meets c → Loaded c numbers starts → Sizes c s′ p′ t′ → IsWritten (delivered (accepted c) (λ d. encode (flatten d)) buffer) r out)
       → IsWritten (flattenCall bytes buffer) r out
   unfolding flattenCall
-  flatten-accepted s p t s′ p′ t′ e es ep et out r g = go (judge bytes) refl (sym (ap checkOutcome e) ∙ h .answer) h
+  flatten-accepted s p t s′ p′ t′ e es ep et out r g = go (judge bytes) refl (sym (ap checkOutcome e) ∙ h .answer)
     where
-      go : (x : Judgement) → judge bytes ≡ x → checkOutcome (Accepted s p t) ≡ outcomeOf x → IsChecked x k → IsWritten (delivered x (λ d. encode (flatten d)) buffer) r out
-      go (refused n i) j q l = absurd (let z : _≡_ {A = ℕ} 0 1 = cc in omega arith)
-      go (accepted c) j q l =
+      go : (x : Judgement) → judge bytes ≡ x → checkOutcome (Accepted s p t) ≡ outcomeOf x → IsWritten (delivered x (λ d. encode (flatten d)) buffer) r out
+      go (refused n i) j q = absurd (let z : _≡_ {A = ℕ} 0 1 = cc in omega arith)
+      go (accepted c) j q =
           let m = accepted-meets bytes c j in
           let a : s ≡ length (c .subnets) = cc in
           let b : p ≡ length (c .places) = cc in
           let d : t ≡ length (c .transitions) = cc in
           let w = m .wellformed in
-          g c m (accepted-loaded c m k l) (record {
+          g c m (h .loaded c j) (record {
             subnets = es (omega (arith, a, w .fewSubnets)) ∙ a;
             places = ep (omega (arith, b, w .rows .fewPlaces)) ∙ b;
             transitions = et (omega (arith, d, w .rows .fewTransitions)) ∙ d;

@@ -3,3 +3,4 @@ pub mod FlatRowLaws
 pub mod FlatNumberLaws
 pub mod FlatPut
 pub mod FlatWrite
+pub mod FlatCardLaws

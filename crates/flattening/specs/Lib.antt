@@ -1,2 +1,3 @@
 pub mod Flattening
+pub mod FlatCards
 pub mod inner

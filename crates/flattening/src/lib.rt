@@ -9,7 +9,13 @@ use card::MOST_ARCS;
 use card::MOST_PLACES;
 use card::MOST_TRANSITIONS;
 use card::PLACE_FIELDS;
+use card::SMALL_CARD;
+use card::SMALL_TABLE;
+use card::STARTS;
+use card::TABLE;
 use card::TRANSITION_FIELDS;
+use card::reader::has_room;
+use card::tables::clear;
 use card::tables::limit;
 use card::tables::narrow;
 use card::tables::scale;
@@ -23,13 +29,20 @@ use hierarchy::write::write;
 use rows::flat_arcs;
 use rows::flat_places;
 use rows::flat_transitions;
+use tables::flat_tables;
+ghost use mathlib.Core.Path.{_≡_};
+ghost use mathlib.Core.Bool.{true};
+ghost use lib.ListN.{length};
 ghost use Rattle.card.specs.Card.{Card};
+ghost use Rattle.card.specs.Parsing.{readCard};
+ghost use Rattle.card.specs.Tables.{hasRoom, IsTable};
 ghost use Rattle.card.specs.Index.{Loaded};
 ghost use Rattle.card.specs.Writing.{encode};
 ghost use Rattle.hierarchy.specs.Conditions.{Meets};
-ghost use Rattle.hierarchy.specs.Judgement.{accepted};
+ghost use Rattle.hierarchy.specs.Judgement.{accepted, judge};
 ghost use Rattle.hierarchy.specs.Output.{delivered, IsWritten};
 ghost use Rattle.flattening.specs.Flattening.{flatten, flattenCall};
+ghost use Rattle.flattening.specs.FlatCards.{flatRoom, IsFlatCard, IsFlatTable, IsLentFlat};
 ghost use Rattle.flattening.specs.inner.FlatRows.{Sizes};
 
 // The most arcs of a card.
@@ -82,22 +95,97 @@ fn write_flat<'a>(
     )
 }
 
-// Flattens a card into a lent buffer. Two wrong flattenings that this rules out: one that leaves an arc's place counted in its subnet, and
-// one that tells a short buffer before the card's own refusal.
-pub fn flatten(card: &[u8], out: &mut [u8]) -> Written
+// Whether two tables of these lengths have room for the numbers of any card of so many bytes, and for those of its flat card.
+fn has_flat_room(bytes: usize, size: usize, flat_size: usize) -> bool
+    ensures { λ r. ⌜ r ≡ flatRoom bytes size «flat_size» ⌝ }
+{
+    if has_room(bytes, size) {
+        return size == flat_size;
+    }
+    false
+}
+
+// Flattens a card whose numbers are put in a lent table that has room for them.
+fn flatten_in(card: &[u8], numbers: &mut [u16], out: &mut [u8]) -> Written
+    requires { ⌜ hasRoom (length (now card)) (length (now numbers)) ≡ true ⌝ }
+    ensures { λ r. ⌜ length (now (numbers .exit)) ≡ length (now (numbers .entry)) ⌝ }
     ensures { λ r. ⌜ IsWritten (flattenCall (now (card .entry)) (now (out .entry))) r (now (out .exit)) ⌝ }
 {
-    let k = load(card);
+    let k = load(card, numbers);
     let a = k.answer;
     let Answer::Accepted(subnets, places, transitions) = a else {
         return check_refused(a);
     };
     write_flat(
-        &k.numbers,
+        numbers,
         &k.starts,
         narrow(subnets),
         narrow(places),
         narrow(transitions),
         out,
     )
+}
+
+// Flattens a card into a lent buffer. Two wrong flattenings that this rules out: one that leaves an arc's place counted in its subnet, and
+// one that tells a short buffer before the card's own refusal.
+pub fn flatten(card: &[u8], out: &mut [u8]) -> Written
+    ensures { λ r. ⌜ IsWritten (flattenCall (now (card .entry)) (now (out .entry))) r (now (out .exit)) ⌝ }
+{
+    if card.len() <= SMALL_CARD {
+        let mut numbers = [0; SMALL_TABLE];
+        return flatten_in(card, &mut numbers, out);
+    }
+    let mut numbers = [0; TABLE];
+    flatten_in(card, &mut numbers, out)
+}
+
+// The check's answer, and where the rows of the card and those of its flat card begin.
+pub struct FlatCard {
+    pub answer: Answer,
+    pub starts: [u32; STARTS],
+    pub flat_starts: [u32; STARTS],
+}
+
+// Loads a card and makes the tables of its flat card, in lent tables of one length that have room for them.
+fn load_flat_into(card: &[u8], numbers: &mut [u16], flat: &mut [u16]) -> FlatCard
+    requires { ⌜ flatRoom (length (now card)) (length (now numbers)) (length (now flat)) ≡ true ⌝ }
+    ensures { λ r. ⌜ length (now (numbers .exit)) ≡ length (now (numbers .entry)) ⌝ }
+    ensures { λ r. ⌜ length (now (flat .exit)) ≡ length (now (flat .entry)) ⌝ }
+    ensures { λ r. ⌜ IsFlatCard (now (card .entry)) r ⌝ }
+    ensures { λ r. ⌜ IsTable (readCard (now (card .entry))) (length (now (numbers .entry))) (now (numbers .exit)) ⌝ }
+    ensures { λ r. ⌜ IsFlatTable (judge (now (card .entry))) (length (now (flat .entry))) (now (flat .exit)) ⌝ }
+{
+    let k = load(card, numbers);
+    clear(flat);
+    let a = k.answer;
+    let Answer::Accepted(s, p, t) = a else {
+        return FlatCard {
+            answer: a,
+            starts: k.starts,
+            flat_starts: [0; STARTS],
+        };
+    };
+    let flat_starts = flat_tables(numbers, &k.starts, narrow(s), narrow(p), narrow(t), flat);
+    FlatCard {
+        answer: a,
+        starts: k.starts,
+        flat_starts,
+    }
+}
+
+// Loads a card, and makes the two tables of its flat card: no bytes are written or read in between, and the card's own tables are kept. Tables that
+// may be too small, or are not of one length, are left as they were. Two wrong ones that this rules out: one that makes a flat card of a
+// refused card, and one that leaves an arc's place counted in its subnet.
+pub fn load_flat(card: &[u8], numbers: &mut [u16], flat: &mut [u16]) -> FlatCard
+    ensures { λ r. ⌜ length (now (numbers .exit)) ≡ length (now (numbers .entry)) ⌝ }
+    ensures { λ r. ⌜ length (now (flat .exit)) ≡ length (now (flat .entry)) ⌝ }
+    ensures { λ r. ⌜ IsFlatCard (now (card .entry)) r ⌝ }
+    ensures { λ r. ⌜ IsLentFlat (now (card .entry)) (flatRoom (length (now (card .entry))) (length (now (numbers .entry))) (length (now (flat .entry)))) (now (numbers .entry)) (now (numbers .exit)) (now (flat .entry)) (now (flat .exit)) ⌝ }
+{
+    if has_flat_room(card.len(), numbers.len(), flat.len()) {
+        return load_flat_into(card, numbers, flat);
+    }
+    let mut own = [0; TABLE];
+    let mut own_flat = [0; TABLE];
+    load_flat_into(card, &mut own, &mut own_flat)
 }

@@ -1,58 +1,42 @@
 -- `flattening::flatten` meets its contract. Assumes nothing.
-use mathlib.Core.Path.{subst}
-use denote.Ref.{now}
-use Rattle.hierarchy.specs.declared.Answer.{Answer}
-use Rattle.hierarchy.specs.Output.{CheckRefused}
-use Rattle.flattening.proofs.FlatWrite.{flatten-refused, flatten-accepted}
+use borrow.Author.Tests.{le-leb}
 use borrow.Author.Needs.{needs}
 use Rattle.flattening.proofs.flatten.Statement.{statement}
 use Rattle.flattening.proofs.flatten.Tie as tie
 
-load-requires : tie.Need-load-requires
-load-requires c κs = search needs
+slice-aggregate-flatten-in : tie.Need-slice-aggregate-flatten-in
+slice-aggregate-flatten-in c = search needs
 
-enum-known-a : tie.Need-enum-known-a
-enum-known-a c = search needs
-
-enum-told : tie.Need-enum-told
-enum-told c = search needs
-
-check-refused-requires : tie.Need-check-refused-requires
-check-refused-requires c κs = search needs
-
-returns : tie.Need-returns
-returns c = flatten-refused (now ((c .before .before .before .before .before .before .args) .card)) (now ((c .before .before .before .before .before .before .args) .out)) ((c .before .before .before .load) .result) ((c .before .before .before .load) .ensures) _ _ ((c .check-refused) .result) ((c .before .enum-told) .given .1) (subst (λ (x : Answer). CheckRefused x ((c .check-refused) .result)) ((c .before .enum-told) .given .1) ((c .check-refused) .ensures))
-
-narrow-requires : tie.Need-narrow-requires
-narrow-requires c κs = search needs
-
-narrow-requires-2 : tie.Need-narrow-requires-2
-narrow-requires-2 c κs = search needs
-
-narrow-requires-3 : tie.Need-narrow-requires-3
-narrow-requires-3 c κs = search needs
-
-write-flat-requires : tie.Need-write-flat-requires
-write-flat-requires c κs = search needs
+flatten-in-requires : tie.Need-flatten-in-requires
+flatten-in-requires c κs = le-leb _ _ (c .before .before .if1 .taken)
 
 same-length : tie.Need-same-length
 same-length c = search needs
 
+returns : tie.Need-returns
+returns c = search needs
+
+slice-aggregate-flatten-in-2 : tie.Need-slice-aggregate-flatten-in-2
+slice-aggregate-flatten-in-2 c = search needs
+
+flatten-in-requires-2 : tie.Need-flatten-in-requires-2
+flatten-in-requires-2 c κs = search needs
+
+same-length-2 : tie.Need-same-length-2
+same-length-2 c = search needs
+
 returns-2 : tie.Need-returns-2
-returns-2 c = flatten-accepted (now ((c .before .before .before .before .before .before .before .before .before .before .before .before .before .before .before .before .before .before .args) .card)) (now ((c .before .before .before .before .before .before .before .before .before .before .before .before .before .before .before .before .before .before .args) .out)) ((c .before .before .before .before .before .before .before .before .before .before .before .before .before .before .before .load) .result) ((c .before .before .before .before .before .before .before .before .before .before .before .before .before .before .before .load) .ensures) _ _ _ ((c .before .before .before .before .before .before .narrow) .result) ((c .before .before .before .before .before .narrow2) .result) ((c .before .before .before .before .narrow3) .result) ((c .before .before .before .before .before .before .before .before .before .before .before .before .before .a) .given .1) ((c .before .before .before .before .before .before .narrow) .ensures .0) ((c .before .before .before .before .before .narrow2) .ensures .0) ((c .before .before .before .before .narrow3) .ensures .0) _ ((c .before .before .write-flat) .result) ((c .before .before .write-flat) .ensures)
+returns-2 c = search needs
 
 pub flatten-spec : {M : Type 1} → statement M
 flatten-spec =
     tie.close
     (tie.spec
-    load-requires
-    enum-known-a
-    enum-told
-    check-refused-requires
-    returns
-    narrow-requires
-    narrow-requires-2
-    narrow-requires-3
-    write-flat-requires
+    slice-aggregate-flatten-in
+    flatten-in-requires
     same-length
+    returns
+    slice-aggregate-flatten-in-2
+    flatten-in-requires-2
+    same-length-2
     returns-2)

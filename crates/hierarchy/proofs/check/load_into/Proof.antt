@@ -20,8 +20,7 @@ returns : tie.Need-returns
 returns c =
     let a = c .before .before .before .before .before .before .before .before .before .before .before .before .args in
     let x = c .before .before .before .before .before .before .before .before .read in
-    let t = lent-is _ _ (now (a .numbers)) (x .last .1 .0) (x .ensures .1 .1) (c .before .before .before .before .before .before .before .before .before .before .before .before .pre) in
-    (
+    let t = lent-is _ _ (now (a .numbers)) (x .last .1 .0) (x .ensures .1 .1) (c .before .before .before .before .before .before .before .before .before .before .before .before .pre) in (
       x .ensures .0,
       (record { answer = c .before .answer-to .ensures (now (a .card)) (read-into (now (a .card)) (x .result) (now (a .numbers)) (x .last .1 .0) (x .ensures .1 .0) (x .ensures .0) t); starts = x .ensures .1 .0 .starts }, t),
     )

@@ -1,4 +1,4 @@
--- `card::reader::clear` meets its contract. Assumes nothing.
+-- `card::tables::clear` meets its contract. Assumes nothing.
 use Prim.Native.Nat.{ℕ, _-_}
 use mathlib.Core.Path.{refl}
 use native.Mathlib.Omega.{arith}
@@ -6,8 +6,8 @@ use denote.Ref.{now}
 use lib.ListN.{length}
 use Rattle.card.proofs.ReadLaws.{Cleared, cleared-more, cleared-done}
 use borrow.Author.Needs.{needs}
-use Rattle.card.proofs.reader.clear.Statement.{statement}
-use Rattle.card.proofs.reader.clear.Tie as tie
+use Rattle.card.proofs.tables.clear.Statement.{statement}
+use Rattle.card.proofs.tables.clear.Tie as tie
 
 abbrev Inv-loop : tie.InvT-loop
 Inv-loop numbers₀ i₀ numbers i = Cleared numbers₀ numbers i
