@@ -12,7 +12,7 @@ use Rattle.card.specs.Card.{Card, draws, fills, placeAt}
 use Rattle.card.proofs.Sums.{sum-same}
 use Rattle.hierarchy.specs.Conditions.{Meets}
 use Rattle.flattening.specs.Flattening.{flatten}
-use Rattle.runners.specs.State.{entry, transfer, remaining, incidence, flow, owed, due, fullMarking, covered}
+use Rattle.runners.specs.State.{scale, entry, transfer, remaining, incidence, flow, owed, due, fullMarking, covered}
 use Rattle.runners.specs.Calls.{view}
 use Rattle.runners.specs.Columns.{Grown, codeOf, transferOf, codeAt, Columns}
 use Rattle.runners.specs.Visits.{posting, turnIn}
@@ -30,7 +30,7 @@ use Rattle.runners.proofs.TransferLaws.{transfer-code, remaining-coded}
 use Rattle.runners.proofs.FewLaws.{claims-few}
 
 -- a column of zeros that has grown by a flow holds it: it is so small that nothing goes round
-pub board-exact : (c : Card) → Meets c → (amount : ℕ → ℕ) → ((t : ℕ) → t < length (c .transitions) → amount t ≤ 1000) → (way : ℕ) (z o : List ℕ) → length z ≡ 255
+pub board-exact : (c : Card) → Meets c → (amount : ℕ → ℕ) → ((t : ℕ) → t < length (c .transitions) → amount t ≤ scale (flatten c)) → (way : ℕ) (z o : List ℕ) → length z ≡ 255
     → ((p : ℕ) → entry z p ≡ 0) → Grown z o (flow (flatten c) amount way) → (p : ℕ) → p < length (c .places) → entry o p ≡ flow (flatten c) amount way p
 board-exact c m amount few way z o long zeros g p l =
     let n = claims-few c m amount few way p in

@@ -135,7 +135,7 @@ product-fits a b l m =
 
 -- whether each arc allows the transition to start
 module _ (c : Card) (numbers starts : List ℕ) (h : InTables c numbers starts) (i t j : ℕ) (b : Lists c i t) (l : j < (transitionAt c t) .arcs) (a : declared.Arc) (e : arcOf a ≡ arcAt c t j) (p : ℕ)
-    (f : p ≡ getD starts (firstPlaceStart (a .subnet)) 0 + a .place) (markings owed due : List ℕ) (m w : ℕ) (em : m ≡ entry markings p) (ew : w ≡ 1000 * a .weight) where
+    (f : p ≡ getD starts (firstPlaceStart (a .subnet)) 0 + a .place) (markings owed due : List ℕ) (m w u : ℕ) (em : m ≡ entry markings p) (ew : w ≡ u * a .weight) (eu : u ≡ scale (flatten c)) where
   abbrev g : Arc
   g = arcAt (flatten c) t j
 
@@ -143,8 +143,7 @@ module _ (c : Card) (numbers starts : List ℕ) (h : InTables c numbers starts) 
   at = flat-is c numbers starts h (transitionRow c i t) i t (record { lists = b; at = refl }) j l a e p f
 
   weight : w ≡ scale (flatten c) * g .weight
-  unfolding scale
-  weight = rw (arc-flat c t j) (ew ∙ ap (λ (z : Arc). 1000 * z .weight) e)
+  weight = rw (arc-flat c t j) (ew ∙ ap₂ (λ (x : ℕ) (z : Arc). x * z .weight) eu e)
 
   direction : a .direction ≡ g .direction
   direction = rw (arc-flat c t j) (ap (λ (z : Arc). z .direction) e)
@@ -154,12 +153,8 @@ module _ (c : Card) (numbers starts : List ℕ) (h : InTables c numbers starts) 
   allows-draws o eo d =
       rw (eq-eqb (g .direction) draws (sym direction ∙ d)) (ap₂ leb (ap₂ (λ (x y : ℕ). x + y) (eo ∙ ap (entry owed) at) weight) (em ∙ ap (entry markings) at))
 
-  scaled : (k : ℕ) → 1000 * k ≡ scale (flatten c) * k
-  unfolding scale
-  scaled k = refl
-
   pub allows-fills : (o k row : ℕ) → o ≡ entry due p → (a .direction ≡ 0 → ⊥) → row ≡ getD starts (a .subnet) 0 → k ≡ getD numbers (placeField row (a .place) 1) 0
-      → leb (m + o + w) (1000 * k) ≡ allows (flatten c) (posted owed due) markings g
+      → leb (m + o + w) (u * k) ≡ allows (flatten c) (posted owed due) markings g
   unfolding allows
   allows-fills o k row eo d er ek =
       rw (ne-eqb (g .direction) draws (λ z. d (direction ∙ z))) (ap₂ leb (ap₂ (λ (x y : ℕ). x + y) (ap₂ (λ (x y : ℕ). x + y) (em ∙ ap (entry markings) at) (eo ∙ ap (entry due) at)) weight) room)
@@ -172,5 +167,5 @@ module _ (c : Card) (numbers starts : List ℕ) (h : InTables c numbers starts) 
           capacity-of c numbers starts (h .loaded) ((arcAt c t j) .subnet) row ((arcAt c t j) .place) k (x .0) (x .1) (er ∙ ap (λ (z : Arc). getD starts (z .subnet) 0) e)
           (ek ∙ ap (λ (z : Arc). getD numbers (placeField row (z .place) 1) 0) e)
 
-      room : 1000 * k ≡ fullMarking (flatten c) (g .place)
-      room = scaled k ∙ rw (place-flat c (g .place), arc-flat c t j, cap)
+      room : u * k ≡ fullMarking (flatten c) (g .place)
+      room = ap (λ (x : ℕ). x * k) eu ∙ rw (place-flat c (g .place), arc-flat c t j, cap)

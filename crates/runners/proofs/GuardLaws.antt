@@ -1,6 +1,6 @@
 -- What the tests in front of a step decide, over plain values. Assumes nothing.
 use Prim.Native.Nat.{ℕ, _+_, _-_, _*_, _≤_, _<_}
-use mathlib.Core.Path.{_≡_, refl, sym, ap, subst, _∙_}
+use mathlib.Core.Path.{_≡_, refl, sym, ap, ap₂, subst, _∙_}
 use mathlib.Core.Logic.{_⊎_, inl, inr}
 use mathlib.Core.Bool.{Bool, true, false, not, _&&_, false≢true}
 use mathlib.Core.List.{List, map}
@@ -33,6 +33,7 @@ use Rattle.runners.specs.declared.places.PlaceNumber.the-variants.{Capac
 use Rattle.runners.specs.declared.State.{State as Lent}
 use Rattle.runners.specs.declared.Refusal.the-variants.{BadRow, BadDegree}
 use Rattle.runners.specs.declared.Reply.the-variants.{Ok, No}
+use Rattle.runners.proofs.ScaleLaws.{scale-flat}
 use Rattle.runners.proofs.VisitLaws.{every-same}
 use Rattle.runners.proofs.VerdictLaws.{lowest-below, verdict-is}
 use Rattle.runners.proofs.FewLaws.{remaining-few}
@@ -40,47 +41,49 @@ use Rattle.runners.proofs.MovedLaws.{moved-same}
 use Rattle.runners.proofs.BoardLaws.{board-exact, marking-seen, covered-seen, codes-flow}
 
 -- a row's degrees
-abbrev pub high : (row : List ℕ) → (g : ℕ) → Bool
-high row g = ltb 1000 (entry row g)
+abbrev pub high : (u : ℕ) → (row : List ℕ) → (g : ℕ) → Bool
+high u row g = ltb u (entry row g)
 
-pub high-past : (row : List ℕ) (g n : ℕ) → Below g (high row) false → length row ≤ g → Below n (high row) false
-high-past row g n h l k b = go (lt-or-ge k g)
+pub high-past : (u : ℕ) (row : List ℕ) (g n : ℕ) → Below g (high u row) false → length row ≤ g → Below n (high u row) false
+high-past u row g n h l k b = go (lt-or-ge k g)
   where
-    go : (k < g) ⊎ (g ≤ k) → high row k ≡ false
+    go : (k < g) ⊎ (g ≤ k) → high u row k ≡ false
     go (inl d) = h k d
-    go (inr d) = le-ltb 1000 (entry row k) (omega (arith, List·getD-eq-default row 0 {n = k} (omega arith)))
+    go (inr d) = le-ltb u (entry row k) (omega (arith, List·getD-eq-default row 0 {n = k} (omega arith)))
 
-module _ (c : Card) (row : List ℕ) (n : ℕ) (en : n ≡ c .signals) where
+module _ (c : Card) (row : List ℕ) (n u : ℕ) (en : n ≡ c .signals) (eu : u ≡ scale c) where
   pub row-long : ¬ (length row ≡ n) → No BadRow ≡ replyOf (rowFault c row)
   unfolding rowFault
   row-long d = rw (← en, ne-eqb (length row) n d)
 
   abbrev firstHigh : Option ℕ
-  firstHigh = lowest 0 n (high row)
+  firstHigh = lowest 0 (c .signals) (high (scale c) row)
 
-  pub row-high : (g : ℕ) → length row ≡ n → g ≡ orPast n firstHigh → g < n → No (BadDegree g) ≡ replyOf (rowFault c row)
-  unfolding rowFault scale
-  row-high g e eg l = rw (← en, eq-eqb (length row) n e) (go firstHigh eg)
+  told : (g : ℕ) → g ≡ orPast n (lowest 0 n (high u row)) → g ≡ orPast (c .signals) firstHigh
+  told g e = e ∙ ap₂ (λ (m k : ℕ). orPast m (lowest 0 m (high k row))) en eu
+
+  pub row-high : (g : ℕ) → length row ≡ n → g ≡ orPast n (lowest 0 n (high u row)) → g < n → No (BadDegree g) ≡ replyOf (rowFault c row)
+  unfolding rowFault
+  row-high g e eg l = rw (eq-eqb (length row) (c .signals) (e ∙ en)) (go firstHigh (told g eg))
     where
-      go : (o : Option ℕ) → g ≡ orPast n o → No (BadDegree g) ≡ replyOf (Option·map BadDegree o)
-      go none q = absurd (omega arith)
+      go : (o : Option ℕ) → g ≡ orPast (c .signals) o → No (BadDegree g) ≡ replyOf (Option·map BadDegree o)
+      go none q = absurd (omega (arith, en))
       go (some p) q = rw q
 
-  pub row-fits : (g : ℕ) → length row ≡ n → g ≡ orPast n firstHigh → n ≤ g → Ok ≡ replyOf (rowFault c row)
-  unfolding rowFault scale
-  row-fits g e eg l = rw (← en, eq-eqb (length row) n e) (go firstHigh refl eg)
+  pub row-fits : (g : ℕ) → length row ≡ n → g ≡ orPast n (lowest 0 n (high u row)) → n ≤ g → Ok ≡ replyOf (rowFault c row)
+  unfolding rowFault
+  row-fits g e eg l = rw (eq-eqb (length row) (c .signals) (e ∙ en)) (go firstHigh refl (told g eg))
     where
-      go : (o : Option ℕ) → firstHigh ≡ o → g ≡ orPast n o → Ok ≡ replyOf (Option·map BadDegree o)
+      go : (o : Option ℕ) → firstHigh ≡ o → g ≡ orPast (c .signals) o → Ok ≡ replyOf (Option·map BadDegree o)
       go none w q = refl
-      go (some p) w q = absurd (omega (arith, lowest-below 0 n (high row) p w))
+      go (some p) w q = absurd (omega (arith, lowest-below 0 (c .signals) (high (scale c) row) p w, en))
 
 -- the ranges of a state
 pub idle-range : (c : Card) (x : Transfer) → x ≡ Idle → true ≡ inRange c x
 idle-range c x e = rw e
 
-pub carrying-range : (c : Card) (x : Transfer) (n : ℕ) → x ≡ Carrying n → ltb n 1000 ≡ inRange c x
-unfolding scale
-carrying-range c x n e = rw e
+pub carrying-range : (c : Card) (x : Transfer) (n u : ℕ) → u ≡ scale c → x ≡ Carrying n → ltb n u ≡ inRange c x
+carrying-range c x n u h e = rw (e, h)
 
 module _ (c : Card) (l : Lent) (h : Counts c l) where
   -- the transfers
@@ -101,15 +104,14 @@ module _ (c : Card) (l : Lent) (h : Counts c l) where
   abbrev low : ℕ → Bool
   low g = leb (entry ((view l) .degrees) g) (scale c)
 
-  degree-seen : (g : ℕ) → g < l .signals → low g ≡ leb (entry (l .degrees) g) 1000
-  unfolding scale
-  degree-seen g b = ap (λ (n : ℕ). leb n 1000) (getD-take (l .signals) (l .degrees) g 0 b)
+  degree-seen : (u g : ℕ) → u ≡ scale c → g < l .signals → low g ≡ leb (entry (l .degrees) g) u
+  degree-seen u g e b = ap₂ leb (getD-take (l .signals) (l .degrees) g 0 b) (sym e)
 
-  pub degrees-bad : (g : ℕ) → g < l .signals → 1000 < entry (l .degrees) g → false ≡ every (c .signals) low
-  degrees-bad g b d = sym (every-none (c .signals) g low (omega (arith, h .signals)) (degree-seen g b ∙ lt-leb (entry (l .degrees) g) 1000 d))
+  pub degrees-bad : (u g : ℕ) → u ≡ scale c → g < l .signals → u < entry (l .degrees) g → false ≡ every (c .signals) low
+  degrees-bad u g e b d = sym (every-none (c .signals) g low (omega (arith, h .signals)) (degree-seen u g e b ∙ lt-leb (entry (l .degrees) g) u d))
 
-  pub degrees-good : (g : ℕ) → l .signals ≤ g → Below g (λ i. leb (entry (l .degrees) i) 1000) true → true ≡ every (c .signals) low
-  degrees-good g b w = sym (every-all (c .signals) (c .signals) low (λ i d. let e : i < l .signals = omega (arith, h .signals) in degree-seen i e ∙ w i (omega arith)) (omega arith))
+  pub degrees-good : (u g : ℕ) → u ≡ scale c → l .signals ≤ g → Below g (λ i. leb (entry (l .degrees) i) u) true → true ≡ every (c .signals) low
+  degrees-good u g eu b w = sym (every-all (c .signals) (c .signals) low (λ i d. let e : i < l .signals = omega (arith, h .signals) in degree-seen u i eu e ∙ w i (omega arith)) (omega arith))
 
 -- A place is covered by what the transitions post on a board of zeros.
 module _ (c : Card) (l : Lent) (h : Counts c l) (m : Meets c) (full : List ℕ) (x : Filled Capacity c full) (z : List ℕ) (long : length z ≡ 255) (zeros : (p : ℕ) → entry z p ≡ 0)
@@ -147,9 +149,8 @@ and-split true false d e f = absurd (false≢true e)
 and-split false b d e f = refl
 
 range-flat : (c : Card) (x : Transfer) → inRange (flatten c) x ≡ inRange c x
-unfolding scale
 range-flat c Idle = refl
-range-flat c (Carrying n) = refl
+range-flat c (Carrying n) = ap (ltb n) (scale-flat c)
 
 module _ (c : Card) (l : Lent) where
   abbrev coveredAll : Bool
@@ -162,8 +163,12 @@ module _ (c : Card) (l : Lent) where
   lowAll = every (c .signals) (λ g. leb (entry ((view l) .degrees) g) (scale c))
 
   valid-parts : valid (flatten c) l ≡ (eqb (l .places) (length (c .places)) && eqb (l .transitions) (length (c .transitions)) && eqb (l .signals) (c .signals) && (coveredAll && rangedAll && lowAll))
-  unfolding valid consistent flatten scale
-  valid-parts = rw (map-length flatPlaceRow (c .places), every-same (length (c .transitions)) _ (λ t. inRange c (transfer ((view l) .transfers) t)) (λ t b. range-flat c (transfer ((view l) .transfers) t)))
+  unfolding valid consistent flatten
+  valid-parts = rw (
+    map-length flatPlaceRow (c .places),
+    every-same (length (c .transitions)) _ (λ t. inRange c (transfer ((view l) .transfers) t)) (λ t b. range-flat c (transfer ((view l) .transfers) t)),
+    every-same (c .signals) _ (λ g. leb (entry ((view l) .degrees) g) (scale c)) (λ g b. ap (leb (entry ((view l) .degrees) g)) (scale-flat c)),
+  )
 
   pub places-off : ¬ (l .places ≡ length (c .places)) → false ≡ valid (flatten c) l
   places-off d = sym (valid-parts ∙ rw (ne-eqb (l .places) (length (c .places)) d))

@@ -1,3 +1,4 @@
+pub mod ScaleLaws
 pub mod StepLaws
 pub mod StateLaws
 pub mod TransferLaws

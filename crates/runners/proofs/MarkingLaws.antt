@@ -1,6 +1,6 @@
 -- The columns by flat place that are made of a card are filled subnet by subnet. Assumes nothing.
 use Prim.Native.Nat.{ℕ, suc, _+_, _*_, _≤_, _<_}
-use mathlib.Core.Path.{_≡_, refl, sym, ap, subst, _∙_}
+use mathlib.Core.Path.{_≡_, refl, sym, ap, ap₂, subst, _∙_}
 use mathlib.Core.Logic.{_⊎_, inl, inr}
 use mathlib.Core.List.{List}
 use native.Mathlib.Omega.{arith}
@@ -32,9 +32,8 @@ number-flat : (which : PlaceNumber) (c : Card) (p : ℕ) → numberOf which (pla
 number-flat Capacity c p = rw (place-flat c p) refl
 number-flat Tokens c p = rw (place-flat c p) refl
 
-module _ (which : PlaceNumber) (c : Card) (p v : ℕ) (column : List ℕ) (few : p < 255) (e : v ≡ 1000 * numberOf which (placeAt c p)) (h : FilledTo which c p column) where
+module _ (which : PlaceNumber) (c : Card) (p v : ℕ) (column : List ℕ) (few : p < 255) (e : v ≡ scale (flatten c) * numberOf which (placeAt c p)) (h : FilledTo which c p column) where
   pub filled-more : FilledTo which c (p + 1) (set column p v)
-  unfolding scale
   filled-more =
       record {
         long = length-set column p v ∙ h .long;
@@ -42,11 +41,11 @@ module _ (which : PlaceNumber) (c : Card) (p v : ℕ) (column : List ℕ) (few :
         zeros = λ q g. getD-set-other column p q v 0 (λ i. omega arith) ∙ h .zeros q (omega arith);
       }
     where
-      at : (q : ℕ) → q < p + 1 → (q < p) ⊎ (p ≤ q) → entry (set column p v) q ≡ 1000 * numberOf which (placeAt (flatten c) q)
-      at q g (inl i) = getD-set-other column p q v 0 (λ j. omega arith) ∙ (unfold scale in h .first q i)
+      at : (q : ℕ) → q < p + 1 → (q < p) ⊎ (p ≤ q) → entry (set column p v) q ≡ scale (flatten c) * numberOf which (placeAt (flatten c) q)
+      at q g (inl i) = getD-set-other column p q v 0 (λ j. omega arith) ∙ h .first q i
       at q g (inr i) =
           let j : q ≡ p = omega arith in
-          rw j (getD-set-same column p v 0 (omega (arith, h .long)) ∙ e ∙ ap (λ (n : ℕ). 1000 * n) (number-flat which c p))
+          rw j (getD-set-same column p v 0 (omega (arith, h .long)) ∙ e ∙ ap (λ (n : ℕ). scale (flatten c) * n) (number-flat which c p))
 
 -- where the places of a subnet stand
 module _ (c : Card) (m : Meets c) where
@@ -62,13 +61,13 @@ module _ (c : Card) (m : Meets c) where
     places-in row count er ec = ec ∙ rw er (h .laid .subnet s l .places)
 
     -- one place more of subnet s
-    pub subnet-more : (which : PlaceNumber) (row first count n v k : ℕ) (column column′ : List ℕ) → row ≡ subnetRow c s → first ≡ firstPlace c s → count ≡ getD numbers (row + 2) 0 → n < count
-        → (n < (subnetAt c s) .places → k ≡ numberOf which (placeAt c (firstPlace c s + n))) → v ≡ 1000 * k → column′ ≡ set column (first + n) v
+    pub subnet-more : (which : PlaceNumber) (row first count n v u k : ℕ) (column column′ : List ℕ) → row ≡ subnetRow c s → first ≡ firstPlace c s → count ≡ getD numbers (row + 2) 0 → n < count
+        → (n < (subnetAt c s) .places → k ≡ numberOf which (placeAt c (firstPlace c s + n))) → v ≡ u * k → u ≡ scale (flatten c) → column′ ≡ set column (first + n) v
         → FilledTo which c (firstPlace c s + n) column → FilledTo which c (firstPlace c s + (n + 1)) column′
-    subnet-more which row first count n v k column column′ er ef ec b ek ev es x =
+    subnet-more which row first count n v u k column column′ er ef ec b ek ev eu es x =
         let d : n < (subnetAt c s) .places = omega (arith, places-in row count er ec) in
         let q : firstPlace c s + n + 1 ≡ firstPlace c s + (n + 1) = omega arith in
-        rw (es, ef, ← q) (filled-more which c (firstPlace c s + n) v column (omega (arith, few-places (suc s) l, next-place s)) (ev ∙ ap (λ (i : ℕ). 1000 * i) (ek d)) x)
+        rw (es, ef, ← q) (filled-more which c (firstPlace c s + n) v column (omega (arith, few-places (suc s) l, next-place s)) (ev ∙ ap₂ (λ (y i : ℕ). y * i) eu (ek d)) x)
 
     pub subnet-end : (which : PlaceNumber) (row count n : ℕ) (column : List ℕ) → row ≡ subnetRow c s → count ≡ getD numbers (row + 2) 0 → n ≤ count → count ≤ n
         → FilledTo which c (firstPlace c s + n) column → FilledTo which c (firstPlace c (suc s)) column

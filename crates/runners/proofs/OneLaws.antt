@@ -12,7 +12,7 @@ use Rattle.card.specs.Finite.{every}
 use Rattle.card.specs.Card.{Card, transitionAt, arcAt, firstTransition}
 use Rattle.card.specs.Index.{firstTransitionStart, transitionRowStart}
 use Rattle.flattening.specs.Flattening.{flatten}
-use Rattle.runners.specs.State.{NetState, Claims, scale, entry, transfer, remaining}
+use Rattle.runners.specs.State.{NetState, Claims, entry, transfer, remaining}
 use Rattle.runners.specs.Step.{idle, allows, candidateOn, startedOn, rise, movesOn}
 use Rattle.runners.specs.Columns.{Moved, Grown, posted}
 use Rattle.runners.specs.Visits.{InTables}
@@ -64,14 +64,16 @@ starts-not degree b e = rw e refl
 pub starts-if : (degree : ℕ) (a b : Bool) → (degree ≡ 0 → ⊥) → a ≡ b → a ≡ (ltb 0 degree && b)
 starts-if degree a b n e = rw (lt-ltb 0 degree (omega arith)) e
 
-pub claim-all : (f : Card) (b : Bool) → b ≡ true → 1000 ≡ cond b (scale f) 0
-unfolding scale
-claim-all f b e = rw e refl
+pub claim-all : (u : ℕ) (b : Bool) → b ≡ true → u ≡ cond b u 0
+claim-all u b e = rw e refl
 
-pub claim-none : (f : Card) (b : Bool) → b ≡ false → 0 ≡ cond b (scale f) 0
-claim-none f b e = rw e refl
+pub claim-none : (u : ℕ) (b : Bool) → b ≡ false → 0 ≡ cond b u 0
+claim-none u b e = rw e refl
 
--- how far a transition moves
+-- how far a transition moves: no more than remains,
+pub moves-within : (f : Card) (s : NetState) (found : ℕ → Bool) (row : List ℕ) (t d : ℕ) (x : Transfer) → d ≡ movesOn f found s row t → x ≡ startedOn found (s .transfers) t → d ≤ remaining f x
+moves-within f s found row t d x e ex = omega (arith, e, ap (remaining f) ex)
+
 module _ (c : Card) (s : NetState) (found : ℕ → Bool) (row degrees : List ℕ) (t : ℕ) (x : Transfer) (rest : ℕ) (er : rest ≡ remaining (flatten c) x) (ex : x ≡ startedOn found (s .transfers) t) where
   left : rest ≡ remaining (flatten c) (startedOn found (s .transfers) t)
   left = er ∙ ap (remaining (flatten c)) ex

@@ -22,11 +22,8 @@ use Rattle.runners.specs.Calls.{inRange, consistent}
 use Rattle.runners.specs.declared.Transfer.{Transfer}
 use Rattle.runners.specs.declared.Transfer.the-variants.{Idle, Carrying}
 use Rattle.runners.specs.declared.Refusal.the-variants.{BadDegree, Conflict}
+use Rattle.runners.proofs.ScaleLaws.{scale-some}
 use Rattle.runners.proofs.StepLaws.{Covered, covered-is, arrived-at, safe-step}
-
-pub scale-some : (f : Card) → 0 < scale f
-unfolding scale
-scale-some f = omega arith
 
 abbrev pub InRange : Card → Transfer → Type 0
 InRange f Idle = Unit {0}

@@ -6,12 +6,13 @@ use mathlib.Core.Bool.{Bool, true, false, not, _&&_, cond, false≢true}
 use mathlib.Core.List.{List, _++_, map}
 use mathlib.Core.Option.{Option, none, some, Option·map, Option·some-ne-none}
 use native.Mathlib.Omega.{arith}
+use native.Mathlib.Nat.{mul-le-mul}
 use lib.ListN.{length, getD, set, drop, length-append, length-drop, List·getD-append}
 use lib.Seq.{getD-drop, getD-append-add, ext-getD}
 use lib.Dec.{ltb, eqb}
 use borrow.Author.Tests.{eqb-true, le-leb}
 use Rattle.card.specs.Finite.{table, someIf, someUnless, firstOf, lowest, _otherwise_}
-use Rattle.card.specs.Card.{Card, draws, fills, firstPlace}
+use Rattle.card.specs.Card.{Card, draws, fills, placeAt, firstPlace}
 use Rattle.card.proofs.Sums.{sum-zero, table-at, table-length, map-length}
 use Rattle.card.proofs.BitLaws.{lt-or-ge}
 use Rattle.card.proofs.Copy.{Copying, copy-start, copy-more, copy-done}
@@ -41,6 +42,7 @@ use Rattle.runners.specs.declared.places.PlaceNumber.the-variants.{Capac
 use Rattle.runners.specs.declared.Refusal.the-variants.{BadRow, BadDegree, Conflict}
 use Rattle.runners.specs.declared.Reply.the-variants.{Ok, No}
 use Rattle.runners.specs.declared.RowAnswer.{RowAnswer}
+use Rattle.runners.proofs.ScaleLaws.{scale-few}
 use Rattle.runners.proofs.OwnerLaws.{owned-below}
 use Rattle.runners.proofs.MovedLaws.{moved-exact}
 use Rattle.runners.proofs.TransferLaws.{transfer-code, coded, slot-at}
@@ -198,11 +200,10 @@ module _ (c : Card) (m : Meets c) (before : NetState) (row ms xs : List ℕ) (h 
               unclaimed : candidate f before row t ≡ false → amount finding (stepTurn c before row) t ≡ 0
               unclaimed q = (unfold candidate in rw q refl)
 
-      few-2 : (t : ℕ) → t < T → amount finding (stepTurn c before row) t ≤ 1000
-      unfolding scale
+      few-2 : (t : ℕ) → t < T → amount finding (stepTurn c before row) t ≤ scale f
       few-2 t b = small (candidateOn f (stepTurn c before row .standing) before row t)
         where
-          small : (e : Bool) → cond e 1000 0 ≤ 1000
+          small : (e : Bool) → cond e (scale f) 0 ≤ scale f
           small true = omega arith
           small false = omega arith
 
@@ -262,9 +263,8 @@ module _ (c : Card) (m : Meets c) (l : Lent) (v : valid (flatten c) l ≡ true) 
   counts = valid-counts c l v
 
   uncoded : (x : Transfer) → InRange (flatten c) x → x ≡ Carrying 65535 → ⊥
-  unfolding scale
   uncoded Idle b e = let i : _≡_ {A = ℕ} 0 1 = cc in omega arith
-  uncoded (Carrying n) b e = let i : n ≡ 65535 = cc in omega arith
+  uncoded (Carrying n) b e = let i : n ≡ 65535 = cc in omega (arith, scale-few (flatten c))
 
   ranged : (t : ℕ) → t < length (c .transitions) → InRange (flatten c) (transfer (was .transfers) t)
   unfolding flatten
@@ -300,9 +300,8 @@ module _ (c : Card) (m : Meets c) (l : Lent) (v : valid (flatten c) l ≡ true) 
       few-p : (p : ℕ) → p < length (c .places) → p < 255
       few-p p b = omega (arith, m .wellformed .rows .fewPlaces)
 
-      room : (p : ℕ) → p < length (c .places) → fullMarking (flatten c) p ≤ 255000
-      unfolding scale
-      room p b = omega (arith, flat-place c m p b .capacity)
+      room : (p : ℕ) → p < length (c .places) → fullMarking (flatten c) p ≤ 2550000
+      room p b = let k : (placeAt (flatten c) p) .capacity ≤ 255 = flat-place c m p b .capacity in mul-le-mul (scale-few (flatten c)) k
 
       flow-past : (way p : ℕ) → length (c .places) ≤ p → flow (flatten c) (amount moving (stepTurn c was row)) way p ≡ 0
       flow-past way p b =

@@ -1,5 +1,5 @@
 -- A transfer and its number, and a lent state's transfers as a list of such numbers. Assumes nothing.
-use Prim.Native.Nat.{ℕ, zero, suc, _+_, _-_, _≤_, _<_}
+use Prim.Native.Nat.{ℕ, zero, suc, _+_, _-_, _%_, _≤_, _<_}
 use mathlib.Core.Path.{_≡_, refl, sym, ap, _∙_}
 use mathlib.Core.Logic.{_⊎_, inl, inr}
 use mathlib.Core.Bool.{Bool, true, false, cond}
@@ -21,6 +21,7 @@ use Rattle.runners.specs.declared.Transfer.{Transfer}
 use Rattle.runners.specs.declared.Transfer.the-variants.{Idle, Carrying}
 use Rattle.runners.specs.declared.Slot.{Slot}
 use Rattle.runners.specs.declared.State.{State as Lent}
+use Rattle.runners.proofs.ScaleLaws.{scale-few}
 
 -- an entry that is there, whatever stands for one that is not
 default-free : {A : Type 0} (d e : A) (xs : List A) (t : ℕ) → t < length xs → getD xs t d ≡ getD xs t e
@@ -53,12 +54,11 @@ code-past xs t l = sym (transfer-code xs t ∙ ap transferOf (List·getD-eq-defa
 pub rest-idle : (f : Card) (x : Transfer) → x ≡ Idle → 0 ≡ remaining f x
 rest-idle f x e = rw e refl
 
-pub rest-carrying : (f : Card) (x : Transfer) (c : ℕ) → x ≡ Carrying c → 1000 - c ≡ remaining f x
-unfolding scale
-rest-carrying f x c e = rw e refl
+pub rest-carrying : (f : Card) (x : Transfer) (c u : ℕ) → u ≡ scale f → x ≡ Carrying c → u - c ≡ remaining f x
+rest-carrying f x c u h e = rw (e, h) refl
 
-pub rest-none : (f : Card) (x : Transfer) (c : ℕ) → x ≡ Carrying c → 1000 ≤ c → 0 ≡ remaining f x
-rest-none f x c e l = let z : 0 ≡ 1000 - c = omega arith in z ∙ rest-carrying f x c e
+pub rest-none : (f : Card) (x : Transfer) (c u : ℕ) → u ≡ scale f → x ≡ Carrying c → u ≤ c → 0 ≡ remaining f x
+rest-none f x c u h e l = let z : 0 ≡ u - c = omega arith in z ∙ rest-carrying f x c u h e
 
 -- nothing remains of the one progress that is told as idle
 pub remaining-coded : (f : Card) (x : Transfer) → remaining f (transferOf (codeOf x)) ≡ remaining f x
@@ -66,26 +66,22 @@ remaining-coded f Idle = refl
 remaining-coded f (Carrying c) = go (eqb c idleCode) refl
   where
     go : (b : Bool) → eqb c idleCode ≡ b → remaining f (cond b Idle (Carrying c)) ≡ remaining f (Carrying c)
-    go true e = rest-none f (Carrying c) c refl (omega (arith, eqb-true c idleCode e))
+    go true e = rest-none f (Carrying c) c (scale f) refl refl (omega (arith, eqb-true c idleCode e, scale-few f))
     go false e = refl
 
 -- a transfer that advances
-blank-card : Card
-blank-card = record { version = 0; signals = 0; limit = 0; scale = 0; subnets = []; places = []; transitions = []; arcs = [] }
-
 pub still-idle : (f : Card) (x : Transfer) (d : ℕ) → x ≡ Idle → Idle ≡ advanced f x d
 still-idle f x d e = rw e refl
 
-pub advanced-all : (f : Card) (x : Transfer) (c d : ℕ) → x ≡ Carrying c → c + d ≡ 1000 → Idle ≡ advanced f x d
-unfolding scale
-advanced-all f x c d e h = rw (e, eq-eqb (c + d) 1000 h)
+module _ (f : Card) (x : Transfer) (c d n u : ℕ) (e : x ≡ Carrying c) (l : c < 65536) (s : n ≡ (c + d) % 65536) (eu : u ≡ scale f) (h : d ≤ remaining f x) where
+  grown : n ≡ c + d
+  grown = omega (arith, l, s, h, rest-carrying f x c (scale f) refl e, scale-few f)
 
-pub advanced-part : (f : Card) (x : Transfer) (c d : ℕ) → x ≡ Carrying c → (c + d ≡ 1000 → ⊥) → Carrying (c + d) ≡ advanced f x d
-unfolding scale
-advanced-part f x c d e h = rw (e, ne-eqb (c + d) 1000 h)
+  pub advanced-all : n ≡ u → Idle ≡ advanced f x d
+  advanced-all q = rw (e, eq-eqb (c + d) (scale f) (sym grown ∙ q ∙ eu))
 
-pub sum-fits : (x : Transfer) (c d : ℕ) → x ≡ Carrying c → c < 65536 → ((f : Card) → d ≤ remaining f x) → c + d < 65536
-sum-fits x c d e l h = omega (arith, h blank-card, rest-carrying blank-card x c e)
+  pub advanced-part : (n ≡ u → ⊥) → Carrying n ≡ advanced f x d
+  advanced-part q = rw (e, grown, ne-eqb (c + d) (scale f) (λ z. q (grown ∙ z ∙ sym eu)))
 
 -- lengths: an array of structs is known by a list of their parts
 pub unmapped : {A B : Type 0} (f : A → B) (xs : List A) (n : ℕ) → length (map f xs) ≡ n → length xs ≡ n

@@ -16,12 +16,13 @@ use Rattle.card.proofs.Sums.{sum-same, sum-zero, sum-append, all-at}
 use Rattle.hierarchy.specs.Conditions.{Sees, Meets}
 use Rattle.flattening.specs.Flattening.{flatArc, flatten}
 use Rattle.flattening.proofs.FlatLaws.{place-flat, arc-flat}
-use Rattle.runners.specs.State.{NetState, scale, entry, transfer, remaining, weightAt, incidence, flow}
+use Rattle.runners.specs.State.{NetState, entry, transfer, remaining, weightAt, incidence, flow}
 use Rattle.runners.specs.Step.{idle, allows, candidateOn, startedOn, rise, movesOn, advanced, arrivesOn}
 use Rattle.runners.specs.Columns.{Moved, Grown, nothing, codeOf, Columns}
 use Rattle.runners.specs.Visits.{OwnsTransition, Round, posting, finding, moving, Turn, amount, effect, SameView, stepTurn, InTurn, Unseen, Does, SameElsewhere, turnIn, Facts}
 use Rattle.runners.specs.declared.Transfer.{Transfer}
 use Rattle.runners.specs.declared.Transfer.the-variants.{Idle, Carrying}
+use Rattle.runners.proofs.ScaleLaws.{scale-same}
 use Rattle.runners.proofs.OwnerLaws.{next-first, own, owned-below}
 use Rattle.runners.proofs.MovedLaws.{moved-same}
 
@@ -29,11 +30,6 @@ pub every-same : (n : ℕ) (f g : ℕ → Bool) → ((k : ℕ) → k < n → f k
 unfolding every
 every-same zero f g h = refl
 every-same (suc n) f g h = ap₂ (λ (a b : Bool). a && b) (every-same n f g (λ k l. h k (omega arith))) (h n (omega arith))
-
--- the scale is the same on all cards
-scale-same : (c d : Card) → scale c ≡ scale d
-unfolding scale
-scale-same c d = refl
 
 remaining-same : (c d : Card) (x : Transfer) → remaining c x ≡ remaining d x
 remaining-same c d Idle = refl

@@ -1,5 +1,6 @@
 // What a transition's arcs post on the claims board, what they move, and whether they let it start. Each arc is resolved to a flat place as
 // it is met. Every function takes any slices; what it does is the card's where they hold an accepted one.
+use crate::rules;
 use card::tables::Arc;
 use card::tables::arc_at;
 use card::tables::arc_count;
@@ -15,7 +16,7 @@ ghost use Rattle.card.specs.Finite.{every};
 ghost use Rattle.card.specs.Index.{Lists, firstPlaceStart};
 ghost use Rattle.card.specs.Index.{arcOf, Begins};
 ghost use Rattle.flattening.specs.Flattening.{flatten, flatArc};
-ghost use Rattle.runners.specs.State.{entry, incidence};
+ghost use Rattle.runners.specs.State.{scale as scaleOf, entry, incidence};
 ghost use Rattle.runners.specs.Step.{allows as allowsIt};
 ghost use Rattle.runners.specs.Columns.{Moved, Grown, nothing, posted};
 ghost use Rattle.runners.specs.Visits.{InTables};
@@ -163,17 +164,18 @@ fn allows(
     markings: &[u32],
     owed: &[u32],
     due: &[u32],
+    scale: u16,
 ) -> bool
-    ensures { λ r. ⌜ ((c : Card) (i t j : ℕ) → InTables c (now (numbers .entry)) (now (starts .entry)) → Lists c i t → j < (transitionAt c t) .arcs → arcOf a ≡ arcAt c t j → r ≡ allowsIt (flatten c) (posted (now (owed .entry)) (now (due .entry))) (now (markings .entry)) (arcAt (flatten c) t j)) ⌝ }
+    ensures { λ r. ⌜ ((c : Card) (i t j : ℕ) → InTables c (now (numbers .entry)) (now (starts .entry)) → scale ≡ scaleOf (flatten c) → Lists c i t → j < (transitionAt c t) .arcs → arcOf a ≡ arcAt c t j → r ≡ allowsIt (flatten c) (posted (now (owed .entry)) (now (due .entry))) (now (markings .entry)) (arcAt (flatten c) t j)) ⌝ }
 {
     let p = place_of(starts, a);
     let m = entry_at(markings, p);
-    let w = 1000 * a.weight as u64;
+    let w = scale as u64 * a.weight as u64;
     if a.direction == 0 {
         return entry_at(owed, p) + w <= m;
     }
     let k = capacity(numbers, subnet_row(starts, a.subnet), a.place);
-    m + entry_at(due, p) + w <= 1000 * k as u64
+    m + entry_at(due, p) + w <= scale as u64 * k as u64
 }
 
 // Whether each arc of a transition allows it to start.
@@ -187,11 +189,12 @@ pub fn all_allow(
 ) -> bool
     ensures { λ r. ⌜ ((c : Card) (i t : ℕ) → InTables c (now (numbers .entry)) (now (starts .entry)) → Begins c row i t → r ≡ every ((transitionAt c t) .arcs) (λ j. allowsIt (flatten c) (posted (now (owed .entry)) (now (due .entry))) (now (markings .entry)) (arcAt (flatten c) t j))) ⌝ }
 {
+    let scale = rules::scale(numbers);
     let count = arc_count(numbers, row);
     let mut j = 0;
     while j < count {
         let a = arc_at(numbers, row, j);
-        if !allows(numbers, starts, a, markings, owed, due) {
+        if !allows(numbers, starts, a, markings, owed, due, scale) {
             return false;
         }
         j += 1;

@@ -4,6 +4,7 @@ use crate::Reply;
 use crate::Sizes;
 use crate::State;
 use crate::Transfer;
+use crate::rules;
 use crate::transfers::codes;
 use crate::verdict::uncovered;
 use crate::visits::post_span;
@@ -18,7 +19,7 @@ ghost use lib.Dec.{leb, ltb};
 ghost use Rattle.card.specs.Card.{Card};
 ghost use Rattle.card.specs.Finite.{every, lowest};
 ghost use Rattle.flattening.specs.Flattening.{flatten};
-ghost use Rattle.runners.specs.State.{scale, entry, transfer, covered};
+ghost use Rattle.runners.specs.State.{scale as scaleOf, entry, transfer, covered};
 ghost use Rattle.runners.specs.Calls.{view, inRange as inRangeOf, valid};
 ghost use Rattle.runners.specs.Rows.{rowFault};
 ghost use Rattle.runners.specs.Visits.{InTables};
@@ -29,8 +30,8 @@ ghost use Rattle.runners.specs.inner.Steps.{replyOf, HoldsNet};
 ghost use Rattle.runners.specs.declared.places.PlaceNumber.the-variants.{Capacity};
 
 // The lowest of the first signals with a degree above 1000; where there is none, their number.
-fn high_degree(row: &[u16], signals: u16) -> u16
-    ensures { λ r. ⌜ r ≡ orPast signals (lowest 0 signals (λ g. ltb 1000 (entry (now (row .entry)) g))) ⌝ }
+fn high_degree(row: &[u16], signals: u16, scale: u16) -> u16
+    ensures { λ r. ⌜ r ≡ orPast signals (lowest 0 signals (λ g. ltb scale (entry (now (row .entry)) g))) ⌝ }
 {
     let mut g = 0;
     while g < signals {
@@ -38,7 +39,7 @@ fn high_degree(row: &[u16], signals: u16) -> u16
         if row.len() <= i {
             return signals;
         }
-        if 1000 < row[i] {
+        if scale < row[i] {
             return g;
         }
         g += 1;
@@ -48,13 +49,13 @@ fn high_degree(row: &[u16], signals: u16) -> u16
 
 // 20 and 21: a degree for each signal, none above 1000. Two wrong tests that this rules out: one that names the highest such signal, and one
 // that passes a row of too many degrees.
-pub fn row_test(row: &[u16], signals: u16) -> Reply
-    ensures { λ r. ⌜ ((c : Card) → signals ≡ c .signals → r ≡ replyOf (rowFault c (now (row .entry)))) ⌝ }
+pub fn row_test(row: &[u16], signals: u16, scale: u16) -> Reply
+    ensures { λ r. ⌜ ((c : Card) → signals ≡ c .signals → scale ≡ scaleOf c → r ≡ replyOf (rowFault c (now (row .entry)))) ⌝ }
 {
     if row.len() != signals as usize {
         return Reply::No(Refusal::BadRow);
     }
-    let g = high_degree(row, signals);
+    let g = high_degree(row, signals, scale);
     if g < signals {
         return Reply::No(Refusal::BadDegree(g as usize));
     }
@@ -62,17 +63,17 @@ pub fn row_test(row: &[u16], signals: u16) -> Reply
 }
 
 // A progress is below 1000.
-fn in_range(transfer: Transfer) -> bool
-    ensures { λ r. ⌜ ((c : Card) → r ≡ inRangeOf c transfer) ⌝ }
+fn in_range(transfer: Transfer, scale: u16) -> bool
+    ensures { λ r. ⌜ ((c : Card) → scale ≡ scaleOf c → r ≡ inRangeOf c transfer) ⌝ }
 {
     match transfer {
         Transfer::Idle => true,
-        Transfer::Carrying(c) => c < 1000,
+        Transfer::Carrying(c) => c < scale,
     }
 }
 
-fn transfers_in_range(state: State) -> bool
-    ensures { λ r. ⌜ ((c : Card) → Counts c state → length (c .transitions) ≤ 255 → r ≡ every (length (c .transitions)) (λ t. inRangeOf c (transfer ((view state) .transfers) t))) ⌝ }
+fn transfers_in_range(state: State, scale: u16) -> bool
+    ensures { λ r. ⌜ ((c : Card) → scale ≡ scaleOf c → Counts c state → length (c .transitions) ≤ 255 → r ≡ every (length (c .transitions)) (λ t. inRangeOf c (transfer ((view state) .transfers) t))) ⌝ }
 {
     let n = state.transitions;
     let mut t: usize = 0;
@@ -82,7 +83,7 @@ fn transfers_in_range(state: State) -> bool
         }
         let slot = state.slots[t];
         let transfer = slot.transfer;
-        if !in_range(transfer) {
+        if !in_range(transfer, scale) {
             return false;
         }
         t += 1;
@@ -90,8 +91,8 @@ fn transfers_in_range(state: State) -> bool
     true
 }
 
-fn degrees_in_range(state: State) -> bool
-    ensures { λ r. ⌜ ((c : Card) → Counts c state → c .signals ≤ 63 → r ≡ every (c .signals) (λ g. leb (entry ((view state) .degrees) g) (scale c))) ⌝ }
+fn degrees_in_range(state: State, scale: u16) -> bool
+    ensures { λ r. ⌜ ((c : Card) → scale ≡ scaleOf c → Counts c state → c .signals ≤ 63 → r ≡ every (c .signals) (λ g. leb (entry ((view state) .degrees) g) (scaleOf c))) ⌝ }
 {
     let n = state.signals;
     let mut g: usize = 0;
@@ -99,7 +100,7 @@ fn degrees_in_range(state: State) -> bool
         if MOST_SIGNALS <= g {
             return false;
         }
-        if 1000 < state.degrees[g] {
+        if scale < state.degrees[g] {
             return false;
         }
         g += 1;
@@ -142,10 +143,11 @@ pub fn state_test(numbers: &[u16], starts: &[u32], full: &[u32], sizes: Sizes, s
     if state.signals != sizes.signals as usize {
         return false;
     }
-    if !transfers_in_range(state) {
+    let scale = rules::scale(numbers);
+    if !transfers_in_range(state, scale) {
         return false;
     }
-    if !degrees_in_range(state) {
+    if !degrees_in_range(state, scale) {
         return false;
     }
     all_covered(numbers, starts, full, state)

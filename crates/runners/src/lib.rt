@@ -15,6 +15,7 @@ mod order;
 mod places;
 mod rounds;
 mod row;
+mod rules;
 pub mod subnet_runner;
 mod transfers;
 mod verdict;

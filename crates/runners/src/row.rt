@@ -11,6 +11,7 @@ use crate::order::each_once;
 use crate::rounds::find_all;
 use crate::rounds::move_all;
 use crate::rounds::post_all;
+use crate::rules;
 use crate::transfers::codes;
 use crate::transfers::stored;
 use crate::verdict::uncovered;
@@ -145,7 +146,7 @@ pub fn loaded_row(
 ) -> RowAnswer
     ensures { λ r. ⌜ IsLoadedRow (now (numbers .entry)) (now (starts .entry)) (now (full .entry)) sizes (now (order .entry)) state (now (row .entry)) r ⌝ }
 {
-    let fault = row_test(row, sizes.signals);
+    let fault = row_test(row, sizes.signals, rules::scale(numbers));
     match fault {
         Reply::No(why) => refuse(why, state),
         Reply::Ok => step(numbers, starts, full, sizes, order, state, row),

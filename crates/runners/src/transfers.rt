@@ -11,10 +11,10 @@ use card::MOST_TRANSITIONS;
 ghost use mathlib.Core.Path.{_≡_};
 ghost use mathlib.Core.Bool.{cond};
 ghost use mathlib.Core.List.{map};
-ghost use Prim.Native.Nat.{ℕ, _+_, _<_, _≤_};
+ghost use Prim.Native.Nat.{_≤_};
 ghost use lib.ListN.{length, set};
 ghost use Rattle.card.specs.Card.{Card};
-ghost use Rattle.runners.specs.State.{transfer as transferAt, remaining as remainingOf};
+ghost use Rattle.runners.specs.State.{scale as scaleOf, transfer as transferAt, remaining as remainingOf};
 ghost use Rattle.runners.specs.Step.{advanced as advancedOf};
 ghost use Rattle.runners.specs.Columns.{codeOf, transferOf, codeAt};
 ghost use Rattle.runners.specs.inner.Storing.{CodesOf, Stored};
@@ -39,15 +39,15 @@ pub fn put_transfer(codes: &mut [u16], t: usize, transfer: Transfer)
     }
 }
 
-// What remains of a transfer, in thousandths.
-pub fn remaining(transfer: Transfer) -> u16
-    ensures { λ r. ⌜ ((f : Card) → r ≡ remainingOf f transfer) ⌝ }
+// What remains of a transfer: 1000 - c.
+pub fn remaining(transfer: Transfer, scale: u16) -> u16
+    ensures { λ r. ⌜ ((f : Card) → scale ≡ scaleOf f → r ≡ remainingOf f transfer) ⌝ }
 {
     match transfer {
         Transfer::Idle => 0,
         Transfer::Carrying(c) => {
-            if c < 1000 {
-                return 1000 - c;
+            if c < scale {
+                return scale - c;
             }
             0
         }
@@ -64,18 +64,18 @@ pub fn started(transfer: Transfer, candidate: bool) -> Transfer
     transfer
 }
 
-// c grows by d; at 1000 the transition is idle.
-pub fn advanced(transfer: Transfer, d: u16) -> Transfer
-    requires { ⌜ ((f : Card) → d ≤ remainingOf f transfer) ⌝ }
-    ensures { λ r. ⌜ ((f : Card) → r ≡ advancedOf f transfer d) ⌝ }
+// c grows by d, which is no more than remains; at 1000 the transition is idle.
+pub fn advanced(transfer: Transfer, d: u16, scale: u16) -> Transfer
+    ensures { λ r. ⌜ ((f : Card) → scale ≡ scaleOf f → d ≤ remainingOf f transfer → r ≡ advancedOf f transfer d) ⌝ }
 {
     match transfer {
         Transfer::Idle => Transfer::Idle,
         Transfer::Carrying(c) => {
-            if c + d == 1000 {
+            let grown = std::num::wrapping_add_u16(c, d);
+            if grown == scale {
                 return Transfer::Idle;
             }
-            Transfer::Carrying(c + d)
+            Transfer::Carrying(grown)
         }
     }
 }

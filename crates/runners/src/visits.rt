@@ -5,6 +5,7 @@ use crate::Transfer;
 use crate::claims::all_allow;
 use crate::claims::move_transition;
 use crate::claims::post_transition;
+use crate::rules;
 use crate::transfers::advanced;
 use crate::transfers::put_transfer;
 use crate::transfers::remaining;
@@ -18,13 +19,13 @@ use card::tables::transition_row;
 ghost use mathlib.Core.Path.{_≡_};
 ghost use mathlib.Core.Bool.{Bool, cond, _&&_};
 ghost use mathlib.Core.List.{List};
-ghost use Prim.Native.Nat.{ℕ, suc, _<_, _≤_};
+ghost use Prim.Native.Nat.{ℕ, suc, _<_};
 ghost use lib.ListN.{length, set};
 ghost use lib.Dec.{ltb};
 ghost use Rattle.card.specs.Card.{Card, transitionAt, arcAt, firstTransition};
 ghost use Rattle.card.specs.Finite.{every};
 ghost use Rattle.flattening.specs.Flattening.{flatten};
-ghost use Rattle.runners.specs.State.{NetState, scale, entry, transfer as transferIn, remaining as remainingOf};
+ghost use Rattle.runners.specs.State.{NetState, scale as scaleOf, entry, transfer as transferIn};
 ghost use Rattle.runners.specs.Step.{allows, candidateOn, startedOn, movesOn};
 ghost use Rattle.runners.specs.Columns.{noted, posted, columns};
 ghost use Rattle.runners.specs.Visits.{posting, finding, moving, InTables, IsVisit};
@@ -71,7 +72,7 @@ fn post_one(
     ensures { λ r. ⌜ ((ms last row drawn filled : List ℕ) (cs : List Bool) → IsOne posting t (now (numbers .entry)) (now (starts .entry)) (columns ms (now (transfers .entry)) last row (now (owed .entry)) (now (due .entry)) drawn filled cs) (columns ms (now (transfers .entry)) last row (now (owed .exit)) (now (due .exit)) drawn filled cs)) ⌝ }
 {
     let transfer = transfer_at(transfers, t as usize);
-    let rest = remaining(transfer);
+    let rest = remaining(transfer, rules::scale(numbers));
     post_transition(numbers, starts, t, rest, owed, due);
 }
 
@@ -171,11 +172,11 @@ fn is_candidate(
 }
 
 // What a candidate claims: all of its weights, in thousandths.
-fn claim(candidate: bool) -> u16
-    ensures { λ r. ⌜ ((f : Card) → r ≡ cond candidate (scale f) 0) ⌝ }
+fn claim(candidate: bool, scale: u16) -> u16
+    ensures { λ r. ⌜ r ≡ cond candidate scale 0 ⌝ }
 {
     if candidate {
-        return 1000;
+        return scale;
     }
     0
 }
@@ -201,7 +202,8 @@ fn find_one(
 {
     let transfer = transfer_at(transfers, t as usize);
     let candidate = is_candidate(numbers, starts, t, transfer, row, markings, owed, due);
-    post_transition(numbers, starts, t, claim(candidate), drawn, filled);
+    let part = claim(candidate, rules::scale(numbers));
+    post_transition(numbers, starts, t, part, drawn, filled);
     note(candidates, t as usize, candidate);
 }
 
@@ -289,11 +291,11 @@ fn distance(
     transfer: Transfer,
     degrees: &[u16],
     row: &[u16],
+    scale: u16,
 ) -> u16
-    ensures { λ r. ⌜ ((f : Card) → r ≤ remainingOf f transfer) ⌝ }
-    ensures { λ r. ⌜ ((c : Card) (s : NetState) (found : ℕ → Bool) → InTables c (now (numbers .entry)) (now (starts .entry)) → t < length (c .transitions) → s .degrees ≡ now (degrees .entry) → transfer ≡ startedOn found (s .transfers) t → r ≡ movesOn (flatten c) found s (now (row .entry)) t) ⌝ }
+    ensures { λ r. ⌜ ((c : Card) (s : NetState) (found : ℕ → Bool) → InTables c (now (numbers .entry)) (now (starts .entry)) → scale ≡ scaleOf (flatten c) → t < length (c .transitions) → s .degrees ≡ now (degrees .entry) → transfer ≡ startedOn found (s .transfers) t → r ≡ movesOn (flatten c) found s (now (row .entry)) t) ⌝ }
 {
-    let rest = remaining(transfer);
+    let rest = remaining(transfer, scale);
     if rest == 0 {
         return 0;
     }
@@ -325,9 +327,10 @@ fn move_one(
 {
     let was = transfer_at(transfers, t as usize);
     let transfer = started(was, is_noted(candidates, t as usize));
-    let d = distance(numbers, starts, t, transfer, degrees, row);
+    let scale = rules::scale(numbers);
+    let d = distance(numbers, starts, t, transfer, degrees, row, scale);
     move_transition(numbers, starts, t, d, markings);
-    put_transfer(transfers, t as usize, advanced(transfer, d));
+    put_transfer(transfers, t as usize, advanced(transfer, d, scale));
 }
 
 // The transitions from first up to end.

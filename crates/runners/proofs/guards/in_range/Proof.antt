@@ -11,10 +11,10 @@ enum-known-transfer : tie.Need-enum-known-transfer
 enum-known-transfer c = search needs
 
 returns : tie.Need-returns
-returns c = λ k. idle-range k (c .before .before .args .transfer) (c .enum-told .given .1)
+returns c = λ k e. idle-range k (c .before .before .args .transfer) (c .enum-told .given .1)
 
 returns-2 : tie.Need-returns-2
-returns-2 c = λ k. carrying-range k (c .before .before .before .args .transfer) _ (c .before .transfer .given .1)
+returns-2 c = λ k e. carrying-range k (c .before .before .before .args .transfer) _ _ e (c .before .transfer .given .1)
 
 pub in-range-spec : {M : Type 1} → statement M
 in-range-spec = tie.close (tie.spec enum-told enum-known-transfer returns returns-2)

@@ -8,23 +8,23 @@ use Rattle.runners.proofs.guards.row_test.Tie as tie
 returns : tie.Need-returns
 returns c =
     let a = c .before .before .args in
-    λ k e. row-long k (now (a .row)) (a .signals) e (c .if1 .taken)
+    λ k e u. row-long k (now (a .row)) (a .signals) (a .scale) e u (c .if1 .taken)
 
 high-degree-requires : tie.Need-high-degree-requires
 high-degree-requires c κs = search needs
 
-cast-t8 : tie.Need-cast-t8
-cast-t8 c = search needs
+cast-t9 : tie.Need-cast-t9
+cast-t9 c = search needs
 
 returns-2 : tie.Need-returns-2
 returns-2 c =
     let a = c .before .before .before .before .args in
-    λ k e. row-high k (now (a .row)) (a .signals) e (c .before .high-degree .result) (c .before .before .if1 .left) (c .before .high-degree .ensures) (c .if2 .taken)
+    λ k e u. row-high k (now (a .row)) (a .signals) (a .scale) e u (c .before .high-degree .result) (c .before .before .if1 .left) (c .before .high-degree .ensures) (c .if2 .taken)
 
 returns-3 : tie.Need-returns-3
 returns-3 c =
     let a = c .before .before .before .before .args in
-    λ k e. row-fits k (now (a .row)) (a .signals) e (c .before .high-degree .result) (c .before .before .if1 .left) (c .before .high-degree .ensures) (c .if2 .left)
+    λ k e u. row-fits k (now (a .row)) (a .signals) (a .scale) e u (c .before .high-degree .result) (c .before .before .if1 .left) (c .before .high-degree .ensures) (c .if2 .left)
 
 pub row-test-spec : {M : Type 1} → statement M
-row-test-spec = tie.close (tie.spec returns high-degree-requires cast-t8 returns-2 returns-3)
+row-test-spec = tie.close (tie.spec returns high-degree-requires cast-t9 returns-2 returns-3)

@@ -14,13 +14,13 @@ sub-result : tie.Need-sub-result
 sub-result c = search needs
 
 returns : tie.Need-returns
-returns c = λ f. rest-carrying f ((c .before .before .before .before .args) .transfer) ((c .before .before .transfer) .given .0 .0) ((c .before .before .transfer) .given .1)
+returns c = λ f e. rest-carrying f ((c .before .before .before .before .args) .transfer) ((c .before .before .transfer) .given .0 .0) _ e ((c .before .before .transfer) .given .1)
 
 returns-2 : tie.Need-returns-2
-returns-2 c = λ f. rest-idle f ((c .before .before .args) .transfer) ((c .enum-told) .given .1)
+returns-2 c = λ f e. rest-idle f ((c .before .before .args) .transfer) ((c .enum-told) .given .1)
 
 returns-3 : tie.Need-returns-3
-returns-3 c = λ f. rest-none f ((c .before .before .before .before .args) .transfer) ((c .before .before .transfer) .given .0 .0) ((c .before .before .transfer) .given .1) ((c .if1) .left)
+returns-3 c = λ f e. rest-none f ((c .before .before .before .before .args) .transfer) ((c .before .before .transfer) .given .0 .0) _ e ((c .before .before .transfer) .given .1) ((c .if1) .left)
 
 pub remaining-spec : {M : Type 1} → statement M
 remaining-spec =

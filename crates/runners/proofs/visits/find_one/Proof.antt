@@ -1,11 +1,12 @@
 -- `runners::visits::find_one` meets its contract. Assumes nothing.
-use mathlib.Core.Path.{refl, ap, _∙_}
+use Prim.Native.Nat.{ℕ}
+use mathlib.Core.Path.{refl, ap, ap₂, _∙_}
 use mathlib.Core.Bool.{Bool, cond}
 use denote.Ref.{now}
 use lib.ListN.{length, set, length-set}
 use Rattle.card.specs.Card.{draws, fills}
 use Rattle.flattening.specs.Flattening.{flatten}
-use Rattle.runners.specs.State.{scale, incidence}
+use Rattle.runners.specs.State.{incidence}
 use Rattle.runners.specs.Columns.{columns, stateIn}
 use Rattle.runners.proofs.OneLaws.{grown-by}
 use borrow.Author.Needs.{needs}
@@ -17,6 +18,9 @@ transfer-at-requires c κs = search needs
 
 is-candidate-requires : tie.Need-is-candidate-requires
 is-candidate-requires c κs = search needs
+
+scale-requires : tie.Need-scale-requires
+scale-requires c κs = search needs
 
 claim-requires : tie.Need-claim-requires
 claim-requires c κs = search needs
@@ -34,11 +38,11 @@ same-length-2 : tie.Need-same-length-2
 same-length-2 c = search needs
 
 same-length-3 : tie.Need-same-length-3
-same-length-3 c = ap length ((c .before .before .note) .ensures) ∙ length-set (now ((c .before .before .before .before .before .before .before .before .before .before .before .before .before .before .before .before .before .before .before .before .before .before .before .before .args) .candidates)) _ _
+same-length-3 c = ap length ((c .before .before .note) .ensures) ∙ length-set (now ((c .before .before .before .before .before .before .before .before .before .before .before .before .before .before .before .before .before .before .before .before .before .before .before .before .before .args) .candidates)) _ _
 
 returns : tie.Need-returns
 returns c =
-    let a = (c .before .before .before .before .before .before .before .before .before .before .before .before .before .before .before .before .before .before .before .before .before .before .before .before .args) in
+    let a = (c .before .before .before .before .before .before .before .before .before .before .before .before .before .before .before .before .before .before .before .before .before .before .before .before .before .args) in
     let p = (c .before .before .before .before .before .before .before .before .post-transition) in (
       p .ensures .0,
       (
@@ -46,8 +50,9 @@ returns c =
         (
           ap length ((c .before .before .note) .ensures) ∙ length-set (now (a .candidates)) _ _,
           λ last k h b.
-              let q = (c .before .before .before .before .before .before .before .before .before .before .before .before .is-candidate) .ensures k (stateIn (columns (now (a .markings)) (now (a .transfers)) last (now (a .row)) (now (a .owed)) (now (a .due)) (now (a .drawn)) (now (a .filled)) (now (a .candidates)))) h b refl ((c .before .before .before .before .before .before .before .before .before .before .before .before .before .transfer-at) .ensures) in
-              let e = (c .before .before .before .before .before .before .before .before .before .before .before .claim) .ensures (flatten k) ∙ ap (λ (v : Bool). cond v (scale (flatten k)) 0) q in
+              let es = (c .before .before .before .before .before .before .before .before .before .before .before .before .scale) .ensures k (now (a .starts)) h in
+              let q = (c .before .before .before .before .before .before .before .before .before .before .before .before .before .is-candidate) .ensures k (stateIn (columns (now (a .markings)) (now (a .transfers)) last (now (a .row)) (now (a .owed)) (now (a .due)) (now (a .drawn)) (now (a .filled)) (now (a .candidates)))) h b refl ((c .before .before .before .before .before .before .before .before .before .before .before .before .before .before .transfer-at) .ensures) in
+              let e = (c .before .before .before .before .before .before .before .before .before .before .before .claim) .ensures ∙ ap₂ (λ (v : Bool) (n : ℕ). cond v n 0) q es in
               record {
                 only = refl;
                 drawn = grown-by ((c .before .before .before .before .before .before .before .before .before .before .before .claim) .result) _ (incidence (flatten k) draws (a .t)) (now (a .drawn)) _ e (p .ensures .1 .1 .0 k h b);
@@ -64,6 +69,7 @@ find-one-spec =
     (tie.spec
     transfer-at-requires
     is-candidate-requires
+    scale-requires
     claim-requires
     post-transition-requires
     note-requires

@@ -12,6 +12,9 @@ use Rattle.runners.proofs.visits.post_one.Tie as tie
 transfer-at-requires : tie.Need-transfer-at-requires
 transfer-at-requires c κs = search needs
 
+scale-requires : tie.Need-scale-requires
+scale-requires c κs = search needs
+
 remaining-requires : tie.Need-remaining-requires
 remaining-requires c κs = search needs
 
@@ -26,14 +29,14 @@ same-length-2 c = search needs
 
 returns : tie.Need-returns
 returns c =
-    let a = (c .before .before .before .before .before .before .before .before .before .before .before .before .before .before .args) in
+    let a = (c .before .before .before .before .before .before .before .before .before .before .before .before .before .before .before .args) in
     let p = (c .before .before .before .before .post-transition) in
     let rest = (c .before .before .before .before .before .before .before .remaining) in (
       p .ensures .0,
       (
         p .ensures .1 .0,
         λ ms last row drawn filled cs k h b.
-            let e = rest .ensures (flatten k) ∙ ap (remaining (flatten k)) ((c .before .before .before .before .before .before .before .before .transfer-at) .ensures) in
+            let e = rest .ensures (flatten k) ((c .before .before .before .before .before .before .before .before .scale) .ensures k (now (a .starts)) h) ∙ ap (remaining (flatten k)) ((c .before .before .before .before .before .before .before .before .before .transfer-at) .ensures) in
             record {
               only = refl;
               owed = grown-by (rest .result) _ (incidence (flatten k) draws (a .t)) (now (a .owed)) _ e (p .ensures .1 .1 .0 k h b);
@@ -47,6 +50,7 @@ post-one-spec =
     tie.close
     (tie.spec
     transfer-at-requires
+    scale-requires
     remaining-requires
     post-transition-requires
     same-length
