@@ -16,14 +16,14 @@ use Rattle.card.specs.Card.{Card, draws, fills, placeAt}
 use Rattle.card.proofs.Sums.{sum-zero, table-at, table-length}
 use Rattle.card.proofs.Decides.{Decides, Clears, lt-is, le-is, eq-is, and-is, every-is, someUnless-is, otherwise-is, someIf-is, firstOf-is}
 use Rattle.runners.specs.State.{NetState, scale, entry, transfer, fresh, remaining, flow, owed, due}
-use Rattle.runners.specs.Step.{candidate, startedOn, conflict, movesOn, advanced, arrivesOn, next}
+use Rattle.runners.specs.Step.{candidate, startedOn, startedBy, advanced, arrivesBy, nextBy, started, conflict, movesOn, arrivesOn, moves, next}
 use Rattle.runners.specs.Rows.{rowFault, rowRefusal}
 use Rattle.runners.specs.Calls.{inRange, consistent}
 use Rattle.runners.specs.declared.Transfer.{Transfer}
 use Rattle.runners.specs.declared.Transfer.the-variants.{Idle, Carrying}
 use Rattle.runners.specs.declared.Refusal.the-variants.{BadDegree, Conflict}
 use Rattle.runners.proofs.ScaleLaws.{scale-some}
-use Rattle.runners.proofs.StepLaws.{Covered, covered-is, arrived-at, safe-step}
+use Rattle.runners.proofs.StepLaws.{Covered, covered-is, safe-by, conflict-is, moves-few}
 
 abbrev pub InRange : Card → Transfer → Type 0
 InRange f Idle = Unit {0}
@@ -56,9 +56,12 @@ pub fresh-sized : (f : Card) → Sized f (fresh f)
 unfolding fresh
 fresh-sized f = record { markings = table-length _ _ _; transfers = table-length _ _ _; degrees = table-length _ _ _ }
 
+pub sized-by : (f : Card) (start : ℕ → Bool) (amount : ℕ → ℕ) (s : NetState) (row : List ℕ) → length row ≡ f .signals → Sized f (nextBy f start amount s row)
+sized-by f start amount s row e = record { markings = table-length _ _ _; transfers = table-length _ _ _; degrees = e }
+
 pub next-sized : (f : Card) (s : NetState) (row : List ℕ) → length row ≡ f .signals → Sized f (next f s row)
 unfolding next
-next-sized f s row e = record { markings = table-length _ _ _; transfers = table-length _ _ _; degrees = e }
+next-sized f s row = sized-by f (candidate f s row) (moves f s row) s row
 
 -- IN A FRESH STATE EVERY PLACE IS COVERED
 no-flow : (f : Card) (xs : List Transfer) (way p : ℕ) → ((t : ℕ) → t < length (f .transitions) → transfer xs t ≡ Idle) → flow f (λ t. remaining f (transfer xs t)) way p ≡ 0
@@ -123,22 +126,35 @@ advanced-range f (Carrying c) d h l = go (eqb (c + d) (scale f)) refl
     go true e = tt
     go false e = omega (arith, eqb-false (c + d) (scale f) e)
 
-module _ (f : Card) (s : NetState) (row : List ℕ) (h : Consistent f s) (k : Fits f s row) where
-  started-range : (t : ℕ) → t < length (f .transitions) → InRange f (startedOn (candidate f s row) (s .transfers) t)
-  started-range t l = go (candidate f s row t)
+module _ (f : Card) (start : ℕ → Bool) (amount : ℕ → ℕ) (s : NetState) (h : Consistent f s) where
+  started-range : (t : ℕ) → t < length (f .transitions) → InRange f (startedOn start (s .transfers) t)
+  started-range t l = go (start t)
     where
       go : (b : Bool) → InRange f (cond b (Carrying 0) (transfer (s .transfers) t))
       go true = scale-some f
       go false = h .transfers t l
 
-  pub arrived-range : (t : ℕ) → t < length (f .transitions) → InRange f (arrivesOn f (candidate f s row) s row t)
-  arrived-range t l =
-      advanced-range f (startedOn (candidate f s row) (s .transfers) t) (movesOn f (candidate f s row) s row t) (started-range t l) (omega arith)
+  range-by : (t : ℕ) → t < length (f .transitions) → amount t ≤ remaining f (startedOn start (s .transfers) t) → InRange f (arrivesBy f start amount (s .transfers) t)
+  range-by t l within = advanced-range f (startedOn start (s .transfers) t) (amount t) (started-range t l) within
 
-  next-range : (t : ℕ) → t < length (f .transitions) → InRange f (transfer ((next f s row) .transfers) t)
-  next-range t l = rw (arrived-at f s row t l) (arrived-range t l)
+  -- A CONSISTENT STATE STAYS CONSISTENT, whichever transitions start and however far each moves, where every place is covered with the claims
+  -- of those that start and none moves more than what remains
+  pub consistent-by : (row : List ℕ) → ((t : ℕ) → t < length (f .transitions) → amount t ≤ remaining f (startedOn start (s .transfers) t))
+      → ((p : ℕ) → p < length (f .places) → Covered f (s .markings) (startedBy f start (s .transfers)) p) → ((g : ℕ) → g < f .signals → entry row g ≤ scale f)
+      → Consistent f (nextBy f start amount s row)
+  consistent-by row within covers low =
+      record {
+        places = λ p l. safe-by f start amount s row within p l (covers p l);
+        transfers = λ t l. rw (table-at (length (f .transitions)) (arrivesBy f start amount (s .transfers)) Idle t l) (range-by t l (within t l));
+        degrees = low;
+      }
+
+module _ (f : Card) (s : NetState) (row : List ℕ) (h : Consistent f s) where
+  pub arrived-range : (t : ℕ) → t < length (f .transitions) → InRange f (arrivesOn f (candidate f s row) s row t)
+  arrived-range t l = range-by f (candidate f s row) (movesOn f (candidate f s row) s row) s h t l (omega arith)
 
   -- AN ACCEPTED ROW KEEPS A CONSISTENT STATE CONSISTENT
-  pub next-consistent : Consistent f (next f s row)
-  unfolding next
-  next-consistent = record { places = safe-step f s row (k .free); transfers = next-range; degrees = k .degrees }
+  pub next-consistent : Fits f s row → Consistent f (next f s row)
+  unfolding next started
+  next-consistent k =
+      consistent-by f (candidate f s row) (moves f s row) s h row (λ t l. moves-few f s row t) (conflict-is f s row .0 (k .free)) (k .degrees)

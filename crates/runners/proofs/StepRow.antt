@@ -23,7 +23,7 @@ use Rattle.flattening.proofs.FlatLaws.{flat-below, flat-place}
 use Rattle.runners.specs.Numbers.{rowOutcome}
 use Rattle.runners.specs.State.{NetState, scale, entry, transfer, remaining, flow, owed, due, fullMarking, covered}
 use Rattle.runners.specs.Step.{idle, candidateOn, candidate, startedOn, started, conflict, moves, movesOn, arrivesOn, next}
-use Rattle.runners.specs.Rows.{settle, rowFault, rowRefusal}
+use Rattle.runners.specs.Rows.{settle, rowFault}
 use Rattle.runners.specs.Calls.{view, slot, store, valid}
 use Rattle.runners.specs.Answers.{IsRow}
 use Rattle.runners.specs.Columns.{codeOf, transferOf, codeAt, noted, Columns, columns}
@@ -46,7 +46,7 @@ use Rattle.runners.proofs.ScaleLaws.{scale-few}
 use Rattle.runners.proofs.OwnerLaws.{owned-below}
 use Rattle.runners.proofs.MovedLaws.{moved-exact}
 use Rattle.runners.proofs.TransferLaws.{transfer-code, coded, slot-at}
-use Rattle.runners.proofs.StateLaws.{InRange, arrived-range, Fits, fits-is}
+use Rattle.runners.proofs.StateLaws.{InRange, arrived-range}
 use Rattle.runners.proofs.TraceLaws.{valid-is}
 use Rattle.runners.proofs.FreshLaws.{map-table}
 use Rattle.runners.proofs.StepLaws.{conflict-is, flow-split, started-at, owed-split, due-split}
@@ -110,10 +110,6 @@ same-places c = map-length flatPlaceRow (c .places)
 same-transitions : (c : Card) → length ((flatten c) .transitions) ≡ length (c .transitions)
 unfolding flatten
 same-transitions c = refl
-
-row-free : (f : Card) (s : NetState) (row : List ℕ) → rowFault f row ≡ none → conflict f s row ≡ none → rowRefusal f s row ≡ none
-unfolding rowRefusal
-row-free f s row a b = rw (a, b) refl
 
 -- a record by its fields
 rebuilt : (r : Lent) → r ≡ record { markings = r .markings; slots = r .slots; degrees = r .degrees; places = r .places; transitions = r .transitions; signals = r .signals }
@@ -224,7 +220,7 @@ module _ (c : Card) (m : Meets c) (before : NetState) (row ms xs : List ℕ) (h 
 
       -- the verdict is the step's, and the candidates are
       pub found : (n r : ℕ) → n ≡ P → r ≡ orPast n (lowest 0 n (λ p. not (coveredBy full ms o d x y p))) → length cs ≡ 255 → Found c before row r cs′
-      unfolding conflict flatten
+      unfolding conflict started flatten
       found n r e q long =
           record {
             conflicts =
@@ -244,7 +240,7 @@ module _ (c : Card) (before : NetState) (row : List ℕ) (r n : ℕ) (e : n ≡ 
       go (some p) w = record { reply = ap (λ (a : ℕ). rowOutcome (No (Conflict a))) w; state = refl }
 
   below : (p : ℕ) → conflict (flatten c) before row ≡ some p → p < length (c .places)
-  unfolding conflict flatten
+  unfolding conflict started flatten
   below p w = omega (arith, lowest-below 0 _ (λ a. not (covered (flatten c) (before .markings) (started (flatten c) before row) a)) p w, map-length flatPlaceRow (c .places))
 
   pub free-of : r ≡ n → conflict (flatten c) before row ≡ none
@@ -294,9 +290,6 @@ module _ (c : Card) (m : Meets c) (l : Lent) (v : valid (flatten c) l ≡ true) 
     module _ (ms′ xs′ : List ℕ) (after r : Lent) (p3 : AllMove (stepTurn c was row) (columns (l .markings) xs (l .degrees) row o d x y cs) (columns ms′ xs′ (l .degrees) row o d x y cs))
         (st : Stored after ms′ xs′ r) (ea : after ≡ withDegrees l row) (rf : rowFault (flatten c) row ≡ none) (free : conflict (flatten c) was row ≡ none)
         (ml : length (l .markings) ≡ 255) (sl : length (l .slots) ≡ 255) where
-      fits : Fits (flatten c) was row
-      fits = fits-is (flatten c) was row .0 (row-free (flatten c) was row rf free)
-
       few-p : (p : ℕ) → p < length (c .places) → p < 255
       few-p p b = omega (arith, m .wellformed .rows .fewPlaces)
 
@@ -334,14 +327,14 @@ module _ (c : Card) (m : Meets c) (l : Lent) (v : valid (flatten c) l ≡ true) 
           let few = m .wellformed .rows .fewTransitions in
           ap slot (sym (slot-at (r .slots) t) ∙ st .own t (omega (arith, ap (λ (q : Lent). q .transitions) ea, counts .transitions)) (omega arith)
           ∙ ap transferOf (p3 .transfers t b (omega (arith, k .long, few)))
-          ∙ coded (arrivesOn (flatten c) (candidate (flatten c) was row) was row t) (uncoded _ (arrived-range (flatten c) was row (valid-is (flatten c) l .0 v .consistent) fits t (omega (arith, same-transitions c)))))
+          ∙ coded (arrivesOn (flatten c) (candidate (flatten c) was row) was row t) (uncoded _ (arrived-range (flatten c) was row (valid-is (flatten c) l .0 v .consistent) t (omega (arith, same-transitions c)))))
 
       slot-past : (t : ℕ) → length (c .transitions) ≤ t → getD (r .slots) t (slot Idle) ≡ getD (l .slots) t (slot Idle)
       slot-past t b =
           ap slot (sym (slot-at (r .slots) t) ∙ st .others t (omega (arith, ap (λ (q : Lent). q .transitions) ea, counts .transitions)) ∙ ap (λ (q : Lent). slotAt (q .slots) t) ea ∙ slot-at (l .slots) t)
 
       slots-is : r .slots ≡ map slot ((next (flatten c) was row) .transfers) ++ drop (l .transitions) (l .slots)
-      unfolding next
+      unfolding next moves
       slots-is =
           let n : length ((flatten c) .transitions) ≡ l .transitions = same-transitions c ∙ sym (counts .transitions) in
           joined (slot Idle) (r .slots) (l .slots) (length ((flatten c) .transitions)) (λ t. slot (arrivesOn (flatten c) (candidate (flatten c) was row) was row t))

@@ -32,42 +32,62 @@ candidateOn f k s row t =
 unfoldable pub candidate : Card → NetState → (row : List ℕ) → (t : ℕ) → Bool
 candidate f s row = candidateOn f (claims f (s .transfers)) s row
 
--- the transfers with the candidates among them, which carry with c = 0
-abbrev pub startedOn : (found : ℕ → Bool) → List Transfer → (t : ℕ) → Transfer
-startedOn found xs t = cond (found t) (Carrying 0) (transfer xs t)
+-- 2 to 4, whichever transitions start and however far each moves: start tells which do, amount how far. (By the paper the candidates start.)
+-- The transfers with those that start among them, which carry with c = 0.
+abbrev pub startedOn : (start : ℕ → Bool) → List Transfer → (t : ℕ) → Transfer
+startedOn start xs t = cond (start t) (Carrying 0) (transfer xs t)
 
-unfoldable pub started : Card → NetState → (row : List ℕ) → List Transfer
-started f s row = table 0 (length (f .transitions)) (startedOn (candidate f s row) (s .transfers))
+abbrev pub startedBy : Card → (start : ℕ → Bool) → List Transfer → List Transfer
+startedBy f start xs = table 0 (length (f .transitions)) (startedOn start xs)
 
--- 2. Add every candidate's claims, with c = 0, to owed and due. If any place then has owed > m or m + due > 1000 × K: the lowest such place.
-unfoldable pub conflict : Card → NetState → (row : List ℕ) → Option ℕ
-conflict f s row = lowest 0 (length (f .places)) (λ p. not (covered f (s .markings) (started f s row) p))
+-- 2. Add the claims of those that start, with c = 0, to owed and due. If any place then has owed > m or m + due > 1000 × K: the lowest such
+-- place.
+abbrev pub conflictBy : Card → (start : ℕ → Bool) → NetState → Option ℕ
+conflictBy f start s = lowest 0 (length (f .places)) (λ p. not (covered f (s .markings) (startedBy f start (s .transfers)) p))
 
--- the rise of a transition's signal since the last accepted row (0 if none)
-abbrev pub rise : Card → (degrees row : List ℕ) → (t : ℕ) → ℕ
-rise f last row t = entry row ((transitionAt f t) .signal) - entry last ((transitionAt f t) .signal)
-
--- 3. Each carrying transition moves d, the smaller of its signal's rise and 1000 - c; found tells which transitions start.
-abbrev pub movesOn : Card → (found : ℕ → Bool) → NetState → (row : List ℕ) → (t : ℕ) → ℕ
-movesOn f found s row t = min (rise f (s .degrees) row t) (remaining f (startedOn found (s .transfers) t))
-
-unfoldable pub moves : Card → NetState → (row : List ℕ) → (t : ℕ) → ℕ
-moves f s row = movesOn f (candidate f s row) s row
+-- 3. Each carrying transition moves d, the smaller of what is asked of it and 1000 - c. (By the paper its signal's rise is asked.)
+abbrev pub movesBy : Card → (start : ℕ → Bool) → (asked : ℕ → ℕ) → List Transfer → (t : ℕ) → ℕ
+movesBy f start asked xs t = min (asked t) (remaining f (startedOn start xs t))
 
 -- c grows by d; at 1000 it is idle
 abbrev pub advanced : Card → Transfer → (d : ℕ) → Transfer
 advanced f Idle d = Idle
 advanced f (Carrying c) d = cond (eqb (c + d) (scale f)) Idle (Carrying (c + d))
 
-abbrev pub arrivesOn : Card → (found : ℕ → Bool) → NetState → (row : List ℕ) → (t : ℕ) → Transfer
-arrivesOn f found s row t = advanced f (startedOn found (s .transfers) t) (movesOn f found s row t)
+abbrev pub arrivesBy : Card → (start : ℕ → Bool) → (amount : ℕ → ℕ) → List Transfer → (t : ℕ) → Transfer
+arrivesBy f start amount xs t = advanced f (startedOn start xs t) (amount t)
 
 -- Each place it draws from loses W × d, each it fills gains W × d (document 000, rules 5 and 50; nothing is cut off: proofs/StepLaws.antt).
 -- 4. The new degrees become the last ones.
-unfoldable pub next : Card → NetState → (row : List ℕ) → NetState
-next f s row =
+abbrev pub nextBy : Card → (start : ℕ → Bool) → (amount : ℕ → ℕ) → NetState → (row : List ℕ) → NetState
+nextBy f start amount s row =
     record {
-      markings = table 0 (length (f .places)) (λ p. entry (s .markings) p + flow f (moves f s row) fills p - flow f (moves f s row) draws p);
-      transfers = table 0 (length (f .transitions)) (arrivesOn f (candidate f s row) s row);
+      markings = table 0 (length (f .places)) (λ p. entry (s .markings) p + flow f amount fills p - flow f amount draws p);
+      transfers = table 0 (length (f .transitions)) (arrivesBy f start amount (s .transfers));
       degrees = row;
     }
+
+-- The step itself. 2. Add every candidate's claims, with c = 0, to owed and due. If any place then has owed > m or m + due > 1000 × K, the row
+-- is refused as a conflict at the lowest such flat place. 3. Otherwise candidates become carrying with c = 0.
+unfoldable pub started : Card → NetState → (row : List ℕ) → List Transfer
+started f s row = startedBy f (candidate f s row) (s .transfers)
+
+unfoldable pub conflict : Card → NetState → (row : List ℕ) → Option ℕ
+conflict f s row = conflictBy f (candidate f s row) s
+
+-- the rise of a transition's signal since the last accepted row (0 if none)
+abbrev pub rise : Card → (degrees row : List ℕ) → (t : ℕ) → ℕ
+rise f last row t = entry row ((transitionAt f t) .signal) - entry last ((transitionAt f t) .signal)
+
+-- Each carrying transition moves d, the smaller of its signal's rise and 1000 - c.
+abbrev pub movesOn : Card → (start : ℕ → Bool) → NetState → (row : List ℕ) → (t : ℕ) → ℕ
+movesOn f start s row = movesBy f start (rise f (s .degrees) row) (s .transfers)
+
+abbrev pub arrivesOn : Card → (start : ℕ → Bool) → NetState → (row : List ℕ) → (t : ℕ) → Transfer
+arrivesOn f start s row = arrivesBy f start (movesOn f start s row) (s .transfers)
+
+unfoldable pub moves : Card → NetState → (row : List ℕ) → (t : ℕ) → ℕ
+moves f s row = movesOn f (candidate f s row) s row
+
+unfoldable pub next : Card → NetState → (row : List ℕ) → NetState
+next f s row = nextBy f (candidate f s row) (moves f s row) s row
