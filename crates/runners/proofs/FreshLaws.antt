@@ -13,11 +13,11 @@ use Rattle.card.proofs.BitLaws.{lt-or-ge}
 use Rattle.card.proofs.Turn.{zero-in}
 use Rattle.hierarchy.specs.Numbers.{checkOutcome}
 use Rattle.hierarchy.specs.Conditions.{Meets}
-use Rattle.hierarchy.specs.Judgement.{Judgement, accepted, refused, judge, outcomeOf, IsChecked}
+use Rattle.hierarchy.specs.Judgement.{Judgement, accepted, refused, judge, outcomeOf}
 use Rattle.hierarchy.specs.declared.Answer.the-variants.{Accepted, Refused}
 use Rattle.hierarchy.specs.declared.CardFault.{CardFault}
-use Rattle.hierarchy.specs.declared.check.CheckedCard.{CheckedCard}
-use Rattle.hierarchy.proofs.Accepted.{accepted-meets, accepted-loaded}
+use Rattle.hierarchy.specs.declared.Answer.{Answer}
+use Rattle.hierarchy.proofs.Accepted.{accepted-meets, Checked}
 use Rattle.flattening.specs.Flattening.{flatPlaceRow, flatten}
 use Rattle.runners.specs.State.{scale, fresh}
 use Rattle.runners.specs.Calls.{slot, blank, freshLent, freshOf, freshCall}
@@ -75,28 +75,28 @@ fresh-is c markings g m h eg =
     whole : List ℕ → Lent
     whole xs = record { markings = xs; slots = replicate 255 (slot Idle); degrees = replicate 63 0; places = length (c .places); transitions = length (c .transitions); signals = c .signals }
 
-module _ (bytes : List ℕ) (k : CheckedCard) (h : IsChecked (judge bytes) k) where
-  pub fresh-refused : (f : CardFault) (at : ℕ) (x : Lent) → k .answer ≡ Refused f at → x ≡ blank 0 0 0 → IsFresh (freshCall bytes) (record { answer = k .answer; state = x })
+module _ (bytes : List ℕ) (k : Answer) (numbers starts : List ℕ) (h : Checked (judge bytes) k numbers starts) where
+  pub fresh-refused : (f : CardFault) (at : ℕ) (x : Lent) → k ≡ Refused f at → x ≡ blank 0 0 0 → IsFresh (freshCall bytes) (record { answer = k; state = x })
   unfolding freshCall
   fresh-refused f at x e b = go (judge bytes) (h .answer) (sym (ap checkOutcome e) ∙ h .answer)
     where
-      go : (j : Judgement) → checkOutcome (k .answer) ≡ outcomeOf j → checkOutcome (Refused f at) ≡ outcomeOf j → IsFresh (freshOf j) (record { answer = k .answer; state = x })
+      go : (j : Judgement) → checkOutcome (k) ≡ outcomeOf j → checkOutcome (Refused f at) ≡ outcomeOf j → IsFresh (freshOf j) (record { answer = k; state = x })
       go (refused n i) q z = record { answer = q; state = b }
       go (accepted c) q z = absurd (let y : _≡_ {A = ℕ} 0 1 = cc in omega arith)
 
-  pub fresh-accepted : (s p t s′ g : ℕ) (markings : List ℕ) → k .answer ≡ Accepted s p t → (s < 65536 → s′ ≡ s) → g ≡ getD (k .numbers) 2 0
-      → ((c : Card) → InTables c (k .numbers) (k .starts) → s′ ≡ length (c .subnets) → Filled Tokens c markings)
+  pub fresh-accepted : (s p t s′ g : ℕ) (markings : List ℕ) → k ≡ Accepted s p t → (s < 65536 → s′ ≡ s) → g ≡ getD numbers 2 0
+      → ((c : Card) → InTables c numbers starts → s′ ≡ length (c .subnets) → Filled Tokens c markings)
       → (x : Lent) → x ≡ record { markings = markings; slots = replicate 255 (slot Idle); degrees = replicate 63 0; places = p; transitions = t; signals = g }
       → IsFresh (freshCall bytes) (record { answer = Accepted s p t; state = x })
   unfolding freshCall
-  fresh-accepted s p t s′ g markings e es eg f x ex = go (judge bytes) refl (sym (ap checkOutcome e) ∙ h .answer) h
+  fresh-accepted s p t s′ g markings e es eg f x ex = go (judge bytes) refl (sym (ap checkOutcome e) ∙ h .answer)
     where
-      go : (j : Judgement) → judge bytes ≡ j → checkOutcome (Accepted s p t) ≡ outcomeOf j → IsChecked j k
+      go : (j : Judgement) → judge bytes ≡ j → checkOutcome (Accepted s p t) ≡ outcomeOf j
           → IsFresh (freshOf j) (record { answer = Accepted s p t; state = x })
-      go (refused n i) d z l = absurd (let y : _≡_ {A = ℕ} 0 1 = cc in omega arith)
-      go (accepted c) d z x =
+      go (refused n i) d z = absurd (let y : _≡_ {A = ℕ} 0 1 = cc in omega arith)
+      go (accepted c) d z =
           let m = accepted-meets bytes c d in
-          let l = accepted-loaded c m k x in
+          let l = h .loaded c d in
           let w = m .wellformed in
           let a : s ≡ length (c .subnets) = cc in
           let b : p ≡ length (c .places) = cc in

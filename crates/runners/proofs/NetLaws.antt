@@ -1,34 +1,35 @@
 -- The net of a card, and row calls on it. Assumes nothing.
 use Prim.Native.Nat.{ℕ, _+_, _-_, _≤_, _<_, min}
 use mathlib.Core.Path.{_≡_, refl, sym, ap, ap₂, subst, _∙_}
-use mathlib.Core.Logic.{_⊎_, inl, inr}
 use mathlib.Core.Bool.{true, false}
 use mathlib.Core.List.{List, [], _∷_}
 use native.Mathlib.Omega.{arith}
 use lib.ListN.{length, getD, take, drop, length-drop, drop-of-length-le}
-use denote.Enum.Declared.{tagOf}
 use Rattle.card.specs.Card.{Card}
-use Rattle.card.specs.Writing.{encode}
-use Rattle.hierarchy.specs.Numbers.{number, checkOutcome, writeOutcome}
+use Rattle.card.specs.Parsing.{readCard}
+use Rattle.card.specs.Tables.{IsTable}
+use Rattle.card.proofs.Sums.{map-length}
+use Rattle.hierarchy.specs.Numbers.{number, checkOutcome}
 use Rattle.hierarchy.specs.Judgement.{Judgement, accepted, refused, judge, outcomeOf, IsChecked}
-use Rattle.hierarchy.specs.Output.{IsWritten}
 use Rattle.hierarchy.specs.declared.Answer.{Answer}
 use Rattle.hierarchy.specs.declared.Answer.the-variants.{Accepted, Refused}
 use Rattle.hierarchy.specs.declared.CardFault.{CardFault}
-use Rattle.hierarchy.specs.declared.Written.{Written}
-use Rattle.hierarchy.proofs.Written.{the-type}
-use Rattle.hierarchy.specs.declared.Written.the-variants.{Wrote, Refused as NotWritten, Short}
 use Rattle.hierarchy.specs.declared.check.CheckedCard.{CheckedCard}
-use Rattle.flattening.specs.Flattening.{flatten, flattenCall}
+use Rattle.hierarchy.proofs.Accepted.{not-accepted, accepted-meets, accepted-loaded}
+use Rattle.flattening.specs.Flattening.{flatPlaceRow, flatten}
+use Rattle.flattening.specs.FlatCards.{IsFlatTable, IsFlatCard}
+use Rattle.flattening.specs.declared.FlatCard.{FlatCard}
+use Rattle.flattening.proofs.FlatLaws.{flat-meets}
+use Rattle.flattening.proofs.FlatCardLaws.{flat-loaded}
 use Rattle.runners.specs.Numbers.{RowOutcome}
 use Rattle.runners.specs.Step.{next}
 use Rattle.runners.specs.Rows.{settle, rowRefusal, pieces}
-use Rattle.runners.specs.Calls.{view, store, valid, eachOnce, called, inOrder}
+use Rattle.runners.specs.Calls.{view, store, valid, eachOnce, called, inOrder, flatCall, subnetCall}
 use Rattle.runners.specs.Answers.{IsRow}
-use Rattle.runners.specs.Nets.{flatJudged, signalsIn, IsNet, leaves, rowsIn}
+use Rattle.runners.specs.Nets.{flatJudged, IsNetIn, IsNet, leaves, rowsIn}
 use Rattle.runners.specs.Visits.{InTables}
 use Rattle.runners.specs.inner.Markings.{Filled}
-use Rattle.runners.specs.inner.Steps.{HoldsNet, IsTestedRow}
+use Rattle.runners.specs.inner.Steps.{HoldsNet, IsLoaded, IsTestedRow}
 use Rattle.runners.specs.declared.places.PlaceNumber.the-variants.{Capacity}
 use Rattle.runners.specs.declared.State.{State as Lent}
 use Rattle.runners.specs.declared.Sizes.{Sizes}
@@ -36,39 +37,88 @@ use Rattle.runners.specs.declared.Net.{Net}
 use Rattle.runners.specs.declared.Refusal.the-variants.{BadCard}
 use Rattle.runners.specs.declared.Reply.the-variants.{No}
 use Rattle.runners.specs.declared.RowAnswer.{RowAnswer}
-use Rattle.card.specs.Tables.{cardBytes}
 use Rattle.runners.proofs.TraceLaws.{valid-is, kept}
 use Rattle.runners.proofs.PieceLaws.{pieces-none, pieces-more, piece-is, rest-is}
-use Rattle.runners.proofs.CallLaws.{checked-accepted, wrote-all, turned-back, flat-judged, flat-called}
+use Rattle.runners.proofs.CallLaws.{flat-called}
 
--- the net of a card that was checked
-module _ (bytes : List ℕ) (k : CheckedCard) (h : IsChecked (judge bytes) k) where
-  pub net-refused : (x : Net) (f : CardFault) (at : ℕ) → k .answer ≡ Refused f at → x .answer ≡ k .answer → (x .sizes) .signals ≡ 0 → IsNet (judge bytes) x
-  net-refused x f at e ea es = go (judge bytes) (sym (ap checkOutcome e) ∙ h .answer)
+-- what a load leaves is the net of what the card was judged to be
+module _ (j : Judgement) (a : Answer) (numbers starts : List ℕ) (h : IsLoaded j a numbers starts) where
+  pub net-refused : (f : CardFault) (at : ℕ) (full : List ℕ) (n : Sizes) → a ≡ Refused f at → n .signals ≡ 0 → IsNetIn j a numbers starts full n
+  net-refused f at full n e es = go j (h .answer) (sym (ap checkOutcome e) ∙ h .answer)
     where
-      go : (j : Judgement) → checkOutcome (Refused f at) ≡ outcomeOf j → IsNet j x
-      go (refused n i) q = record { answer = ap checkOutcome (ea ∙ e) ∙ q; signals = es; tables = tt }
-      go (accepted c) q = absurd (let z : _≡_ {A = ℕ} 0 1 = cc in omega arith)
+      go : (i : Judgement) → checkOutcome a ≡ outcomeOf i → checkOutcome (Refused f at) ≡ outcomeOf i → IsNetIn i a numbers starts full n
+      go (refused m b) q r = record { answer = q; signals = es; tables = tt }
+      go (accepted c) q r = absurd (let z : _≡_ {A = ℕ} 0 1 = cc in omega arith)
 
-  pub net-accepted : (s p t s′ p′ t′ g : ℕ) (full : List ℕ) → k .answer ≡ Accepted s p t → (s < 65536 → s′ ≡ s) → (p < 65536 → p′ ≡ p) → (t < 65536 → t′ ≡ t) → g ≡ getD (k .numbers) 2 0
-      → ((c : Card) → InTables c (k .numbers) (k .starts) → s′ ≡ length (c .subnets) → Filled Capacity c full)
-      → IsNet (judge bytes) (record { answer = Accepted s p t; numbers = k .numbers; starts = k .starts; full = full; sizes = record { subnets = s′; places = p′; transitions = t′; signals = g } })
-  net-accepted s p t s′ p′ t′ g full e es ep et eg fu =
-      with-answer (judge bytes) (sym (ap checkOutcome e) ∙ h .answer)
-      (checked-accepted bytes k h (λ (j : Judgement). checkOutcome (Accepted s p t) ≡ outcomeOf j → IsNet j x) s p t s′ p′ t′ g full e es ep et eg fu (λ c n q. record { answer = q; signals = n .sizes .signals; tables = n }))
+  pub net-accepted : (s p t s′ p′ t′ g : ℕ) (full : List ℕ) → a ≡ Accepted s p t → (s < 65536 → s′ ≡ s) → (p < 65536 → p′ ≡ p) → (t < 65536 → t′ ≡ t) → g ≡ getD numbers 2 0
+      → ((c : Card) → InTables c numbers starts → s′ ≡ length (c .subnets) → Filled Capacity c full)
+      → IsNetIn j (Accepted s p t) numbers starts full (record { subnets = s′; places = p′; transitions = t′; signals = g })
+  net-accepted s p t s′ p′ t′ g full e es ep et eg fu = go j refl (sym (ap checkOutcome e) ∙ h .answer)
     where
-      x : Net
-      x = record { answer = Accepted s p t; numbers = k .numbers; starts = k .starts; full = full; sizes = record { subnets = s′; places = p′; transitions = t′; signals = g } }
+      go : (i : Judgement) → j ≡ i → checkOutcome (Accepted s p t) ≡ outcomeOf i → IsNetIn i (Accepted s p t) numbers starts full (record { subnets = s′; places = p′; transitions = t′; signals = g })
+      go (refused m b) d q = absurd (let z : _≡_ {A = ℕ} 0 1 = cc in omega arith)
+      go (accepted c) d q =
+          let x = h .tables c d in
+          let w = x .meets .wellformed in
+          let u : s ≡ length (c .subnets) = cc in
+          let v : p ≡ length (c .places) = cc in
+          let y : t ≡ length (c .transitions) = cc in
+          let z : s′ ≡ length (c .subnets) = es (omega (arith, u, w .fewSubnets)) ∙ u in
+          record {
+            answer = q;
+            signals = eg ∙ x .loaded .laid .signals;
+            tables = record {
+              tables = x;
+              full = fu c x z;
+              sizes = record {
+                subnets = z;
+                places = ep (omega (arith, v, w .rows .fewPlaces)) ∙ v;
+                transitions = et (omega (arith, y, w .rows .fewTransitions)) ∙ y;
+                signals = eg ∙ x .loaded .laid .signals;
+              };
+            };
+          }
 
-      with-answer : (j : Judgement) → checkOutcome (Accepted s p t) ≡ outcomeOf j → (checkOutcome (Accepted s p t) ≡ outcomeOf j → IsNet j x) → IsNet j x
-      with-answer j q f = f q
+-- a card that was checked is loaded, and its flat card with it
+pub card-loaded : (bytes : List ℕ) (k : CheckedCard) (size : ℕ) (numbers : List ℕ) → IsChecked bytes k → IsTable (readCard bytes) size numbers → IsLoaded (judge bytes) (k .answer) numbers (k .starts)
+card-loaded bytes k size numbers h t =
+    record { answer = h .answer; tables = λ c e. record { meets = accepted-meets bytes c e; loaded = (accepted-loaded bytes k size numbers h t) .loaded c e } }
+
+pub flat-answered : (a : Answer) (s p t : ℕ) → a ≡ Accepted s p t → (j : Judgement) → checkOutcome a ≡ outcomeOf j → checkOutcome (Accepted 1 p t) ≡ outcomeOf (flatJudged j)
+unfolding flatten
+flat-answered a s p t e j h = go j (sym (ap checkOutcome e) ∙ h)
+  where
+    go : (i : Judgement) → checkOutcome (Accepted s p t) ≡ outcomeOf i → checkOutcome (Accepted 1 p t) ≡ outcomeOf (flatJudged i)
+    go (refused m b) q = absurd (let z : _≡_ {A = ℕ} 0 1 = cc in omega arith)
+    go (accepted c) q =
+        let v : p ≡ length (c .places) = cc in
+        let y : t ≡ length (c .transitions) = cc in
+        rw (map-length flatPlaceRow (c .places), v, y)
+
+pub flat-turned : (a : Answer) (f : CardFault) (at : ℕ) → a ≡ Refused f at → (j : Judgement) → checkOutcome a ≡ outcomeOf j → checkOutcome (Refused f at) ≡ outcomeOf (flatJudged j)
+flat-turned a f at e j h = go j (sym (ap checkOutcome e) ∙ h)
+  where
+    go : (i : Judgement) → checkOutcome (Refused f at) ≡ outcomeOf i → checkOutcome (Refused f at) ≡ outcomeOf (flatJudged i)
+    go (refused m b) q = q
+    go (accepted c) q = absurd (let z : _≡_ {A = ℕ} 0 1 = cc in omega arith)
+
+pub flat-card-loaded : (bytes : List ℕ) (r : FlatCard) (size n : ℕ) (numbers flat : List ℕ) (a : Answer) → IsFlatCard bytes r → IsTable (readCard bytes) size numbers → IsFlatTable (judge bytes) n flat → size ≡ n
+    → checkOutcome a ≡ outcomeOf (flatJudged (judge bytes)) → IsLoaded (flatJudged (judge bytes)) a flat (r .«flat_starts»)
+flat-card-loaded bytes r size n numbers flat a h t f same e = record { answer = e; tables = λ d q. go d (judge bytes) refl q }
+  where
+    go : (d : Card) (i : Judgement) → judge bytes ≡ i → flatJudged i ≡ accepted d → InTables d flat (r .«flat_starts»)
+    go d (refused m b) p q = absurd (not-accepted _ _ _ q)
+    go d (accepted c) p q =
+        let s : flatten c ≡ d = cc in
+        subst (λ (x : Card). InTables x flat (r .«flat_starts»)) s
+        (record { meets = flat-meets c (accepted-meets bytes c p); loaded = flat-loaded bytes r size n numbers flat h t f same c p })
 
 -- a call on a net
-module _ (j : Judgement) (n : Net) (h : IsNet j n) (order row : List ℕ) (l : Lent) (x : RowAnswer) where
+module _ (j : Judgement) (o : Answer) (numbers starts full : List ℕ) (n : Sizes) (h : IsNetIn j o numbers starts full n) (order row : List ℕ) (l : Lent) (x : RowAnswer) where
   abbrev Called : Judgement → Type 0
   Called i = IsRow (called (inOrder order) i l row) x
 
-  pub net-turned : (f : CardFault) (at : ℕ) → n .answer ≡ Refused f at → x ≡ record { reply = No (BadCard f at); state = l } → Called j
+  pub net-turned : (f : CardFault) (at : ℕ) → o ≡ Refused f at → x ≡ record { reply = No (BadCard f at); state = l } → Called j
   net-turned f at e w = go j (sym (ap checkOutcome e) ∙ h .answer)
     where
       go : (i : Judgement) → checkOutcome (Refused f at) ≡ outcomeOf i → Called i
@@ -78,42 +128,25 @@ module _ (j : Judgement) (n : Net) (h : IsNet j n) (order row : List ℕ) (l : L
           rw (w, ← a, ← d) (record { reply = refl; state = refl })
       go (accepted c) q = absurd (let z : _≡_ {A = ℕ} 0 1 = cc in omega arith)
 
-  pub net-called : (s p t : ℕ) → n .answer ≡ Accepted s p t → IsTestedRow (n .numbers) (n .starts) (n .full) (n .sizes) order l row x → Called j
+  pub net-called : (s p t : ℕ) → o ≡ Accepted s p t → IsTestedRow numbers starts full n order l row x → Called j
   net-called s p t e f = go j h (sym (ap checkOutcome e) ∙ h .answer)
     where
-      go : (i : Judgement) → IsNet i n → checkOutcome (Accepted s p t) ≡ outcomeOf i → Called i
+      go : (i : Judgement) → IsNetIn i o numbers starts full n → checkOutcome (Accepted s p t) ≡ outcomeOf i → Called i
       go (refused k b) m q = absurd (let z : _≡_ {A = ℕ} 0 1 = cc in omega arith)
       go (accepted c) m q = f c (m .tables)
-
--- an answer of bytes that were written has no other tag
-wrote-tag : (r : Written) (n : ℕ) → writeOutcome r ≡ writeOutcome (Wrote n) → (tagOf the-type r ≡ 1) ⊎ (tagOf the-type r ≡ 2) → ⊥
-wrote-tag (Wrote m) n e (inl q) = omega (arith, q)
-wrote-tag (Wrote m) n e (inr q) = omega (arith, q)
-wrote-tag (NotWritten f at) n e k = let z : _≡_ {A = ℕ} 0 1 = cc in omega arith
-wrote-tag (Short m) n e k = let z : _≡_ {A = ℕ} 0 1 = cc in omega arith
-
--- the net of a card's flat card, which a buffer of cardBytes holds
-module _ (bytes buffer out : List ℕ) (r : Written) (h : IsWritten (flattenCall bytes buffer) r out) (room : length buffer ≡ cardBytes) (x : Net) where
-  pub flat-none : (tagOf the-type r ≡ 1) ⊎ (tagOf the-type r ≡ 2) → IsNet (judge bytes) x → IsNet (flatJudged (judge bytes)) x
-  flat-none k w = go (judge bytes) refl w
-    where
-      go : (j : Judgement) → judge bytes ≡ j → IsNet j x → IsNet (flatJudged j) x
-      go (refused n i) d v = v
-      go (accepted c) d v = absurd (wrote-tag r (length (encode (flatten c))) (wrote-all bytes buffer out r h room c d) k)
-
-  pub flat-held : (n : ℕ) → r ≡ Wrote n → IsNet (judge (take n out)) x → IsNet (flatJudged (judge bytes)) x
-  flat-held n e w = go (judge bytes) refl
-    where
-      go : (j : Judgement) → judge bytes ≡ j → IsNet (flatJudged j) x
-      go (refused m i) d =
-          let q = sym (ap writeOutcome e) ∙ turned-back bytes buffer out r h room m i d in
-          absurd (let z : _≡_ {A = ℕ} 0 1 = cc in omega arith)
-      go (accepted c) d = subst (λ (j : Judgement). IsNet j x) (flat-judged bytes buffer out r h room n c e d) w
 
 -- a call on it, in the order that names its one subnet, is the flat runner's
 pub flat-net-called : (j : Judgement) (l : Lent) (row : List ℕ) → called (inOrder (0 ∷ [])) (flatJudged j) l row ≡ called (λ c. true) j l row
 flat-net-called (accepted c) l row = flat-called c l row
 flat-net-called (refused n at) l row = refl
+
+pub flat-net-row : (bytes row : List ℕ) (l : Lent) (x : RowAnswer) → IsRow (called (inOrder (0 ∷ [])) (flatJudged (judge bytes)) l row) x → IsRow (flatCall bytes l row) x
+unfolding flatCall
+flat-net-row bytes row l x h = subst (λ (z : RowOutcome × Lent). IsRow z x) (flat-net-called (judge bytes) l row) h
+
+pub own-net-row : (bytes order row : List ℕ) (l : Lent) (x : RowAnswer) → IsRow (called (inOrder order) (judge bytes) l row) x → IsRow (subnetCall bytes order l row) x
+unfolding subnetCall
+own-net-row bytes order row l x h = h
 
 -- many rows: where no row changes the state it is left as it is
 leaves-still : {S C : Type 0} (call : S → C → RowOutcome × S) (s : S) (rows : List C) → ((row : C) → (call s row) .1 ≡ s) → s ≡ leaves call s rows

@@ -9,6 +9,8 @@ use Rattle.flattening.specs.Flattening.{flatten}
 use Rattle.runners.specs.Numbers.{RowOutcome}
 use Rattle.runners.specs.Rows.{pieces}
 use Rattle.runners.specs.inner.Steps.{HoldsNet}
+use Rattle.hierarchy.specs.declared.Answer.{Answer}
+use Rattle.runners.specs.declared.Sizes.{Sizes}
 use Rattle.runners.specs.declared.Net.{Net}
 
 -- the flat card of an accepted card is accepted (proofs/FlatLaws.antt); of a refused one there is none
@@ -21,15 +23,18 @@ abbrev pub signalsIn : Judgement → ℕ
 signalsIn (accepted c) = c .signals
 signalsIn (refused n at) = 0
 
-abbrev pub HoldsJudged : Judgement → Net → Type 0
-HoldsJudged (accepted c) n = HoldsNet c (n .numbers) (n .starts) (n .full) (n .sizes)
-HoldsJudged (refused why at) n = Unit {0}
+abbrev pub HoldsJudged : Judgement → (numbers starts full : List ℕ) → Sizes → Type 0
+HoldsJudged (accepted c) numbers starts full n = HoldsNet c numbers starts full n
+HoldsJudged (refused why at) numbers starts full n = Unit {0}
 
--- the net of what a card was judged to be
-pub record IsNet (j : Judgement) (n : Net) : Type 0 where
-  pub answer : checkOutcome (n .answer) ≡ outcomeOf j
-  pub signals : (n .sizes) .signals ≡ signalsIn j
-  pub tables : HoldsJudged j n
+-- the net of what a card was judged to be: the check's answer, and tables, full markings and sizes
+pub record IsNetIn (j : Judgement) (a : Answer) (numbers starts fulls : List ℕ) (n : Sizes) : Type 0 where
+  pub answer : checkOutcome a ≡ outcomeOf j
+  pub signals : n .signals ≡ signalsIn j
+  pub tables : HoldsJudged j numbers starts fulls n
+
+abbrev pub IsNet : Judgement → Net → Type 0
+IsNet j n = IsNetIn j (n .answer) (n .numbers) (n .starts) (n .full) (n .sizes)
 
 -- Rows one after another, each from the state that the one before left: the state that they leave.
 unfoldable pub leaves : {S C : Type 0} → (S → C → RowOutcome × S) → S → List C → S

@@ -1,26 +1,66 @@
-// The flat runner: the step on a card's flat card, which is a card of one subnet.
+// The flat runner: the step on a card's flat card, which is a card of one subnet. Its tables are made from the card's, which are kept.
 use crate::Net;
-use crate::Refusal;
+use crate::NetRows;
 use crate::RowAnswer;
 use crate::State;
-use crate::nets::card_net;
-use crate::row::refuse;
-use crate::subnet_runner::subnet_row;
-use card::CARD_BYTES;
-use flattening::flatten;
-use hierarchy::Written;
-ghost use mathlib.Core.List.{[], _∷_};
-ghost use Rattle.hierarchy.specs.Judgement.{judge};
-ghost use Rattle.runners.specs.Calls.{flatCall, subnetCall};
+use crate::loader::net_of;
+use crate::row::row_on;
+use card::SMALL_CARD;
+use card::SMALL_TABLE;
+use card::TABLE;
+use flattening::load_flat;
+use hierarchy::Answer;
+ghost use mathlib.Core.Path.{_≡_};
+ghost use mathlib.Core.Bool.{true};
+ghost use lib.ListN.{length};
+ghost use Rattle.hierarchy.specs.Numbers.{checkOutcome};
+ghost use Rattle.hierarchy.specs.Judgement.{Judgement, judge, outcomeOf};
+ghost use Rattle.flattening.specs.FlatCards.{flatRoom};
+ghost use Rattle.runners.specs.Calls.{flatCall};
 ghost use Rattle.runners.specs.Answers.{IsRow};
-ghost use Rattle.runners.specs.Nets.{flatJudged, IsNet};
+ghost use Rattle.runners.specs.Nets.{flatJudged, IsNetIn, IsNet};
+
+// The check's answer to the flat card: its own refusal, or one subnet and the card's places and transitions.
+fn flat_answer(a: Answer) -> Answer
+    ensures { λ r. ⌜ ((j : Judgement) → checkOutcome a ≡ outcomeOf j → checkOutcome r ≡ outcomeOf (flatJudged j)) ⌝ }
+{
+    match a {
+        Answer::Refused(f, at) => Answer::Refused(f, at),
+        Answer::Accepted(_s, p, t) => Answer::Accepted(1, p, t),
+    }
+}
+
+// The net of a card's flat card, with the numbers of both cards in lent tables that have room for them.
+fn load_flat_net(card: &[u8], numbers: &mut [u16], flat: &mut [u16]) -> NetRows
+    requires { ⌜ flatRoom (length (now card)) (length (now numbers)) (length (now flat)) ≡ true ⌝ }
+    ensures { λ r. ⌜ length (now (numbers .exit)) ≡ length (now (numbers .entry)) ⌝ }
+    ensures { λ r. ⌜ length (now (flat .exit)) ≡ length (now (flat .entry)) ⌝ }
+    ensures { λ r. ⌜ IsNetIn (flatJudged (judge (now (card .entry)))) (r .answer) (now (flat .exit)) (r .starts) (r .full) (r .sizes) ⌝ }
+{
+    let k = load_flat(card, numbers, flat);
+    let a = k.answer;
+    let starts = k.flat_starts;
+    net_of(flat_answer(a), flat, starts)
+}
 
 // The flat card's row, in the order that names its one subnet.
-fn flat_card_row(card: &[u8], state: State, row: &[u16]) -> RowAnswer
-    ensures { λ r. ⌜ IsRow (subnetCall (now (card .entry)) (0 ∷ []) state (now (row .entry))) r ⌝ }
+fn flat_row_in(
+    card: &[u8],
+    numbers: &mut [u16],
+    flat: &mut [u16],
+    state: State,
+    row: &[u16],
+) -> RowAnswer
+    requires { ⌜ flatRoom (length (now card)) (length (now numbers)) (length (now flat)) ≡ true ⌝ }
+    ensures { λ r. ⌜ length (now (numbers .exit)) ≡ length (now (numbers .entry)) ⌝ }
+    ensures { λ r. ⌜ length (now (flat .exit)) ≡ length (now (flat .entry)) ⌝ }
+    ensures { λ r. ⌜ IsRow (flatCall (now (card .entry)) state (now (row .entry))) r ⌝ }
 {
+    let n = load_flat_net(card, numbers, flat);
+    let a = n.answer;
     let order = [0];
-    subnet_row(card, state, &order, row)
+    let sizes = n.sizes;
+    row_on(a, flat, &n.starts, &n.full, sizes, &order, state, row)
 }
 
 // The flat runner's row call: the step on the flat card. Two wrong ones that this rules out: one that reports a conflict before it looks at a
@@ -28,19 +68,14 @@ fn flat_card_row(card: &[u8], state: State, row: &[u16]) -> RowAnswer
 pub fn flat_row(card: &[u8], state: State, row: &[u16]) -> RowAnswer
     ensures { λ r. ⌜ IsRow (flatCall (now (card .entry)) state (now (row .entry))) r ⌝ }
 {
-    // No card is longer, so that the buffer is never short.
-    let mut flat = [0; CARD_BYTES];
-    let w = flatten(card, &mut flat);
-    match w {
-        Written::Refused(f, at) => refuse(Refusal::BadCard(f, at), state),
-        Written::Short(n) => refuse(Refusal::BadState, state),
-        Written::Wrote(n) => {
-            if CARD_BYTES < n {
-                return refuse(Refusal::BadState, state);
-            }
-            flat_card_row(&flat[..n], state, row)
-        }
+    if card.len() <= SMALL_CARD {
+        let mut numbers = [0; SMALL_TABLE];
+        let mut flat = [0; SMALL_TABLE];
+        return flat_row_in(card, &mut numbers, &mut flat, state, row);
     }
+    let mut numbers = [0; TABLE];
+    let mut flat = [0; TABLE];
+    flat_row_in(card, &mut numbers, &mut flat, state, row)
 }
 
 // The net of a card's flat card. Two wrong ones that this rules out: one that hands on the card's own net, and one that takes a refused card's
@@ -48,13 +83,18 @@ pub fn flat_row(card: &[u8], state: State, row: &[u16]) -> RowAnswer
 pub fn flat_net(card: &[u8]) -> Net
     ensures { λ r. ⌜ IsNet (flatJudged (judge (now (card .entry)))) r ⌝ }
 {
-    let mut flat = [0; CARD_BYTES];
-    let w = flatten(card, &mut flat);
-    let Written::Wrote(n) = w else {
-        return card_net(card);
-    };
-    if CARD_BYTES < n {
-        return card_net(card);
+    let mut numbers = [0; TABLE];
+    let mut flat = [0; TABLE];
+    let n = load_flat_net(card, &mut numbers, &mut flat);
+    let answer = n.answer;
+    let starts = n.starts;
+    let full = n.full;
+    let sizes = n.sizes;
+    Net {
+        answer,
+        numbers: flat,
+        starts,
+        full,
+        sizes,
     }
-    card_net(&flat[..n])
 }

@@ -10,6 +10,7 @@ pub mod codes;
 pub mod flat_runner;
 pub mod fresh;
 mod guards;
+mod loader;
 pub mod nets;
 mod order;
 mod places;
@@ -77,6 +78,14 @@ pub struct RowAnswer {
 pub struct Net {
     answer: hierarchy::Answer,
     numbers: [u16; TABLE],
+    starts: [u32; STARTS],
+    full: [u32; MOST_PLACES],
+    sizes: Sizes,
+}
+
+// What is made of a card beside the table of its numbers, which is lent.
+struct NetRows {
+    answer: hierarchy::Answer,
     starts: [u32; STARTS],
     full: [u32; MOST_PLACES],
     sizes: Sizes,

@@ -1,21 +1,15 @@
 // A card that is loaded once, for many rows.
 use crate::Net;
-use crate::Refusal;
 use crate::RowAnswer;
 use crate::Sizes;
 use crate::State;
 use crate::guards::state_test;
+use crate::loader::load_net;
 use crate::order::each_once;
-use crate::places::PlaceNumber;
-use crate::places::by_place;
 use crate::row::loaded_row;
-use crate::row::refuse;
-use crate::row::tested_row;
-use card::MOST_PLACES;
-use card::tables::narrow;
-use card::tables::signals;
+use crate::row::row_on;
+use card::TABLE;
 use hierarchy::Answer;
-use hierarchy::check::load;
 ghost use mathlib.Core.Path.{_≡_};
 ghost use Prim.Native.Nat.{_+_, _-_, _≤_, min};
 ghost use lib.ListN.{length};
@@ -32,31 +26,12 @@ ghost use Rattle.runners.specs.Nets.{signalsIn, IsNet, leaves, rowsIn};
 pub fn card_net(card: &[u8]) -> Net
     ensures { λ r. ⌜ IsNet (judge (now (card .entry))) r ⌝ }
 {
-    let k = load(card);
-    let answer = k.answer;
-    let numbers = k.numbers;
-    let starts = k.starts;
-    let Answer::Accepted(s, p, t) = answer else {
-        return Net {
-            answer,
-            numbers,
-            starts,
-            full: [0; MOST_PLACES],
-            sizes: Sizes {
-                subnets: 0,
-                places: 0,
-                transitions: 0,
-                signals: 0,
-            },
-        };
-    };
-    let sizes = Sizes {
-        subnets: narrow(s),
-        places: narrow(p),
-        transitions: narrow(t),
-        signals: signals(&numbers),
-    };
-    let full = by_place(&numbers, &starts, sizes.subnets, PlaceNumber::Capacity);
+    let mut numbers = [0; TABLE];
+    let n = load_net(card, &mut numbers);
+    let answer = n.answer;
+    let starts = n.starts;
+    let full = n.full;
+    let sizes = n.sizes;
     Net {
         answer,
         numbers,
@@ -79,20 +54,16 @@ pub fn net_row(net: Net, order: &[u16], state: State, row: &[u16]) -> RowAnswer
     ensures { λ r. ⌜ ((j : Judgement) → IsNet j net → IsRow (called (inOrder (now (order .entry))) j state (now (row .entry))) r) ⌝ }
 {
     let a = net.answer;
-    match a {
-        Answer::Refused(f, at) => refuse(Refusal::BadCard(f, at), state),
-        Answer::Accepted(_s, _p, _t) => {
-            tested_row(
-                &net.numbers,
-                &net.starts,
-                &net.full,
-                net.sizes,
-                order,
-                state,
-                row,
-            )
-        }
-    }
+    row_on(
+        a,
+        &net.numbers,
+        &net.starts,
+        &net.full,
+        net.sizes,
+        order,
+        state,
+        row,
+    )
 }
 
 // Where the piece from at on ends, of so many entries; the last may be short.

@@ -18,9 +18,14 @@ use crate::verdict::uncovered;
 use card::MOST_PLACES;
 use card::MOST_SIGNALS;
 use card::MOST_TRANSITIONS;
+use hierarchy::Answer;
 ghost use mathlib.Core.Path.{_≡_};
 ghost use Prim.Native.Nat.{_≤_};
 ghost use lib.ListN.{length};
+ghost use Rattle.hierarchy.specs.Judgement.{Judgement};
+ghost use Rattle.runners.specs.Calls.{called, inOrder};
+ghost use Rattle.runners.specs.Answers.{IsRow};
+ghost use Rattle.runners.specs.Nets.{IsNetIn};
 ghost use Rattle.runners.specs.inner.Finding.{IsFound};
 ghost use Rattle.runners.specs.inner.Steps.{withDegrees, IsStep, IsLoadedRow, IsTestedRow};
 ghost use Rattle.runners.specs.declared.Reply.the-variants.{No};
@@ -172,4 +177,23 @@ pub fn tested_row<'a>(
         return refuse(Refusal::BadOrder, state);
     }
     loaded_row(numbers, starts, full, sizes, order, state, row)
+}
+
+// A row call on a net: the card's own refusal, then the tests and the step.
+pub fn row_on<'a>(
+    answer: Answer,
+    numbers: &'a [u16],
+    starts: &'a [u32],
+    full: &'a [u32],
+    sizes: Sizes,
+    order: &[u16],
+    state: State,
+    row: &[u16],
+) -> RowAnswer
+    ensures { λ r. ⌜ ((j : Judgement) → IsNetIn j answer (now (numbers .entry)) (now (starts .entry)) (now (full .entry)) sizes → IsRow (called (inOrder (now (order .entry))) j state (now (row .entry))) r) ⌝ }
+{
+    match answer {
+        Answer::Refused(f, at) => refuse(Refusal::BadCard(f, at), state),
+        Answer::Accepted(_s, _p, _t) => tested_row(numbers, starts, full, sizes, order, state, row),
+    }
 }

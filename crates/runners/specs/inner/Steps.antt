@@ -7,6 +7,9 @@ use mathlib.Core.Option.{Option, none, some, Option·map}
 use lib.ListN.{length, drop}
 use Rattle.card.specs.Card.{Card}
 use Rattle.card.specs.Finite.{someUnless, _otherwise_}
+use Rattle.hierarchy.specs.Numbers.{checkOutcome}
+use Rattle.hierarchy.specs.Judgement.{Judgement, accepted, outcomeOf}
+use Rattle.hierarchy.specs.declared.Answer.{Answer}
 use Rattle.flattening.specs.Flattening.{flatten}
 use Rattle.runners.specs.Step.{conflict, next}
 use Rattle.runners.specs.Rows.{settle, rowFault, rowRefusal}
@@ -45,6 +48,11 @@ pub record HoldsNet (c : Card) (numbers starts fulls : List ℕ) (n : Sizes) : T
   pub tables : InTables c numbers starts
   pub full : Filled Capacity c fulls
   pub sizes : IsSized c n
+
+-- the check's answer to a card, and its two tables where it was accepted
+pub record IsLoaded (j : Judgement) (a : Answer) (numbers starts : List ℕ) : Type 0 where
+  pub answer : checkOutcome a ≡ outcomeOf j
+  pub tables : (c : Card) → j ≡ accepted c → InTables c numbers starts
 
 -- from a valid state, in a valid order, on a row that passes 20 and 21: a conflict, or the next state
 abbrev pub IsStep : (numbers starts full : List ℕ) → Sizes → (order : List ℕ) → Lent → (row : List ℕ) → RowAnswer → Type 0
