@@ -16,14 +16,14 @@ use Rattle.card.specs.Card.{Card, draws, fills, placeAt}
 use Rattle.card.proofs.Sums.{sum-zero, table-at, table-length}
 use Rattle.card.proofs.Decides.{Decides, Clears, lt-is, le-is, eq-is, and-is, every-is, someUnless-is, otherwise-is, someIf-is, firstOf-is}
 use Rattle.runners.specs.State.{NetState, scale, entry, transfer, fresh, remaining, flow, owed, due}
-use Rattle.runners.specs.Step.{candidate, startedOn, startedBy, advanced, arrivesBy, nextBy, started, conflict, movesOn, arrivesOn, moves, next}
+use Rattle.runners.specs.Step.{candidate, startedOn, advanced, arrivesBy, nextBy, started, conflict, rise, movesOn, arrivesOn, moves, next}
 use Rattle.runners.specs.Rows.{rowFault, rowRefusal}
 use Rattle.runners.specs.Calls.{inRange, consistent}
 use Rattle.runners.specs.declared.Transfer.{Transfer}
 use Rattle.runners.specs.declared.Transfer.the-variants.{Idle, Carrying}
 use Rattle.runners.specs.declared.Refusal.the-variants.{BadDegree, Conflict}
 use Rattle.runners.proofs.ScaleLaws.{scale-some}
-use Rattle.runners.proofs.StepLaws.{Covered, covered-is, safe-by, conflict-is, moves-few}
+use Rattle.runners.proofs.StepLaws.{Covered, covered-is, Covers, Within, within-by, safe-by, conflict-is, moves-few}
 
 abbrev pub InRange : Card → Transfer → Type 0
 InRange f Idle = Unit {0}
@@ -134,24 +134,23 @@ module _ (f : Card) (start : ℕ → Bool) (amount : ℕ → ℕ) (s : NetState)
       go true = scale-some f
       go false = h .transfers t l
 
-  range-by : (t : ℕ) → t < length (f .transitions) → amount t ≤ remaining f (startedOn start (s .transfers) t) → InRange f (arrivesBy f start amount (s .transfers) t)
-  range-by t l within = advanced-range f (startedOn start (s .transfers) t) (amount t) (started-range t l) within
+  range-by : Within f start amount s → (t : ℕ) → t < length (f .transitions) → InRange f (arrivesBy f start amount (s .transfers) t)
+  range-by within t l = advanced-range f (startedOn start (s .transfers) t) (amount t) (started-range t l) (within t l)
 
   -- A CONSISTENT STATE STAYS CONSISTENT, whichever transitions start and however far each moves, where every place is covered with the claims
   -- of those that start and none moves more than what remains
-  pub consistent-by : (row : List ℕ) → ((t : ℕ) → t < length (f .transitions) → amount t ≤ remaining f (startedOn start (s .transfers) t))
-      → ((p : ℕ) → p < length (f .places) → Covered f (s .markings) (startedBy f start (s .transfers)) p) → ((g : ℕ) → g < f .signals → entry row g ≤ scale f)
+  pub consistent-by : (row : List ℕ) → Within f start amount s → Covers f start s → ((g : ℕ) → g < f .signals → entry row g ≤ scale f)
       → Consistent f (nextBy f start amount s row)
   consistent-by row within covers low =
       record {
         places = λ p l. safe-by f start amount s row within p l (covers p l);
-        transfers = λ t l. rw (table-at (length (f .transitions)) (arrivesBy f start amount (s .transfers)) Idle t l) (range-by t l (within t l));
+        transfers = λ t l. rw (table-at (length (f .transitions)) (arrivesBy f start amount (s .transfers)) Idle t l) (range-by within t l);
         degrees = low;
       }
 
 module _ (f : Card) (s : NetState) (row : List ℕ) (h : Consistent f s) where
   pub arrived-range : (t : ℕ) → t < length (f .transitions) → InRange f (arrivesOn f (candidate f s row) s row t)
-  arrived-range t l = range-by f (candidate f s row) (movesOn f (candidate f s row) s row) s h t l (omega arith)
+  arrived-range t l = range-by f (candidate f s row) (movesOn f (candidate f s row) s row) s h (within-by f (candidate f s row) (rise f (s .degrees) row) s) t l
 
   -- AN ACCEPTED ROW KEEPS A CONSISTENT STATE CONSISTENT
   pub next-consistent : Fits f s row → Consistent f (next f s row)

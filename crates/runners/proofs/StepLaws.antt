@@ -14,7 +14,7 @@ use Rattle.card.proofs.Sums.{sum-same, sum-plus, table-at}
 use Rattle.card.proofs.Decides.{Decides, le-is, and-is, someIf-not-is, firstOf-is}
 use Rattle.card.specs.Card.{Card, draws, fills}
 use Rattle.runners.specs.State.{NetState, scale, entry, transfer, remaining, incidence, flow, owed, due, fullMarking, covered}
-use Rattle.runners.specs.Step.{candidate, startedOn, startedBy, conflictBy, advanced, arrivesBy, nextBy, started, conflict, arrivesOn, moves, next}
+use Rattle.runners.specs.Step.{candidate, startedOn, startedBy, conflictBy, movesBy, advanced, arrivesBy, nextBy, started, conflict, moves, next}
 use Rattle.runners.specs.declared.Transfer.{Transfer}
 use Rattle.runners.specs.declared.Transfer.the-variants.{Idle, Carrying}
 
@@ -29,9 +29,16 @@ covered-is f ms xs p =
     Iff·trans (and-is _ _ _ _ (le-is (owed f xs p) (entry ms p)) (le-is (entry ms p + due f xs p) (fullMarking f p)))
     (λ h. record { has = h .0; space = h .1 }, λ h. (h .has, h .space))
 
--- there is no conflict just where every place is covered with the claims of those that start
-pub conflict-by : (f : Card) (start : ℕ → Bool) (s : NetState)
-    → (conflictBy f start s ≡ none) ↔ ((p : ℕ) → p < length (f .places) → Covered f (s .markings) (startedBy f start (s .transfers)) p)
+-- every place is covered with the claims of those that start
+abbrev pub Covers : Card → (start : ℕ → Bool) → NetState → Type 0
+Covers f start s = (p : ℕ) → p < length (f .places) → Covered f (s .markings) (startedBy f start (s .transfers)) p
+
+-- none moves more than what remains
+abbrev pub Within : Card → (start : ℕ → Bool) → (amount : ℕ → ℕ) → NetState → Type 0
+Within f start amount s = (t : ℕ) → t < length (f .transitions) → amount t ≤ remaining f (startedOn start (s .transfers) t)
+
+-- there is no conflict just where every place is covered
+pub conflict-by : (f : Card) (start : ℕ → Bool) (s : NetState) → (conflictBy f start s ≡ none) ↔ Covers f start s
 conflict-by f start s =
     Iff·trans (firstOf-is 0 (length (f .places)) _ _ (λ p. someIf-not-is _ _ _ (covered-is f (s .markings) (startedBy f start (s .transfers)) p)))
     (λ h p l. h p (omega arith) (omega arith), λ h p a b. h p (omega arith))
@@ -52,9 +59,11 @@ remaining-advanced f (Carrying c) d h = go (eqb (c + d) (scale f)) refl
     go true e = omega (arith, eqb-true (c + d) (scale f) e)
     go false e = omega arith
 
--- A STEP OF ANY STARTS AND ANY AMOUNTS, none of which is more than what remains
-module _ (f : Card) (start : ℕ → Bool) (amount : ℕ → ℕ) (s : NetState) (row : List ℕ)
-    (within : (t : ℕ) → t < length (f .transitions) → amount t ≤ remaining f (startedOn start (s .transfers) t)) where
+pub within-by : (f : Card) (start : ℕ → Bool) (asked : ℕ → ℕ) (s : NetState) → Within f start (movesBy f start asked (s .transfers)) s
+within-by f start asked s t l = omega arith
+
+-- A STEP OF ANY STARTS AND ANY AMOUNTS
+module _ (f : Card) (start : ℕ → Bool) (amount : ℕ → ℕ) (s : NetState) (row : List ℕ) (within : Within f start amount s) where
   abbrev carried : List Transfer
   carried = startedBy f start (s .transfers)
 
@@ -103,7 +112,6 @@ module _ (f : Card) (s : NetState) (row : List ℕ) where
   unfolding started
   started-at t l = table-at (length (f .transitions)) (startedOn (candidate f s row) (s .transfers)) Idle t l
 
-  -- none moves more than what remains
   pub moves-few : (t : ℕ) → moves f s row t ≤ remaining f (startedOn (candidate f s row) (s .transfers) t)
   unfolding moves
   moves-few t = omega arith
