@@ -9,6 +9,7 @@ use card::writer::CardSpelt;
 use card::writer::SpellAnswer;
 use card::writer::put_card;
 use card::writer::spell;
+use hierarchy::SHORT_BUFFER;
 use hierarchy::Written;
 use hierarchy::write::write;
 ghost use Prim.Native.Nat.{_<_};
@@ -58,7 +59,7 @@ fn put_written(w: Written, out: &[u8]) {
     match w {
         Written::Wrote(n) => put_length(n),
         Written::Refused(f, at) => put_refusal(hierarchy::fault_number(f), at),
-        Written::Short(n) => put_refusal(24, n),
+        Written::Short(n) => put_refusal(SHORT_BUFFER, n),
     }
     put_bytes(out);
     put_text(b"\n");

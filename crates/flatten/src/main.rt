@@ -3,6 +3,7 @@
 use card::CARD_BYTES;
 use card::INPUT_BYTES;
 use flattening::flatten;
+use hierarchy::SHORT_BUFFER;
 use hierarchy::Written;
 use hierarchy::fault_number;
 use libc::STDIN_FILENO;
@@ -27,7 +28,7 @@ fn put_flat(card: &[u8]) {
     match flatten(card, &mut flat) {
         Written::Wrote(n) => put_bytes(&flat, n),
         Written::Refused(f, at) => put_refusal(fault_number(f), at),
-        Written::Short(n) => put_refusal(24, n),
+        Written::Short(n) => put_refusal(SHORT_BUFFER, n),
     }
 }
 

@@ -56,3 +56,6 @@ pub enum Written {
     Refused(CardFault, usize),
     Short(usize),
 }
+
+// The paper's number of a buffer that is too short.
+pub const SHORT_BUFFER: u64 = 24;

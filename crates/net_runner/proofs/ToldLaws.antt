@@ -1,12 +1,11 @@
 -- What a caller is told of each answer. Assumes nothing.
-use Prim.Native.Nat.{ℕ, suc, _≤_}
-use mathlib.Core.Path.{_≡_, refl, sym, ap, subst, _∙_}
+use Prim.Native.Nat.{ℕ}
+use mathlib.Core.Path.{_≡_, refl, sym, ap, _∙_}
 use mathlib.Core.List.{List, [], _∷_}
 use mathlib.Core.Option.{none, some}
 use native.Mathlib.Omega.{arith}
 use lib.ListN.{length, getD}
 use Rattle.card.specs.Card.{Card}
-use Rattle.card.proofs.Sums.{map-length}
 use Rattle.hierarchy.specs.Conditions.{Meets}
 use Rattle.hierarchy.specs.Numbers.{CheckOutcome, checkOutcome, number}
 use Rattle.hierarchy.specs.Judgement.{Judgement, accepted, refused, judge, outcomeOf, IsChecked}
@@ -15,24 +14,23 @@ use Rattle.hierarchy.specs.declared.Answer.{Answer}
 use Rattle.hierarchy.specs.declared.Answer.the-variants.{Accepted, Refused}
 use Rattle.hierarchy.specs.declared.check.CheckedCard.{CheckedCard}
 use Rattle.hierarchy.proofs.Accepted.{accepted-meets, accepted-loaded}
-use Rattle.flattening.specs.Flattening.{flatten, flatPlaceRow}
-use Rattle.runners.specs.Numbers.{RowOutcome, refusal}
+use Rattle.flattening.specs.Flattening.{flatten}
+use Rattle.runners.specs.Numbers.{RowOutcome, refusal, replyCode}
 use Rattle.runners.specs.Calls.{freshLent, freshOf, freshCall}
 use Rattle.runners.specs.Answers.{IsFresh}
 use Rattle.runners.specs.declared.Refusal.the-variants.{BadCard, BadState}
 use Rattle.runners.specs.declared.State.{State as Lent}
 use Rattle.runners.specs.declared.fresh.FreshState.{FreshState}
-use Rattle.programs.specs.Agreeing.{codeOf}
 use Rattle.net_runner.specs.Told.{rowTold, countsTold}
 use Rattle.net_runner.specs.Slices.{Slices, freshIn, freshOn}
 use Rattle.net_runner.specs.Copies.{tooLong}
 
-pub code-number : (o : RowOutcome) → (codeOf o) .number ≡ (rowTold o) .number
+pub code-number : (o : RowOutcome) → (replyCode o) .number ≡ (rowTold o) .number
 code-number RowOutcome.ok = refl
 code-number (RowOutcome.refused n none) = refl
 code-number (RowOutcome.refused n (some v)) = refl
 
-pub code-value : (o : RowOutcome) → (codeOf o) .value ≡ (rowTold o) .value
+pub code-value : (o : RowOutcome) → (replyCode o) .value ≡ (rowTold o) .value
 code-value RowOutcome.ok = refl
 code-value (RowOutcome.refused n none) = refl
 code-value (RowOutcome.refused n (some v)) = refl

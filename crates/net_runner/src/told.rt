@@ -1,13 +1,13 @@
 // What a caller is told of an answer: its number and its value.
 use hierarchy::Answer;
+use hierarchy::SHORT_BUFFER;
 use hierarchy::Written;
 use hierarchy::fault_number;
-use programs::same::reply_code;
 use runners::Refusal;
-use runners::Reply;
+use runners::replies::refusal_code;
 ghost use mathlib.Core.Path.{_≡_};
 ghost use Rattle.hierarchy.specs.Numbers.{checkOutcome, writeOutcome};
-ghost use Rattle.runners.specs.Numbers.{rowOutcome, refusal};
+ghost use Rattle.runners.specs.Numbers.{refusal};
 ghost use Rattle.net_runner.specs.Told.{checkTold, writeTold, rowTold, IsTold};
 
 pub struct Told {
@@ -43,7 +43,7 @@ pub fn written_told(w: Written) -> Told
             value: at,
         },
         Written::Short(n) => Told {
-            number: 24,
+            number: SHORT_BUFFER,
             value: n,
         },
     }
@@ -53,7 +53,7 @@ pub fn written_told(w: Written) -> Told
 pub fn refuse(why: Refusal, value: &mut usize) -> u64
     ensures { λ r. ⌜ IsTold (rowTold (refusal why)) r (now (value .exit)) ⌝ }
 {
-    let c = reply_code(Reply::No(why));
+    let c = refusal_code(why);
     *value = c.value;
     c.number
 }

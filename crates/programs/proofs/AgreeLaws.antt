@@ -2,7 +2,7 @@
 use Prim.Native.Nat.{ℕ, zero, suc, _+_, _-_, _*_, _/_, _≤_, _<_, min}
 use mathlib.Core.Path.{_≡_, refl, sym, ap, ap₂, subst, _∙_}
 use mathlib.Core.Logic.{_↔_, _⊎_, inl, inr}
-use mathlib.Core.Bool.{Bool, true, false, not, _&&_, cond, false≢true}
+use mathlib.Core.Bool.{Bool, true, false, not, _&&_, false≢true}
 use mathlib.Core.List.{List, [], _∷_, _++_, map, head-eq-of-cons-eq, tail-eq-of-cons-eq}
 use mathlib.Core.Option.{Option, none, some, Option·some-injective, Option·some-ne-none}
 use native.Mathlib.Omega.{arith}
@@ -25,7 +25,8 @@ use Rattle.hierarchy.specs.declared.Answer.the-variants.{Accepted, Refused}
 use Rattle.hierarchy.proofs.Accepted.{accepted-meets}
 use Rattle.flattening.specs.Flattening.{flatten}
 use Rattle.runners.proofs.Agreement.{demand-3}
-use Rattle.runners.specs.Numbers.{RowOutcome, ok, refused}
+use Rattle.runners.proofs.ReplyLaws.{outcomeIn, outcome-of}
+use Rattle.runners.specs.Numbers.{RowOutcome, rowOutcome, replyCode}
 use Rattle.runners.specs.State.{NetState, entry}
 use Rattle.runners.specs.Rows.{rowOf}
 use Rattle.runners.specs.Calls.{view, freshLent, freshCall, flatCall, subnetCall}
@@ -33,16 +34,15 @@ use Rattle.runners.specs.Traces.{Call, trace, observed}
 use Rattle.runners.specs.Answers.{IsRow, IsFresh}
 use Rattle.programs.specs.Files.{fileRow}
 use Rattle.runners.specs.inner.Storing.{slotAt}
-use Rattle.programs.specs.Agreeing.{codeOf, progressCode, degreeCount, degreesOr, rowSize, callSize, callOf, callAt, callsOf, Agrees, IsBoth, IsAgreed}
+use Rattle.programs.specs.Agreeing.{progressCode, degreeCount, degreesOr, rowSize, callSize, callOf, callAt, callsOf, Agrees, IsBoth, IsAgreed}
 use Rattle.runners.specs.declared.Transfer.{Transfer}
 use Rattle.runners.specs.declared.Transfer.the-variants.{Idle, Carrying}
 use Rattle.runners.specs.declared.State.{State as Lent}
-use Rattle.programs.specs.declared.same.Code.{Code}
+use Rattle.runners.specs.declared.replies.Code.{Code}
 use Rattle.programs.specs.declared.agree.Both.{Both}
 use Rattle.programs.specs.declared.file.FileRow.{FileRow}
 use Rattle.runners.specs.declared.RowAnswer.{RowAnswer}
 use Rattle.runners.specs.declared.fresh.FreshState.{FreshState}
-use Rattle.runners.specs.Numbers.{rowOutcome}
 
 -- the answers no and yes
 pub told-no : (P : Type 0) → ¬ P → (false ≡ true) ↔ P
@@ -59,27 +59,19 @@ pub passed : (r : Bool) (P : Type 0) → (r ≡ true) ↔ P → not r ≡ false 
 passed r P d n = d .0 (not-false r n)
 
 -- a reply is known from its three numbers
-abbrev decode : Code → RowOutcome
-decode k = cond (eqb (k .kind) 0) ok (cond (eqb (k .kind) 1) (refused (k .number) none) (refused (k .number) (some (k .value))))
-
-decode-code : (x : RowOutcome) → decode (codeOf x) ≡ x
-decode-code ok = refl
-decode-code (refused n none) = refl
-decode-code (refused n (some v)) = refl
-
-module _ (a b : RowOutcome) (x y : Code) (ex : x ≡ codeOf a) (ey : y ≡ codeOf b) where
+module _ (a b : RowOutcome) (x y : Code) (ex : x ≡ replyCode a) (ey : y ≡ replyCode b) where
   pub reply-differs : ¬ (x ≡ y) → (false ≡ true) ↔ (a ≡ b)
-  reply-differs n = told-no (a ≡ b) (λ e. n (ex ∙ ap codeOf e ∙ sym ey))
+  reply-differs n = told-no (a ≡ b) (λ e. n (ex ∙ ap replyCode e ∙ sym ey))
 
   reply-equal : x ≡ y → a ≡ b
-  reply-equal e = sym (decode-code a) ∙ ap decode (sym ex ∙ e ∙ ey) ∙ decode-code b
+  reply-equal e = outcome-of a x ex ∙ ap outcomeIn e ∙ sym (outcome-of b y ey)
 
   parts : x .kind ≡ y .kind → x .number ≡ y .number → x .value ≡ y .value → x ≡ y
   parts k n v = λ i. record { kind = k i; number = n i; value = v i }
 
   pub reply-value : x .kind ≡ y .kind → x .number ≡ y .number → (eqb (x .value) (y .value) ≡ true) ↔ (a ≡ b)
   reply-value k n =
-      (λ e. reply-equal (parts k n (eqb-true (x .value) (y .value) e)), λ e. eq-eqb (x .value) (y .value) (ap (λ (z : Code). z .value) (ex ∙ ap codeOf e ∙ sym ey)))
+      (λ e. reply-equal (parts k n (eqb-true (x .value) (y .value) e)), λ e. eq-eqb (x .value) (y .value) (ap (λ (z : Code). z .value) (ex ∙ ap replyCode e ∙ sym ey)))
 
 -- numbers of two lists
 module _ (xs ys : List ℕ) where

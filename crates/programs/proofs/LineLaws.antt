@@ -2,7 +2,7 @@
 use Prim.Native.Nat.{ℕ, zero, suc, _+_, _-_, _*_, _/_, _%_, _^_, _≤_, _<_}
 use mathlib.Core.Path.{_≡_, refl, sym, ap, subst, _∙_}
 use mathlib.Core.Logic.{_⊎_, inl, inr}
-use mathlib.Core.Option.{Option, none, some}
+use mathlib.Core.Option.{none, some}
 use mathlib.Core.Bool.{Bool, true, false, cond}
 use mathlib.Core.List.{List, [], _∷_, _++_, map, append-assoc}
 use native.Mathlib.Omega.{arith}
@@ -11,10 +11,12 @@ use native.Mathlib.Nat.{pow-suc, zero-add}
 use lib.ListN.{length, getD, set, take, replicate, length-set, length-append, length-replicate}
 use lib.Seq.{set-append-seam, take-suc, take-all}
 use lib.Dec.{ltb}
-use borrow.Author.Tests.{lt-ltb, le-ltb, ltb-false}
+use borrow.Author.Tests.{lt-ltb, le-ltb, ltb-false, eq-eqb, ne-eqb}
 use Rattle.card.proofs.BitLaws.{lt-or-ge}
-use Rattle.runners.specs.Numbers.{RowOutcome, ok, refused}
+use Rattle.runners.specs.Numbers.{RowOutcome, ok, refused, replyCode}
 use Rattle.runners.specs.State.{NetState}
+use Rattle.runners.specs.declared.replies.Code.{Code}
+use Rattle.runners.proofs.ReplyLaws.{outcomeIn, outcome-of}
 use Rattle.programs.specs.Programs.{stateWords, refusalWords, valueWords, replyWords, cardLine}
 use Rattle.programs.specs.Text.{ascii, digit, digits, decimal, line}
 use Rattle.programs.specs.Lines.{Cursor, putByte, putAll, Puts, spaced, joined, transferWord, IsLine}
@@ -263,10 +265,19 @@ reply-text (refused k v) s n = text-is (decimal n) (ascii "no") (decimal k ∷ v
 pub card-text : (n at : ℕ) → cardLine n at ≡ joined (refusalWords n (some at)) ++ (10 ∷ [])
 card-text n at = line-is (ascii "no") (decimal n ∷ decimal at ∷ []) ∙ sym (append-assoc (ascii "no") (spaced (decimal n ∷ decimal at ∷ [])) (10 ∷ []))
 
--- the words of a refusal, from its number and value
-pub why-words : (o : RowOutcome) (n : ℕ) (v : Option ℕ) (x : List ℕ) (at : ℕ) (z : List ℕ) (r : ℕ) → o ≡ refused n v → Puts x at (joined (refusalWords n v)) z r
-    → (s : NetState) → Puts x at (joined (replyWords o s)) z r
-why-words o n v x at z r e p s = subst (λ (q : RowOutcome). Puts x at (joined (replyWords q s)) z r) (sym e) p
+-- the words of a reply, from its three numbers
+module _ (o : RowOutcome) (k : Code) (e : k ≡ replyCode o) (s : NetState) (x : List ℕ) (at : ℕ) (z : List ℕ) (r : ℕ) where
+  words-of : (q : RowOutcome) → outcomeIn k ≡ q → Puts x at (joined (replyWords q s)) z r → Puts x at (joined (replyWords o s)) z r
+  words-of q i p = subst (λ (w : RowOutcome). Puts x at (joined (replyWords w s)) z r) (sym (outcome-of o k e ∙ i)) p
+
+  pub ok-words : k .kind ≡ 0 → Puts x at (joined (stateWords s)) z r → Puts x at (joined (replyWords o s)) z r
+  ok-words i p = words-of ok (rw (eq-eqb (k .kind) 0 i)) p
+
+  pub plain-words : (k .kind ≡ 0 → ⊥) → k .kind ≡ 1 → Puts x at (joined (refusalWords (k .number) none)) z r → Puts x at (joined (replyWords o s)) z r
+  plain-words n i p = words-of (refused (k .number) none) (rw (ne-eqb (k .kind) 0 n, eq-eqb (k .kind) 1 i)) p
+
+  pub valued-words : (k .kind ≡ 0 → ⊥) → (k .kind ≡ 1 → ⊥) → Puts x at (joined (refusalWords (k .number) (some (k .value)))) z r → Puts x at (joined (replyWords o s)) z r
+  valued-words n i p = words-of (refused (k .number) (some (k .value))) (rw (ne-eqb (k .kind) 0 n, ne-eqb (k .kind) 1 i)) p
 
 -- the line of a row, and that of a card, part by part
 pub reply-done : (o : RowOutcome) (s : NetState) (n : ℕ) (y : List ℕ) (m : ℕ) (u : List ℕ) (k : ℕ) (v : List ℕ) (j : ℕ) (z : List ℕ) (r : ℕ) → n < 2 ^ 64

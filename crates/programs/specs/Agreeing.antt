@@ -11,15 +11,12 @@ use Rattle.card.specs.Bits.{bytesFor}
 use Rattle.card.specs.Card.{Card}
 use Rattle.hierarchy.specs.Judgement.{accepted, judge}
 use Rattle.hierarchy.specs.Judgement
-use Rattle.flattening.specs.Flattening.{flatten}
-use Rattle.runners.specs.Numbers.{RowOutcome, ok, refused}
 use Rattle.runners.specs.Rows.{rowWidth, rowOf}
 use Rattle.runners.specs.Calls.{freshCall, eachOnce, flatCall, subnetCall}
 use Rattle.runners.specs.Traces.{Call, flatTrace, subnetTrace, observed}
 use Rattle.runners.specs.declared.Transfer.{Transfer}
 use Rattle.runners.specs.declared.Transfer.the-variants.{Idle, Carrying}
 use Rattle.runners.specs.declared.State.{State as Lent}
-use Rattle.programs.specs.declared.same.Code.{Code}
 use Rattle.programs.specs.declared.agree.Both.{Both}
 
 -- Calls in a file: a row's bytes as in a rows file, and then the visiting order, a byte a subnet.
@@ -64,12 +61,7 @@ pub record IsBoth (card : List ℕ) (k : Call) (x y : Lent) (r : Both) : Type 0 
 abbrev pub degreeCount : (whole : Bool) → (signals : ℕ) → ℕ
 degreeCount whole signals = cond whole signals 0
 
--- Replies and transfers as numbers, so that they are compared.
-abbrev pub codeOf : RowOutcome → Code
-codeOf ok = record { kind = 0; number = 0; value = 0 }
-codeOf (refused n none) = record { kind = 1; number = n; value = 0 }
-codeOf (refused n (some v)) = record { kind = 2; number = n; value = v }
-
+-- A transfer as a number, so that two are compared.
 abbrev pub progressCode : Transfer → ℕ
 progressCode Idle = 0
 progressCode (Carrying c) = c + 1

@@ -3,16 +3,15 @@ use card::MOST_PLACES;
 use card::MOST_TRANSITIONS;
 use hierarchy::CardFault;
 use hierarchy::fault_number;
-use runners::Refusal;
 use runners::Reply;
 use runners::State;
 use runners::Transfer;
+use runners::replies::reply_code;
 ghost use Prim.Native.Nat.{_+_, _≤_};
 ghost use mathlib.Core.List.{[], _∷_, map};
 ghost use mathlib.Core.Option.{none, some};
 ghost use Rattle.hierarchy.specs.Numbers.{number};
-ghost use Rattle.runners.specs.Numbers.{refusal, rowOutcome};
-ghost use Rattle.runners.specs.State.{NetState};
+ghost use Rattle.runners.specs.Numbers.{rowOutcome};
 ghost use Rattle.runners.specs.Calls.{view};
 ghost use Rattle.programs.specs.Text.{digit, decimal, line};
 ghost use Rattle.programs.specs.Programs.{replyWords, stateWords, refusalWords, cardLine};
@@ -145,27 +144,18 @@ fn put_refusal_at(out: &mut [u8], at: usize, n: u64, value: u64) -> usize
     put_number(out, next, value)
 }
 
-// The words of a refusal of a call, by the paper's numbers.
-fn put_why(out: &mut [u8], at: usize, why: Refusal) -> usize
-    ensures { λ r. ⌜ ((s : NetState) → Puts (now (out .entry)) at (joined (replyWords (refusal why) s)) (now (out .exit)) r) × (r ≤ at + 44) ⌝ }
-{
-    match why {
-        Refusal::BadCard(f, bit) => put_refusal_at(out, at, fault_number(f), bit as u64),
-        Refusal::BadState => put_refusal(out, at, 25),
-        Refusal::BadOrder => put_refusal(out, at, 23),
-        Refusal::BadRow => put_refusal(out, at, 20),
-        Refusal::BadDegree(g) => put_refusal_at(out, at, 21, g as u64),
-        Refusal::Conflict(p) => put_refusal_at(out, at, 22, p as u64),
-    }
-}
-
+// The words of a reply, by the paper's numbers.
 fn put_reply(out: &mut [u8], at: usize, reply: Reply, state: State) -> usize
     ensures { λ r. ⌜ Puts (now (out .entry)) at (joined (replyWords (rowOutcome reply) (view state))) (now (out .exit)) r × (r ≤ at + 4339) ⌝ }
 {
-    match reply {
-        Reply::Ok => put_state(out, at, state),
-        Reply::No(why) => put_why(out, at, why),
+    let c = reply_code(reply);
+    if c.kind == 0 {
+        return put_state(out, at, state);
     }
+    if c.kind == 1 {
+        return put_refusal(out, at, c.number);
+    }
+    put_refusal_at(out, at, c.number, c.value as u64)
 }
 
 // The line of row n. Two wrong ones that this rules out: one that prints fixed markings, and one that prints an idle transition as a

@@ -2,75 +2,17 @@
 use card::MOST_PLACES;
 use card::MOST_SIGNALS;
 use card::MOST_TRANSITIONS;
-use hierarchy::fault_number;
-use runners::Refusal;
 use runners::Reply;
 use runners::State;
 use runners::Transfer;
+use runners::replies::reply_code;
 ghost use mathlib.Core.Path.{_≡_};
 ghost use mathlib.Core.Logic.{_↔_};
 ghost use mathlib.Core.Bool.{true};
 ghost use Prim.Native.Nat.{min};
-ghost use Rattle.runners.specs.Numbers.{refusal, rowOutcome};
+ghost use Rattle.runners.specs.Numbers.{rowOutcome};
 ghost use Rattle.runners.specs.Calls.{view};
-ghost use Rattle.programs.specs.Agreeing.{codeOf, progressCode};
-
-// A reply as three numbers: its kind, which is 0 for ok, 1 for a refusal that gives its number only and 2 for one with a value, and both.
-pub struct Code {
-    pub kind: u8,
-    pub number: u64,
-    pub value: usize,
-}
-
-fn refusal_code(why: Refusal) -> Code
-    ensures { λ r. ⌜ r ≡ codeOf (refusal why) ⌝ }
-{
-    match why {
-        Refusal::BadCard(f, at) => Code {
-            kind: 2,
-            number: fault_number(f),
-            value: at,
-        },
-        Refusal::BadState => Code {
-            kind: 1,
-            number: 25,
-            value: 0,
-        },
-        Refusal::BadOrder => Code {
-            kind: 1,
-            number: 23,
-            value: 0,
-        },
-        Refusal::BadRow => Code {
-            kind: 1,
-            number: 20,
-            value: 0,
-        },
-        Refusal::BadDegree(g) => Code {
-            kind: 2,
-            number: 21,
-            value: g,
-        },
-        Refusal::Conflict(p) => Code {
-            kind: 2,
-            number: 22,
-            value: p,
-        },
-    }
-}
-
-pub fn reply_code(reply: Reply) -> Code
-    ensures { λ r. ⌜ r ≡ codeOf (rowOutcome reply) ⌝ }
-{
-    match reply {
-        Reply::Ok => Code {
-            kind: 0,
-            number: 0,
-            value: 0,
-        },
-        Reply::No(why) => refusal_code(why),
-    }
-}
+ghost use Rattle.programs.specs.Agreeing.{progressCode};
 
 // Two wrong tests that this rules out: one that compares the numbers only, and one that takes any two refusals for equal.
 pub fn same_reply(a: Reply, b: Reply) -> bool

@@ -9,6 +9,7 @@ use crate::numbers::wide;
 use crate::states::with_entry;
 use flattening::flatten;
 use hierarchy::Answer;
+use hierarchy::SHORT_BUFFER;
 use hierarchy::Written;
 use hierarchy::fault_number;
 use libc::STDOUT_FILENO;
@@ -107,7 +108,7 @@ fn put_written(card: &[u8], out: &mut [u8]) {
     match w {
         Written::Wrote(n) => put_outcome(b"flat ok ", 0, n),
         Written::Refused(f, at) => put_outcome(b"flat no ", fault_number(f), at),
-        Written::Short(n) => put_outcome(b"flat no ", 24, n),
+        Written::Short(n) => put_outcome(b"flat no ", SHORT_BUFFER, n),
     }
     io::write_all(STDOUT_FILENO, out);
     io::write_all(STDOUT_FILENO, b"\n");

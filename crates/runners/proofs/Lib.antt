@@ -24,3 +24,4 @@ pub mod StepRow
 pub mod CallLaws
 pub mod PieceLaws
 pub mod NetLaws
+pub mod ReplyLaws

@@ -8,6 +8,7 @@ use Rattle.runners.specs.declared.Refusal.{Refusal}
 use Rattle.runners.specs.declared.Refusal.the-variants.{BadCard, BadState, BadOrder, BadRow, BadDegree, Conflict}
 use Rattle.runners.specs.declared.Reply.{Reply}
 use Rattle.runners.specs.declared.Reply.the-variants.{Ok, No}
+use Rattle.runners.specs.declared.replies.Code.{Code}
 
 -- A reply is ok, or a refusal's number with its signal or place (of a card: its bit) if it has one.
 pub data RowOutcome : Type 0 where
@@ -26,6 +27,12 @@ refusal BadState = refused 25 none
 abbrev pub rowOutcome : Reply → RowOutcome
 rowOutcome Ok = ok
 rowOutcome (No why) = refusal why
+
+-- as the code hands it out: its kind (ok, a number only, a number with a value), its number and its value
+abbrev pub replyCode : RowOutcome → Code
+replyCode ok = record { kind = 0; number = 0; value = 0 }
+replyCode (refused n none) = record { kind = 1; number = n; value = 0 }
+replyCode (refused n (some v)) = record { kind = 2; number = n; value = v }
 
 -- a carrying transition has a progress c, an idle one has none; a progress of 0 is not idle
 abbrev pub progress : Transfer → Option ℕ

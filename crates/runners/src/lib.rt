@@ -14,6 +14,7 @@ mod loader;
 pub mod nets;
 mod order;
 mod places;
+pub mod replies;
 mod rounds;
 mod row;
 mod rules;

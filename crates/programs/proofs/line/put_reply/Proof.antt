@@ -1,49 +1,66 @@
 -- `programs::line::put_reply` meets its contract. Assumes nothing.
 use borrow.Author.Needs.{needs}
-use Rattle.runners.specs.declared.Reply.{Reply}
-use Rattle.programs.specs.Lines.{Puts, joined}
-use Rattle.programs.specs.Programs.{replyWords}
-use Rattle.runners.specs.Calls.{view}
-use Rattle.runners.specs.Numbers.{rowOutcome}
 use denote.Ref.{now}
 use native.Mathlib.Omega.{arith}
-use mathlib.Core.Path.{subst, sym}
+use Rattle.runners.specs.Numbers.{rowOutcome}
+use Rattle.runners.specs.Calls.{view}
+use Rattle.programs.proofs.LineLaws.{ok-words, plain-words, valued-words}
 use Rattle.programs.proofs.line.put_reply.Statement.{statement}
 use Rattle.programs.proofs.line.put_reply.Tie as tie
 
-enum-told : tie.Need-enum-told
-enum-told c = search needs
+reply-code-requires : tie.Need-reply-code-requires
+reply-code-requires c κs = search needs
 
 put-state-requires : tie.Need-put-state-requires
 put-state-requires c κs = search needs
-
-enum-known-reply : tie.Need-enum-known-reply
-enum-known-reply c = search needs
-
-put-why-requires : tie.Need-put-why-requires
-put-why-requires c κs = search needs
 
 same-length : tie.Need-same-length
 same-length c = search needs
 
 returns : tie.Need-returns
-returns c = (subst (λ (x : Reply). Puts (now ((c .before .before .before .before .before .before .before .args) .out)) ((c .before .before .before .before .before .before .before .args) .at) (joined (replyWords (rowOutcome x) (view ((c .before .before .before .before .before .before .before .args) .state)))) ((c .before .before .put-state) .last .0) ((c .before .before .put-state) .result)) (sym ((c .before .before .before .before .enum-told) .given .1)) ((c .before .before .put-state) .ensures .0), (c .before .before .put-state) .ensures .1)
+returns c =
+    let a = c .before .before .before .before .before .before .before .before .args in
+    let k = c .before .before .before .before .before .before .reply-code in
+    let w = c .before .before .put-state in
+    (ok-words (rowOutcome (a .reply)) (k .result) (k .ensures) (view (a .state)) (now (a .out)) (a .at) (w .last .0) (w .result) ((c .before .before .before .before .if1) .taken) (w .ensures .0), omega (arith, w .ensures .1))
+
+put-refusal-requires : tie.Need-put-refusal-requires
+put-refusal-requires c κs = search needs
 
 same-length-2 : tie.Need-same-length-2
 same-length-2 c = search needs
 
 returns-2 : tie.Need-returns-2
-returns-2 c = (subst (λ (x : Reply). Puts (now ((c .before .before .before .before .before .before .before .before .args) .out)) ((c .before .before .before .before .before .before .before .before .args) .at) (joined (replyWords (rowOutcome x) (view ((c .before .before .before .before .before .before .before .before .args) .state)))) ((c .before .before .put-why) .last .0) ((c .before .before .put-why) .result)) (sym ((c .before .before .before .before .before .reply) .given .1)) ((c .before .before .put-why) .ensures .0 (view ((c .before .before .before .before .before .before .before .before .args) .state))), omega (arith, (c .before .before .put-why) .ensures .1))
+returns-2 c =
+    let a = c .before .before .before .before .before .before .before .before .before .before .args in
+    let k = c .before .before .before .before .before .before .before .before .reply-code in
+    let w = c .before .before .put-refusal in
+    (plain-words (rowOutcome (a .reply)) (k .result) (k .ensures) (view (a .state)) (now (a .out)) (a .at) (w .last .0) (w .result) ((c .before .before .before .before .before .before .if1) .left) ((c .before .before .before .before .if2) .taken) (w .ensures .0), omega (arith, w .ensures .1))
+
+put-refusal-at-requires : tie.Need-put-refusal-at-requires
+put-refusal-at-requires c κs = search needs
+
+same-length-3 : tie.Need-same-length-3
+same-length-3 c = search needs
+
+returns-3 : tie.Need-returns-3
+returns-3 c =
+    let a = c .before .before .before .before .before .before .before .before .before .before .args in
+    let k = c .before .before .before .before .before .before .before .before .reply-code in
+    let w = c .before .before .put-refusal-at in
+    (valued-words (rowOutcome (a .reply)) (k .result) (k .ensures) (view (a .state)) (now (a .out)) (a .at) (w .last .0) (w .result) ((c .before .before .before .before .before .before .if1) .left) ((c .before .before .before .before .if2) .left) (w .ensures .0), omega (arith, w .ensures .1))
 
 pub put-reply-spec : {M : Type 1} → statement M
 put-reply-spec =
     tie.close
     (tie.spec
-    enum-told
+    reply-code-requires
     put-state-requires
-    enum-known-reply
-    put-why-requires
     same-length
     returns
+    put-refusal-requires
     same-length-2
-    returns-2)
+    returns-2
+    put-refusal-at-requires
+    same-length-3
+    returns-3)

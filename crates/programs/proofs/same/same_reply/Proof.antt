@@ -1,6 +1,6 @@
 -- `programs::same::same_reply` meets its contract. Assumes nothing.
 use borrow.Author.Needs.{needs}
-use Rattle.programs.specs.declared.same.Code.{Code}
+use Rattle.runners.specs.declared.replies.Code.{Code}
 use Rattle.runners.specs.Numbers.{rowOutcome}
 use mathlib.Core.Path.{ap}
 use Rattle.programs.proofs.AgreeLaws.{reply-differs, reply-value}

@@ -1,11 +1,10 @@
--- `programs::same::reply_code` meets its contract. Assumes nothing.
+-- `runners::replies::reply_code` meets its contract. Assumes nothing.
 use borrow.Author.Needs.{needs}
 use Rattle.runners.specs.declared.Reply.{Reply}
-use Rattle.runners.specs.Numbers.{rowOutcome}
-use Rattle.programs.specs.Agreeing.{codeOf}
+use Rattle.runners.specs.Numbers.{rowOutcome, replyCode}
 use mathlib.Core.Path.{sym, ap}
-use Rattle.programs.proofs.same.reply_code.Statement.{statement}
-use Rattle.programs.proofs.same.reply_code.Tie as tie
+use Rattle.runners.proofs.replies.reply_code.Statement.{statement}
+use Rattle.runners.proofs.replies.reply_code.Tie as tie
 
 enum-told : tie.Need-enum-told
 enum-told c = search needs
@@ -17,7 +16,7 @@ refusal-code-requires : tie.Need-refusal-code-requires
 refusal-code-requires c κs = search needs
 
 returns : tie.Need-returns
-returns c = sym (ap (λ (x : Reply). codeOf (rowOutcome x)) ((c .enum-told) .given .1))
+returns c = sym (ap (λ (x : Reply). replyCode (rowOutcome x)) ((c .enum-told) .given .1))
 
 returns-2 : tie.Need-returns-2
 returns-2 c = search needs
