@@ -9,7 +9,7 @@ use native.Mathlib.Omega.{arith}
 use lib.ListN.{length, getD, set, take, drop, replicate, length-append, length-drop, length-replicate, List·getD-map}
 use lib.Seq.{take-all, length-take-le, getD-take, getD-set-same, getD-set-other, ext-getD}
 use lib.Dec.{eqb}
-use borrow.Author.Tests.{eqb-true, eqb-false, eq-eqb, ne-eqb}
+use borrow.Author.Tests.{eqb-true, eq-eqb, ne-eqb}
 use Rattle.card.specs.Finite.{someUnless, _otherwise_}
 use Rattle.card.specs.Card.{Card}
 use Rattle.card.specs.Spelling.{putInto}
@@ -22,13 +22,12 @@ use Rattle.hierarchy.proofs.Accepted.{accepted-meets}
 use Rattle.flattening.specs.Flattening.{flatten, flatPlaceRow}
 use Rattle.runners.specs.Numbers.{RowOutcome, rowOutcome, refusal}
 use Rattle.runners.specs.State.{NetState, entry, fresh}
-use Rattle.runners.specs.Step.{next}
-use Rattle.runners.specs.Rows.{settle, rowRefusal}
-use Rattle.runners.specs.Calls.{view, slot, store, blank, freshLent, consistent, valid, eachOnce, called, flatCall, subnetCall}
+use Rattle.runners.specs.Rows.{settle, Act, actOf}
+use Rattle.runners.specs.Calls.{view, slot, store, blank, freshLent, consistent, validIn, inState, valid, Given, lentCall, callOn, flatCall, subnetCall}
 use Rattle.runners.specs.Columns.{codeOf, transferOf}
 use Rattle.runners.specs.inner.Storing.{Counts, slotAt}
 use Rattle.runners.specs.declared.Transfer.{Transfer}
-use Rattle.runners.specs.declared.Transfer.the-variants.{Idle, Carrying}
+use Rattle.runners.specs.declared.Transfer.the-variants.{Idle}
 use Rattle.runners.specs.declared.Slot.{Slot}
 use Rattle.runners.specs.declared.State.{State as Lent}
 use Rattle.runners.specs.declared.Refusal.{Refusal}
@@ -36,11 +35,11 @@ use Rattle.runners.specs.declared.Refusal.the-variants.{BadCard, BadState, BadO
 use Rattle.runners.specs.Answers.{IsRow}
 use Rattle.runners.specs.declared.RowAnswer.{RowAnswer}
 use Rattle.runners.specs.declared.Reply.the-variants.{Ok, No}
-use Rattle.runners.proofs.StateLaws.{Sized, fits-is, next-sized, fresh-sized}
-use Rattle.runners.proofs.TraceLaws.{view-store}
+use Rattle.runners.proofs.StateLaws.{Consistent, consistent-is, Sized, fresh-sized}
+use Rattle.runners.proofs.TraceLaws.{view-store, Keeps, ask-keeps}
 use Rattle.runners.proofs.TransferLaws.{slot-at}
 use Rattle.net_runner.specs.Told.{rowTold, IsTold}
-use Rattle.net_runner.specs.Slices.{IsCalled, Slices, slices, stateOf, slicesOf, sized, validOn, freshIn, freshOn, calledIn, flatOn, subnetOn}
+use Rattle.net_runner.specs.Slices.{IsCalled, Slices, slices, stateOf, slicesOf, sized, inSlices, freshIn, flatOn, subnetOn}
 use Rattle.net_runner.specs.Copies.{Fits, Lends, takenBack, handedBack, tooLong}
 
 -- transfers of an array
@@ -151,56 +150,54 @@ none-right : (a b : Option Refusal) → (a otherwise b) ≡ none → b ≡ none
 none-right none b e = e
 none-right (some why) b e = absurd (Option·some-ne-none why e)
 
-module _ (ordered : Card → Bool) (x : Slices) (l : Lent) (h : Lends x l) (row : List ℕ) where
-  valid-same : (f : Card) → valid f l ≡ validOn f x
-  unfolding valid validOn sized
+module _ (x : Slices) (l : Lent) (h : Lends x l) where
+  valid-same : (f : Card) → valid f l ≡ validIn inSlices f x
+  unfolding validIn sized
   valid-same f =
       ap (λ (s : NetState). eqb (l .places) (length (f .places)) && eqb (l .transitions) (length (f .transitions)) && eqb (l .signals) (f .signals) && consistent f s) (h .state)
       ∙ rw (h .places, h .transitions, h .signals)
 
-  module _ (c : Card) where
-    abbrev f : Card
-    f = flatten c
-
+  module _ (f : Card) (ordered : Bool) (a : Act) (keeps : Keeps f (Consistent f) a) where
     abbrev s : NetState
     s = stateOf x
 
     abbrev inner : Option Refusal
-    inner = someUnless (ordered c) BadOrder otherwise rowRefusal f s row
+    inner = someUnless ordered BadOrder otherwise a .refusal s
 
-    settled : validOn f x ≡ true → (o : Option Refusal) → inner ≡ o → handedBack (settle o l (store l (next f s row))) x ≡ settle o x (slicesOf (next f s row))
-    unfolding validOn
+    settled : validIn inSlices f x ≡ true → (o : Option Refusal) → inner ≡ o → handedBack (settle o l (store l (a .next s))) x ≡ settle o x (slicesOf (a .next s))
+    unfolding validIn
     settled v (some why) e = refused-back why l x
     settled v none e =
         let z = sized-lengths f x (and-left (sized f x) (consistent f s) v) in
-        let k = fits-is f s row .0 (none-right (someUnless (ordered c) BadOrder) (rowRefusal f s row) e) .long in
+        let k = keeps s (consistent-is f s .0 (and-right (sized f x) (consistent f s) v)) (none-right (someUnless ordered BadOrder) (a .refusal s) e) in
         let n : Counts f l = record { places = h .places ∙ z .places; transitions = h .transitions ∙ z .transitions; signals = h .signals ∙ z .signals } in
-        ap (λ (y : Slices). (RowOutcome.ok, y)) (taken-store f l (next f s row) x n (next-sized f s row k) (h .places) (h .transitions) (h .signals))
+        ap (λ (y : Slices). (RowOutcome.ok, y)) (taken-store f l (a .next s) x n (k .sized) (h .places) (h .transitions) (h .signals))
 
-    tested : (b : Bool) → validOn f x ≡ b → handedBack (settle (someUnless b BadState otherwise inner) l (store l (next f s row))) x ≡ settle (someUnless b BadState otherwise inner) x (slicesOf (next f s row))
+    tested : (b : Bool) → validIn inSlices f x ≡ b → handedBack (settle (someUnless b BadState otherwise inner) l (store l (a .next s))) x ≡ settle (someUnless b BadState otherwise inner) x (slicesOf (a .next s))
     tested true e = settled e inner refl
     tested false e = refl
 
-    accepted-on : handedBack (called ordered (accepted c) l row) x ≡ calledIn ordered (accepted c) x row
-    accepted-on =
-        subst (λ (v : NetState). handedBack (settle (someUnless (valid f l) BadState otherwise someUnless (ordered c) BadOrder otherwise rowRefusal f v row) l (store l (next f v row))) x ≡ calledIn ordered (accepted c) x row)
-        (sym (h .state)) (rw (valid-same f) (tested (validOn f x) refl))
+    lent-on : handedBack (lentCall inState f ordered a l) x ≡ lentCall inSlices f ordered a x
+    lent-on =
+        subst (λ (v : NetState). handedBack (settle (someUnless (valid f l) BadState otherwise someUnless ordered BadOrder otherwise a .refusal v) l (store l (a .next v))) x ≡ lentCall inSlices f ordered a x)
+        (sym (h .state)) (rw (valid-same f) (tested (validIn inSlices f x) refl))
 
-  pub called-on : (j : Judgement) → handedBack (called ordered j l row) x ≡ calledIn ordered j x row
-  called-on (accepted c) = accepted-on c
-  called-on (refused n at) = refl
+  -- A CALL ON SLICES IS THE CALL ON THE STATE THAT THEY MAKE, handed back
+  pub called-on : (j : Judgement) (given : Card → Given) → handedBack (callOn inState j given l) x ≡ callOn inSlices j given x
+  called-on (accepted c) given = lent-on (flatten c) ((given c) .ordered) (actOf (flatten c) ((given c) .ask)) (ask-keeps (flatten c) ((given c) .ask))
+  called-on (refused n at) given = refl
 
-pub flat-on : (card : List ℕ) (x : Slices) (l : Lent) → Lends x l → (row : List ℕ) → handedBack (flatCall card l row) x ≡ flatOn card x row
+pub flat-on : (card : List ℕ) (x : Slices) (l : Lent) → Lends x l → (r : List ℕ) → handedBack (flatCall card l r) x ≡ flatOn card x r
 unfolding flatCall flatOn
-flat-on card x l h row = called-on (λ c. true) x l h row (judge card)
+flat-on card x l h r = called-on x l h (judge card) _
 
-pub subnet-on : (card order : List ℕ) (x : Slices) (l : Lent) → Lends x l → (row : List ℕ) → handedBack (subnetCall card order l row) x ≡ subnetOn card order x row
+pub subnet-on : (card order : List ℕ) (x : Slices) (l : Lent) → Lends x l → (r : List ℕ) → handedBack (subnetCall card order l r) x ≡ subnetOn card order x r
 unfolding subnetCall subnetOn
-subnet-on card order x l h row = called-on (λ c. eachOnce (length (c .subnets)) order) x l h row (judge card)
+subnet-on card order x l h r = called-on x l h (judge card) _
 
 -- slices that are too long for any card
-valid-sized : (f : Card) (x : Slices) → validOn f x ≡ true → sized f x ≡ true
-unfolding validOn
+valid-sized : (f : Card) (x : Slices) → validIn inSlices f x ≡ true → sized f x ≡ true
+unfolding validIn
 valid-sized f x e = and-left (sized f x) (consistent f (stateOf x)) e
 
 too-long : (c : Card) (x : Slices) → Meets c → (Fits x → ⊥) → sized (flatten c) x ≡ true → ⊥
@@ -213,16 +210,15 @@ too-long c x m n e =
       degrees = omega (arith, z .signals, m .wellformed .fewSignals);
     })
 
-pub called-long : (ordered : Card → Bool) (card : List ℕ) (x : Slices) (row : List ℕ) → (Fits x → ⊥) → calledIn ordered (judge card) x row ≡ (tooLong (judge card), x)
-called-long ordered card x row n = go (judge card) refl
+pub called-long : (given : Card → Given) (card : List ℕ) (x : Slices) → (Fits x → ⊥) → callOn inSlices (judge card) given x ≡ (tooLong (judge card), x)
+called-long given card x n = go (judge card) refl
   where
-    go : (j : Judgement) → judge card ≡ j → calledIn ordered j x row ≡ (tooLong j, x)
+    go : (j : Judgement) → judge card ≡ j → callOn inSlices j given x ≡ (tooLong j, x)
     go (refused k at) e = refl
-    go (accepted c) e = tested (validOn (flatten c) x) refl
+    go (accepted c) e = tested (validIn inSlices (flatten c) x) refl
       where
-        tested : (b : Bool) → validOn (flatten c) x ≡ b
-            → settle (someUnless b BadState otherwise someUnless (ordered c) BadOrder otherwise rowRefusal (flatten c) (stateOf x) row) x (slicesOf (next (flatten c) (stateOf x) row)) ≡ (rowOutcome (No BadState), x)
-        tested false q = refl
+        tested : (b : Bool) → validIn inSlices (flatten c) x ≡ b → callOn inSlices (accepted c) given x ≡ (rowOutcome (No BadState), x)
+        tested false q = rw q
         tested true q = absurd (too-long c x (accepted-meets card c e) n (valid-sized (flatten c) x q))
 
 -- the fresh state in slices
@@ -275,13 +271,13 @@ module _ (c : Card) (x : Slices) where
         (taken-store (flatten c) (blank (length ((flatten c) .places)) (length (c .transitions)) (c .signals)) (fresh (flatten c)) x
         (record { places = refl; transitions = refl; signals = refl }) (fresh-sized (flatten c)) (places-flat ∙ sym ep ∙ sym a) (sym et ∙ sym b) (sym eg ∙ sym d)))
 
-pub flat-long : (card : List ℕ) (x : Slices) (row : List ℕ) → (Fits x → ⊥) → flatOn card x row ≡ (tooLong (judge card), x)
+pub flat-long : (card : List ℕ) (x : Slices) (r : List ℕ) → (Fits x → ⊥) → flatOn card x r ≡ (tooLong (judge card), x)
 unfolding flatOn
-flat-long card x row n = called-long (λ c. true) card x row n
+flat-long card x r n = called-long _ card x n
 
-pub subnet-long : (card order : List ℕ) (x : Slices) (row : List ℕ) → (Fits x → ⊥) → subnetOn card order x row ≡ (tooLong (judge card), x)
+pub subnet-long : (card order : List ℕ) (x : Slices) (r : List ℕ) → (Fits x → ⊥) → subnetOn card order x r ≡ (tooLong (judge card), x)
 unfolding subnetOn
-subnet-long card order x row n = called-long (λ c. eachOnce (length (c .subnets)) order) card x row n
+subnet-long card order x r n = called-long _ card x n
 
 -- the numbers of transfers
 pub numbers-long : (slots : List Slot) (n : ℕ) → n ≤ length slots → length (map codeOf (take n (map (λ x. x .transfer) slots))) ≡ n

@@ -1,22 +1,21 @@
 -- A state that is lent as three slices of numbers, and the calls on it: those of the runners, with the same tests in the same order.
 use Prim.Native.Nat.{ℕ}
 use mathlib.Core.Path.{_≡_}
-use mathlib.Core.Bool.{Bool, true, _&&_}
+use mathlib.Core.Bool.{Bool, _&&_}
 use mathlib.Core.List.{List, map}
 use mathlib.Core.Option.{some}
 use lib.ListN.{length}
 use lib.Dec.{eqb}
-use Rattle.card.specs.Finite.{someUnless, _otherwise_}
+use Rattle.card.specs.Finite.{someUnless}
 use Rattle.card.specs.Card.{Card}
 use Rattle.hierarchy.specs.Judgement.{Judgement, accepted, refused, judge}
 use Rattle.flattening.specs.Flattening.{flatten}
 use Rattle.runners.specs.Numbers.{RowOutcome}
 use Rattle.runners.specs.State.{NetState, fresh}
-use Rattle.runners.specs.Step.{next}
-use Rattle.runners.specs.Rows.{settle, rowRefusal}
-use Rattle.runners.specs.Calls.{consistent, eachOnce}
+use Rattle.runners.specs.Rows.{settle, degrees, row}
+use Rattle.runners.specs.Calls.{Lending, flatAsk, subnetAsk}
 use Rattle.runners.specs.Columns.{codeOf, transferOf}
-use Rattle.runners.specs.declared.Refusal.the-variants.{BadState, BadOrder}
+use Rattle.runners.specs.declared.Refusal.the-variants.{BadState}
 use Rattle.net_runner.specs.Told.{rowTold, IsTold}
 
 -- markings by flat place, transfers by flat transition, and each signal's last degree
@@ -35,12 +34,12 @@ stateOf x = record { markings = x .markings; transfers = map transferOf (x .tran
 abbrev pub slicesOf : NetState → Slices
 slicesOf s = record { markings = s .markings; transfers = map codeOf (s .transfers); degrees = s .degrees }
 
--- 25 a lent state that breaks a range or length, or has owed > m or m + due > 1000 × K somewhere
+-- a slice for each list of a net's state, of its length
 unfoldable pub sized : Card → Slices → Bool
 sized f x = eqb (length (x .markings)) (length (f .places)) && eqb (length (x .transfers)) (length (f .transitions)) && eqb (length (x .degrees)) (f .signals)
 
-unfoldable pub validOn : Card → Slices → Bool
-validOn f x = sized f x && consistent f (stateOf x)
+abbrev pub inSlices : Lending Slices
+inSlices = record { view = stateOf; store = λ x. slicesOf; fits = sized }
 
 -- the fresh state of a card in slices: 25 where a slice has another length than the net asks for
 abbrev pub freshIn : Judgement → Slices → RowOutcome × Slices
@@ -50,19 +49,12 @@ freshIn (accepted c) x = settle (someUnless (sized (flatten c) x) BadState) x (s
 unfoldable pub freshOn : (card : List ℕ) → Slices → RowOutcome × Slices
 freshOn card = freshIn (judge card)
 
--- A row call tests the card (1 to 16), 25, 23, 20, 21, 22.
-abbrev pub calledIn : (ordered : Card → Bool) → Judgement → Slices → (row : List ℕ) → RowOutcome × Slices
-calledIn ordered (refused n at) x row = (RowOutcome.refused n (some at), x)
-calledIn ordered (accepted c) x row =
-    let f = flatten c in
-    let s = stateOf x in
-    settle (someUnless (validOn f x) BadState otherwise someUnless (ordered c) BadOrder otherwise rowRefusal f s row) x (slicesOf (next f s row))
-
+-- the row calls of the two runners
 unfoldable pub flatOn : (card : List ℕ) → Slices → (row : List ℕ) → RowOutcome × Slices
-flatOn card = calledIn (λ c. true) (judge card)
+flatOn card x r = flatAsk inSlices card x (row (degrees r))
 
 unfoldable pub subnetOn : (card order : List ℕ) → Slices → (row : List ℕ) → RowOutcome × Slices
-subnetOn card order = calledIn (λ c. eachOnce (length (c .subnets)) order) (judge card)
+subnetOn card order x r = subnetAsk inSlices card order x (row (degrees r))
 
 -- an answer of the code, and every number that the lent slices then hold
 pub record IsCalled (x : RowOutcome × Slices) (r v : ℕ) (ms ts ds : List ℕ) : Type 0 where

@@ -2,21 +2,20 @@
 use Prim.Native.Nat.{ℕ, zero, suc, _+_, _-_, _*_, _/_, _≤_, _<_, min}
 use mathlib.Core.Path.{_≡_, refl, sym, ap, ap₂, subst, _∙_}
 use mathlib.Core.Logic.{_↔_, _⊎_, inl, inr}
-use mathlib.Core.Bool.{Bool, true, false, not, _&&_, false≢true}
+use mathlib.Core.Bool.{Bool, true, false, not, false≢true}
 use mathlib.Core.List.{List, [], _∷_, _++_, map, head-eq-of-cons-eq, tail-eq-of-cons-eq}
-use mathlib.Core.Option.{Option, none, some, Option·some-injective, Option·some-ne-none}
 use native.Mathlib.Omega.{arith}
 use native.Mathlib.Nat.{min-comm, min-eq-left, le-div-iff-mul-le, div-le-self}
 use lib.ListN.{length, getD, take, drop, replicate, length-take, length-drop}
 use lib.Seq.{ext-getD, getD-take, take-all, take-at, length-take-le}
 use lib.Dec.{eqb}
 use borrow.Author.Tests.{not-true, not-false, eqb-true, eq-eqb, le-leb}
-use Rattle.card.specs.Finite.{table, every, someIf}
-use Rattle.card.specs.Bits.{bytesFor, bit, bitField}
+use Rattle.card.specs.Finite.{table}
+use Rattle.card.specs.Bits.{bytesFor}
 use Rattle.card.specs.Spelling.{putInto}
 use Rattle.card.specs.Card.{Card}
 use Rattle.card.proofs.BitLaws.{lt-or-ge}
-use Rattle.card.proofs.Sums.{map-length, table-length}
+use Rattle.card.proofs.Sums.{map-length}
 use Rattle.hierarchy.specs.Judgement.{Judgement, accepted, judge, outcomeOf}
 use Rattle.hierarchy.specs.Judgement
 use Rattle.hierarchy.specs.Numbers.{checkOutcome}
@@ -28,13 +27,14 @@ use Rattle.runners.proofs.Agreement.{demand-3}
 use Rattle.runners.proofs.ReplyLaws.{outcomeIn, outcome-of}
 use Rattle.runners.specs.Numbers.{RowOutcome, rowOutcome, replyCode}
 use Rattle.runners.specs.State.{NetState, entry}
-use Rattle.runners.specs.Rows.{rowOf}
-use Rattle.runners.specs.Calls.{view, freshLent, freshCall, flatCall, subnetCall}
+use Rattle.runners.specs.Rows.{RowRead, degrees, noRow, Ask, row, rowOf}
+use Rattle.runners.specs.Calls.{view, freshLent, freshCall, inState, eachOnce, flatAsk, subnetAsk, flatCall, subnetCall}
 use Rattle.runners.specs.Traces.{Call, trace, observed}
 use Rattle.runners.specs.Answers.{IsRow, IsFresh}
 use Rattle.programs.specs.Files.{fileRow}
+use Rattle.programs.proofs.FileLaws.{row-long, row-hollow, row-found, too-many}
 use Rattle.runners.specs.inner.Storing.{slotAt}
-use Rattle.programs.specs.Agreeing.{progressCode, degreeCount, degreesOr, rowSize, callSize, callOf, callAt, callsOf, Agrees, IsBoth, IsAgreed}
+use Rattle.programs.specs.Agreeing.{progressCode, rowSize, callSize, callOf, callAt, callsOf, Agrees, IsBoth, IsAgreed}
 use Rattle.runners.specs.declared.Transfer.{Transfer}
 use Rattle.runners.specs.declared.Transfer.the-variants.{Idle, Carrying}
 use Rattle.runners.specs.declared.State.{State as Lent}
@@ -183,38 +183,7 @@ module _ (a b : Lent) where
   states-same r m d t =
       (λ e. let x = t .0 e in (λ i. record { markings = m i; transfers = x i; degrees = d i }), λ e. t .1 (ap (λ (s : NetState). s .transfers) e))
 
--- how many degrees a row of a file has
-pub count-whole : (whole : Bool) (n : ℕ) → not whole ≡ false → n ≡ degreeCount whole n
-count-whole whole n e = rw (not-false whole e)
-
-pub count-none : (whole : Bool) (n : ℕ) → not whole ≡ true → 0 ≡ degreeCount whole n
-count-none whole n e = rw (not-true whole e)
-
-pub count-few : (whole : Bool) (n m : ℕ) → m ≡ degreeCount whole n → m ≤ n
-count-few true n m e = omega arith
-count-few false n m e = omega arith
-
--- the row of a call
-row-counted : (c : Card) (bytes row : List ℕ) → rowOf c bytes ≡ some row → length row ≡ c .signals
-unfolding rowOf
-row-counted c bytes row e = go (eqb (length bytes) (bytesFor (10 * c .signals)) && every (8 * bytesFor (10 * c .signals) - 10 * c .signals) (λ i. eqb (bit bytes (10 * c .signals + i)) 0)) e
-  where
-    go : (b : Bool) → someIf b (table 0 (c .signals) (λ g. bitField (bit bytes) (10 * g) 10)) ≡ some row → length row ≡ c .signals
-    go true q = sym (ap (λ (xs : List ℕ). length xs) (Option·some-injective _ row q)) ∙ table-length 0 (c .signals) (λ g. bitField (bit bytes) (10 * g) 10)
-    go false q = absurd (Option·some-ne-none row (sym q))
-
-pub row-degrees : (c : Card) (bytes : List ℕ) (g : ℕ) → c .signals ≡ g → (r : FileRow) → r ≡ fileRow (rowOf c bytes) → (n : ℕ) → n ≡ degreeCount (r .whole) g → take n (r .degrees) ≡ degreesOr (rowOf c bytes)
-row-degrees c bytes g e r er n en = go (rowOf c bytes) refl er
-  where
-    go : (o : Option (List ℕ)) → rowOf c bytes ≡ o → r ≡ fileRow o → take n (r .degrees) ≡ degreesOr o
-    go none q z =
-        let i : n ≡ 0 = en ∙ ap (λ (x : FileRow). degreeCount (x .whole) g) z in
-        rw i
-    go (some row) q z =
-        let i : length row ≡ n = row-counted c bytes row q ∙ e ∙ sym (en ∙ ap (λ (x : FileRow). degreeCount (x .whole) g) z) in
-        ap (λ (x : FileRow). take n (x .degrees)) z ∙ take-at row (replicate (63 - length row) 0) n i
-
--- its order
+-- the order of a call
 order-bytes : (bytes : List ℕ) (n : ℕ) (o : List ℕ) → length bytes - n ≤ 32 → (length (take (length bytes - n) (drop n bytes)) ≤ 32 → o ≡ putInto (take (length bytes - n) (drop n bytes)) (replicate 32 0))
     → take (length bytes - n) o ≡ drop n bytes
 unfolding putInto
@@ -225,16 +194,22 @@ order-bytes bytes n o l f =
     let e : o ≡ drop n bytes ++ drop (length (drop n bytes)) (replicate 32 0) = rw (w, le-leb (length (drop n bytes)) 32 few) at f few in
     ap (λ (xs : List ℕ). take (length bytes - n) xs) e ∙ take-at (drop n bytes) (drop (length (drop n bytes)) (replicate 32 0)) (length bytes - n) i
 
-pub call-held : (card bytes : List ℕ) (n g : ℕ) (x y : Lent) (c : Card) → c .signals ≡ g → rowSize c ≡ n → length bytes - n ≤ 32 → (r : FileRow) → r ≡ fileRow (rowOf c (take n bytes)) → (m : ℕ) → m ≡ degreeCount (r .whole) g
-    → (o : List ℕ) → (length (take (length bytes - n) (drop n bytes)) ≤ 32 → o ≡ putInto (take (length bytes - n) (drop n bytes)) (replicate 32 0))
-    → (b : Both) → IsBoth card (record { row = take m (r .degrees); order = take (length bytes - n) o }) x y b → IsBoth card (callOf c bytes) x y b
-call-held card bytes n g x y c eg en l r er m em o eo b h = rw en (subst (λ (k : Call). IsBoth card k x y b) (λ i. record { row = rows i; order = orders i }) h)
-  where
-    rows : take m (r .degrees) ≡ degreesOr (rowOf c (take n bytes))
-    rows = row-degrees c (take n bytes) g eg r er m em
+-- a call as the code reads it, and as it is in the file
+module _ (card bytes : List ℕ) (n : ℕ) (x y : Lent) (c : Card) (en : rowSize c ≡ n) (l : length bytes - n ≤ 32) (o : List ℕ)
+    (eo : length (take (length bytes - n) (drop n bytes)) ≤ 32 → o ≡ putInto (take (length bytes - n) (drop n bytes)) (replicate 32 0)) (b : Both) where
+  read-call : (q : RowRead) → rowOf c (take n bytes) ≡ q → IsBoth card (record { ask = row q; order = take (length bytes - n) o }) x y b → IsBoth card (callOf c bytes) x y b
+  read-call q e h =
+      rw en
+      (subst (λ (k : Call). IsBoth card k x y b)
+      (ap₂ (λ (r : RowRead) (z : List ℕ). record { ask = row r; order = z }) (sym e) (order-bytes bytes n o l eo)) h)
 
-    orders : take (length bytes - n) o ≡ drop n bytes
-    orders = order-bytes bytes n o l eo
+  module _ (g : ℕ) (eg : c .signals ≡ g) (r : FileRow) (er : r ≡ fileRow (rowOf c (take n bytes))) where
+    pub call-unread : r .whole ≡ false → IsBoth card (record { ask = row noRow; order = take (length bytes - n) o }) x y b → IsBoth card (callOf c bytes) x y b
+    call-unread w h = read-call noRow (row-hollow r (rowOf c (take n bytes)) er w) h
+
+    pub call-read : r .whole ≡ true → IsBoth card (record { ask = row (degrees (take g (r .degrees))); order = take (length bytes - n) o }) x y b → IsBoth card (callOf c bytes) x y b
+    call-read w h =
+        read-call (degrees (take g (r .degrees))) (row-found r (rowOf c (take n bytes)) g (λ xs e. row-long c (take n bytes) xs e ∙ eg) er w) h
 
 -- the pieces of a file
 pub piece-in : (long size k : ℕ) → 0 < size → k < long / size → size * k + size ≤ long
@@ -260,11 +235,19 @@ call-at card file c k size x y b e h =
     rw e (rw i at h)
 
 -- both runners answer a call
-module _ (card order row : List ℕ) (x y : Lent) (a b : RowAnswer) (ha : IsRow (flatCall card x row) a) (hb : IsRow (subnetCall card order y row) b) where
-  abbrev told : Bool → Type 0
-  told r = IsBoth card (record { row = row; order = order }) x y (record { same = r; flat = a .state; subnet = b .state })
+pub flat-asked : (card r : List ℕ) (x : Lent) (a : RowAnswer) → IsRow (flatCall card x r) a → IsRow (flatAsk inState card x (row (degrees r))) a
+unfolding flatCall
+flat-asked card r x a h = h
 
-  replies : rowOutcome (b .reply) ≡ rowOutcome (a .reply) → view (b .state) ≡ view (a .state) → observed (subnetCall card order y row) ≡ observed (flatCall card x row)
+pub subnet-asked : (card order r : List ℕ) (y : Lent) (b : RowAnswer) → IsRow (subnetCall card order y r) b → IsRow (subnetAsk inState card order y (row (degrees r))) b
+unfolding subnetCall
+subnet-asked card order r y b h = h
+
+module _ (card order : List ℕ) (k : Ask) (x y : Lent) (a b : RowAnswer) (ha : IsRow (flatAsk inState card x k) a) (hb : IsRow (subnetAsk inState card order y k) b) where
+  abbrev told : Bool → Type 0
+  told r = IsBoth card (record { ask = k; order = order }) x y (record { same = r; flat = a .state; subnet = b .state })
+
+  replies : rowOutcome (b .reply) ≡ rowOutcome (a .reply) → view (b .state) ≡ view (a .state) → observed (subnetAsk inState card order y k) ≡ observed (flatAsk inState card x k)
   replies e i = ap₂ (λ (p : RowOutcome) (s : NetState). (p, s)) (sym (hb .reply) ∙ e ∙ ha .reply) (ap view (sym (hb .state)) ∙ i ∙ ap view (ha .state))
 
   pub both-no : (r : Bool) → (r ≡ true) ↔ (rowOutcome (b .reply) ≡ rowOutcome (a .reply)) → not r ≡ true → told false
@@ -283,6 +266,22 @@ module _ (card order row : List ℕ) (x y : Lent) (a b : RowAnswer) (ha : IsRow 
         subnet = hb .state;
       }
 
+-- where there is no row, a row of too many degrees is answered so
+few : (card : List ℕ) (c : Card) → judge card ≡ accepted c → c .signals ≤ 63
+few card c e = (accepted-meets card c e) .wellformed .fewSignals
+
+pub both-missing : (card order : List ℕ) (x y : Lent) (b : Both) → IsBoth card (record { ask = row (degrees (replicate 64 0)); order = order }) x y b
+    → IsBoth card (record { ask = row noRow; order = order }) x y b
+both-missing card order x y b h =
+    let p = too-many (λ c. true) (judge card) x (few card) in
+    let q = too-many (λ c. eachOnce (length (c .subnets)) order) (judge card) y (few card) in
+    record {
+      same = subst (λ (z : RowOutcome × Lent). (b .same ≡ true) ↔ (observed z ≡ observed (flatAsk inState card x (row noRow)))) q
+          (subst (λ (z : RowOutcome × Lent). (b .same ≡ true) ↔ (observed (subnetAsk inState card order y (row (degrees (replicate 64 0)))) ≡ observed z)) p (h .same));
+      flat = h .flat ∙ ap (λ (z : RowOutcome × Lent). z .1) p;
+      subnet = h .subnet ∙ ap (λ (z : RowOutcome × Lent). z .1) q;
+    }
+
 -- call after call
 module _ (card : List ℕ) where
   agrees-none : (x y : Lent) → Agrees card x y []
@@ -290,7 +289,7 @@ module _ (card : List ℕ) where
   agrees-none x y = refl
 
   agrees-first : (x y : Lent) (k : Call) (ks : List Call)
-      → Agrees card x y (k ∷ ks) ↔ ((observed (subnetCall card (k .order) y (k .row)) ≡ observed (flatCall card x (k .row))) × Agrees card ((flatCall card x (k .row)) .1) ((subnetCall card (k .order) y (k .row)) .1) ks)
+      → Agrees card x y (k ∷ ks) ↔ ((observed (subnetAsk inState card (k .order) y (k .ask)) ≡ observed (flatAsk inState card x (k .ask))) × Agrees card ((flatAsk inState card x (k .ask)) .1) ((subnetAsk inState card (k .order) y (k .ask)) .1) ks)
   unfolding trace
   agrees-first x y k ks = (λ e. (head-eq-of-cons-eq e, tail-eq-of-cons-eq e), λ p. ap₂ (λ z zs. z ∷ zs) (p .0) (p .1))
 
@@ -323,7 +322,7 @@ module _ (card : List ℕ) where
           told-yes _ (h .0 (rw i (agrees-none x y)))
 
       module _ (l : k < count) (r : Both) (b : IsBoth card (callAt c file k) x y r) where
-        one : Agrees card x y (rest k) ↔ ((observed (subnetCall card ((callAt c file k) .order) y ((callAt c file k) .row)) ≡ observed (flatCall card x ((callAt c file k) .row))) × Agrees card (r .flat) (r .subnet) (rest (k + 1)))
+        one : Agrees card x y (rest k) ↔ ((observed (subnetAsk inState card ((callAt c file k) .order) y ((callAt c file k) .ask)) ≡ observed (flatAsk inState card x ((callAt c file k) .ask))) × Agrees card (r .flat) (r .subnet) (rest (k + 1)))
         one = rw (rest-first k l, b .flat, b .subnet) (agrees-first x y (callAt c file k) (rest (k + 1)))
 
         pub going-no : not (r .same) ≡ true → (false ≡ true) ↔ Agrees card first first (callsOf c file)

@@ -1,21 +1,30 @@
--- A row of a file: its degrees one after another, and what the tests of its bytes decide. Assumes nothing.
-use Prim.Native.Nat.{ℕ, zero, suc, _+_, _-_, _*_, _<_}
+-- A row of a file: its degrees one after another, what the tests of its bytes decide, and a call where there is none. Assumes nothing.
+use Prim.Native.Nat.{ℕ, zero, suc, _+_, _-_, _*_, _≤_, _<_}
 use mathlib.Core.Path.{_≡_, refl, sym, ap, _∙_}
-use mathlib.Core.Bool.{true}
+use mathlib.Core.Bool.{Bool, true, false, cond}
 use mathlib.Core.List.{List, [], _∷_, _++_, append-assoc}
-use mathlib.Core.Option.{none, some}
+use mathlib.Core.Option.{Option, none, some}
 use native.Mathlib.Omega.{arith}
-use lib.ListN.{length, set, replicate}
-use lib.Seq.{set-at}
+use native.Mathlib.Nat.{zero-add}
+use lib.ListN.{length, set, take, replicate, length-replicate}
+use lib.Seq.{set-at, take-at}
 use lib.Dec.{eqb}
 use borrow.Author.Tests.{eq-eqb, ne-eqb}
-use Rattle.card.specs.Finite.{every, table}
+use Rattle.card.specs.Finite.{table, someIf, someUnless, _otherwise_}
 use Rattle.card.specs.Bits.{bit, bitField, bytesFor}
 use Rattle.card.specs.Fields.{fieldAt}
 use Rattle.card.specs.Card.{Card}
 use Rattle.card.proofs.Sums.{table-length}
 use Rattle.card.proofs.FieldLaws.{field-in, field-zero}
-use Rattle.runners.specs.Rows.{rowOf}
+use Rattle.hierarchy.specs.Judgement.{Judgement, accepted, refused}
+use Rattle.flattening.specs.Flattening.{flatten}
+use Rattle.runners.specs.State.{NetState}
+use Rattle.runners.specs.Step.{next}
+use Rattle.runners.specs.Rows.{settle, rowFault, rowRefusal, RowRead, degrees, noRow, row, filled, cells, orNoRow, rowOf}
+use Rattle.runners.specs.Calls.{view, store, inState, valid, callOn, called}
+use Rattle.runners.specs.declared.State.{State as Lent}
+use Rattle.runners.specs.declared.Refusal.{Refusal}
+use Rattle.runners.specs.declared.Refusal.the-variants.{BadState, BadOrder, BadRow}
 use Rattle.programs.specs.Files.{fileRow}
 use Rattle.programs.specs.declared.file.FileRow.{FileRow}
 
@@ -47,30 +56,74 @@ unfolding table
 table-same from zero f h e = refl
 table-same from (suc n) f h e = rw (e from (omega arith)) (ap (λ (xs : List ℕ). h from ∷ xs) (table-same (suc from) n f h (λ i l. e i (omega arith))))
 
+-- a row has its degrees one after another
+row-is : (f : Card) (bytes : List ℕ) (g : ℕ) → f .signals ≡ g
+    → rowOf f bytes ≡ orNoRow (someIf (filled (10 * g) bytes) (table 0 g (λ k. bitField (bit bytes) (10 * k) 10)))
+unfolding cells
+row-is f bytes g e = rw e (simp zero-add)
+
+some-is : (b : Bool) (xs r : List ℕ) → orNoRow (someIf b xs) ≡ degrees r → xs ≡ r
+some-is true xs r e = cc
+some-is false xs r e = absurd (let z : _≡_ {A = ℕ} 0 1 = cc in omega arith)
+
+pub row-long : (f : Card) (bytes r : List ℕ) → rowOf f bytes ≡ degrees r → length r ≡ f .signals
+row-long f bytes r e =
+    let xs = table 0 (f .signals) (λ k. bitField (bit bytes) (10 * k) 10) in
+    sym (ap (λ (ys : List ℕ). length ys) (some-is (filled (10 * f .signals) bytes) xs r (sym (row-is f bytes (f .signals) refl) ∙ e)))
+    ∙ table-length 0 (f .signals) (λ k. bitField (bit bytes) (10 * k) 10)
+
 -- bytes of another length hold no row
-pub row-length : (f : Card) (bytes : List ℕ) (g : ℕ) → f .signals ≡ g → (length bytes ≡ bytesFor (10 * g) → ⊥) → rowOf f bytes ≡ none
-unfolding rowOf
-row-length f bytes g e n = rw (e, ne-eqb (length bytes) (bytesFor (10 * g)) n)
+pub row-length : (f : Card) (bytes : List ℕ) (g : ℕ) → f .signals ≡ g → (length bytes ≡ bytesFor (10 * g) → ⊥) → rowOf f bytes ≡ noRow
+unfolding filled
+row-length f bytes g e n = row-is f bytes g e ∙ rw (ne-eqb (length bytes) (bytesFor (10 * g)) n)
 
 -- nor do bytes with a fill bit that is not zero
 module _ (f : Card) (bytes : List ℕ) (g : ℕ) (e : f .signals ≡ g) (l : length bytes ≡ bytesFor (10 * g)) (v : ℕ) (i : v ≡ fieldAt bytes (10 * g) (8 * bytesFor (10 * g) - 10 * g)) where
   fill-is : v ≡ bitField (bit bytes) (10 * g) (8 * bytesFor (10 * g) - 10 * g)
   fill-is = i ∙ field-in bytes (10 * g) (8 * bytesFor (10 * g) - 10 * g) (omega arith) (omega arith)
 
-  zeros-is : every (8 * bytesFor (10 * g) - 10 * g) (λ i. eqb (bit bytes (10 * g + i)) 0) ≡ eqb v 0
-  zeros-is = field-zero (bit bytes) (10 * g) (8 * bytesFor (10 * g) - 10 * g) ∙ ap (λ (n : ℕ). eqb n 0) (sym fill-is)
+  filled-is : filled (10 * g) bytes ≡ eqb v 0
+  unfolding filled
+  filled-is = rw (eq-eqb (length bytes) (bytesFor (10 * g)) l) (field-zero (bit bytes) (10 * g) (8 * bytesFor (10 * g) - 10 * g) ∙ ap (λ (n : ℕ). eqb n 0) (sym fill-is))
 
-  pub row-fill : (v ≡ 0 → ⊥) → rowOf f bytes ≡ none
-  unfolding rowOf
-  row-fill n = rw (e, eq-eqb (length bytes) (bytesFor (10 * g)) l, zeros-is, ne-eqb v 0 n)
+  pub row-fill : (v ≡ 0 → ⊥) → rowOf f bytes ≡ noRow
+  row-fill n = row-is f bytes g e ∙ rw (filled-is, ne-eqb v 0 n)
 
-  pub row-whole : v ≡ 0 → rowOf f bytes ≡ some (table 0 g (λ k. fieldAt bytes (10 * k) 10))
-  unfolding rowOf
+  pub row-whole : v ≡ 0 → rowOf f bytes ≡ degrees (table 0 g (λ k. fieldAt bytes (10 * k) 10))
   row-whole n =
-      rw (e, eq-eqb (length bytes) (bytesFor (10 * g)) l, zeros-is, eq-eqb v 0 n)
-      (ap (λ (xs : List ℕ). some xs) (table-same 0 g (λ k. bitField (bit bytes) (10 * k) 10) (λ k. fieldAt bytes (10 * k) 10) (λ k m. sym (field-in bytes (10 * k) 10 (omega arith) (omega arith)))))
+      row-is f bytes g e ∙ rw (filled-is, eq-eqb v 0 n)
+      (ap (λ (xs : List ℕ). degrees xs) (table-same 0 g (λ k. bitField (bit bytes) (10 * k) 10) (λ k. fieldAt bytes (10 * k) 10) (λ k m. sym (field-in bytes (10 * k) 10 (omega arith) (omega arith)))))
 
   pub row-handed : v ≡ 0 → (xs : List ℕ) → xs ≡ stored (λ k. fieldAt bytes (10 * k) 10) g → _≡_ {A = FileRow} (record { whole = true; degrees = xs }) (fileRow (rowOf f bytes))
   row-handed n xs d =
       rw (row-whole n)
       (ap (λ (ys : List ℕ). record { whole = true; degrees = ys }) (d ∙ ap (λ (k : ℕ). table 0 g (λ k. fieldAt bytes (10 * k) 10) ++ replicate (63 - k) 0) (sym (table-length 0 g (λ k. fieldAt bytes (10 * k) 10)))))
+
+-- what the reader of a row found
+differs : true ≡ false → ⊥
+differs e = let z : _≡_ {A = ℕ} 0 1 = ap (λ (b : Bool). cond b 0 1) e in omega arith
+
+pub row-hollow : (w : FileRow) (o : RowRead) → w ≡ fileRow o → w .whole ≡ false → o ≡ noRow
+row-hollow w noRow e b = refl
+row-hollow w (degrees r) e b = absurd (differs (sym (ap (λ (y : FileRow). y .whole) e) ∙ b))
+
+pub row-found : (w : FileRow) (o : RowRead) (n : ℕ) → ((r : List ℕ) → o ≡ degrees r → length r ≡ n) → w ≡ fileRow o → w .whole ≡ true → o ≡ degrees (take n (w .degrees))
+row-found w noRow n long e b = absurd (differs (sym b ∙ ap (λ (y : FileRow). y .whole) e))
+row-found w (degrees r) n long e b = ap degrees (sym (ap (λ (y : FileRow). take n (y .degrees)) e ∙ take-at r (replicate (63 - length r) 0) n (long r refl)))
+
+-- Where bytes hold no row, a row of more degrees than any card has signals stands for it: both are refused with 20.
+long-row : (c : Card) (s : NetState) → c .signals ≤ 63 → rowRefusal (flatten c) s (replicate 64 0) ≡ some BadRow
+unfolding rowRefusal rowFault flatten
+long-row c s l = rw (ne-eqb (length (replicate {A = ℕ} 64 0)) (c .signals) (λ e. omega (arith, length-replicate {A = ℕ} 64 0)))
+
+refused-alike : (a b : Option Refusal) (why : Refusal) (l x y : Lent) → settle (a otherwise b otherwise some why) l x ≡ settle (a otherwise b otherwise some why) l y
+refused-alike none none why l x y = refl
+refused-alike none (some z) why l x y = refl
+refused-alike (some z) b why l x y = refl
+
+pub too-many : (ordered : Card → Bool) (j : Judgement) (l : Lent) → ((c : Card) → j ≡ accepted c → c .signals ≤ 63)
+    → called ordered j l (replicate 64 0) ≡ callOn inState j (λ c. record { ask = row noRow; ordered = ordered c }) l
+too-many ordered (accepted c) l few =
+    rw (long-row c (view l) (few c refl))
+    (refused-alike (someUnless (valid (flatten c) l) BadState) (someUnless (ordered c) BadOrder) BadRow l (store l (next (flatten c) (view l) (replicate 64 0))) (store l (view l)))
+too-many ordered (refused n at) l few = refl

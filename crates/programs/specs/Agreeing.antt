@@ -2,17 +2,16 @@
 use Prim.Native.Nat.{ℕ, _+_, _*_, _/_}
 use mathlib.Core.Path.{_≡_}
 use mathlib.Core.Logic.{_↔_}
-use mathlib.Core.Bool.{Bool, true, false, cond}
-use mathlib.Core.List.{List, [], map}
-use mathlib.Core.Option.{Option, none, some}
+use mathlib.Core.Bool.{Bool, true, false}
+use mathlib.Core.List.{List, map}
 use lib.ListN.{length, take, drop}
 use Rattle.card.specs.Finite.{table, All}
 use Rattle.card.specs.Bits.{bytesFor}
 use Rattle.card.specs.Card.{Card}
 use Rattle.hierarchy.specs.Judgement.{accepted, judge}
 use Rattle.hierarchy.specs.Judgement
-use Rattle.runners.specs.Rows.{rowWidth, rowOf}
-use Rattle.runners.specs.Calls.{freshCall, eachOnce, flatCall, subnetCall}
+use Rattle.runners.specs.Rows.{row, rowWidth, rowOf}
+use Rattle.runners.specs.Calls.{freshCall, inState, eachOnce, flatAsk, subnetAsk}
 use Rattle.runners.specs.Traces.{Call, flatTrace, subnetTrace, observed}
 use Rattle.runners.specs.declared.Transfer.{Transfer}
 use Rattle.runners.specs.declared.Transfer.the-variants.{Idle, Carrying}
@@ -26,13 +25,8 @@ rowSize c = bytesFor (rowWidth c)
 abbrev pub callSize : Card → ℕ
 callSize c = rowSize c + length (c .subnets)
 
--- bytes that hold no row are the row of no degrees, which both runners refuse (20)
-abbrev pub degreesOr : Option (List ℕ) → List ℕ
-degreesOr none = []
-degreesOr (some row) = row
-
 abbrev pub callOf : Card → (bytes : List ℕ) → Call
-callOf c bytes = record { row = degreesOr (rowOf c (take (rowSize c) bytes)); order = drop (rowSize c) bytes }
+callOf c bytes = record { ask = row (rowOf c (take (rowSize c) bytes)); order = drop (rowSize c) bytes }
 
 abbrev pub callAt : Card → (file : List ℕ) → (k : ℕ) → Call
 callAt c file k = callOf c (take (callSize c) (drop (callSize c * k) file))
@@ -54,12 +48,9 @@ pub record IsAgreed (card file : List ℕ) (r : Bool) : Type 0 where
 
 -- a call of both runners, as the code hands it out
 pub record IsBoth (card : List ℕ) (k : Call) (x y : Lent) (r : Both) : Type 0 where
-  pub same : (r .same ≡ true) ↔ (observed (subnetCall card (k .order) y (k .row)) ≡ observed (flatCall card x (k .row)))
-  pub flat : r .flat ≡ (flatCall card x (k .row)) .1
-  pub subnet : r .subnet ≡ (subnetCall card (k .order) y (k .row)) .1
-
-abbrev pub degreeCount : (whole : Bool) → (signals : ℕ) → ℕ
-degreeCount whole signals = cond whole signals 0
+  pub same : (r .same ≡ true) ↔ (observed (subnetAsk inState card (k .order) y (k .ask)) ≡ observed (flatAsk inState card x (k .ask)))
+  pub flat : r .flat ≡ (flatAsk inState card x (k .ask)) .1
+  pub subnet : r .subnet ≡ (subnetAsk inState card (k .order) y (k .ask)) .1
 
 -- A transfer as a number, so that two are compared.
 abbrev pub progressCode : Transfer → ℕ

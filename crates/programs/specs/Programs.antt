@@ -10,7 +10,8 @@ use Rattle.hierarchy.specs.Judgement
 use Rattle.flattening.specs.Flattening.{flatten}
 use Rattle.runners.specs.Numbers.{RowOutcome, ok, refused, progress}
 use Rattle.runners.specs.State.{NetState, fresh}
-use Rattle.runners.specs.Rows.{rowWidth, rowOf, pieces, fileStep}
+use Rattle.runners.specs.Rows.{row, step, rowWidth, rowOf, pieces}
+use Rattle.runners.specs.Traces.{trace}
 use Rattle.programs.specs.Text.{ascii, decimal, line}
 
 -- a number that may not be there
@@ -38,12 +39,14 @@ replyWords (refused n value) s = refusalWords n value
 abbrev pub cardLine : (number bit : ℕ) → List ℕ
 cardLine n at = line (refusalWords n (some at))
 
--- the line of row n, and those of the rows after it
-unfoldable pub rowLines : Card → (n : ℕ) → NetState → (rows : List (List ℕ)) → List ℕ
-rowLines f n s [] = []
-rowLines f n s (bytes ∷ rest) =
-    let answer : RowOutcome × NetState = fileStep f s (rowOf f bytes) in
-    line (decimal n ∷ replyWords (answer .0) (answer .1)) ++ rowLines f (suc n) (answer .1) rest
+-- the lines of replies and the states after them, the first of them of row n
+unfoldable pub lines : (n : ℕ) → List (RowOutcome × NetState) → List ℕ
+lines n [] = []
+lines n (x ∷ rest) = line (decimal n ∷ replyWords (x .0) (x .1)) ++ lines (suc n) rest
+
+-- the rows of a file on a net, each from the state that the row before left
+abbrev pub fileTrace : Card → NetState → (rows : List (List ℕ)) → List (RowOutcome × NetState)
+fileTrace f = trace (λ s bytes. step f s (row (rowOf f bytes)))
 
 -- The run program prints the flat runner's answers, which are the step's (proofs/Agreement.antt). A refused row doesn't end the run; a short
 -- last row gets its line, and the run ends.
@@ -51,7 +54,7 @@ abbrev pub runs : Judgement → (rows : List ℕ) → List ℕ
 runs (Judgement.refused n at) rows = cardLine n at
 runs (accepted c) rows =
     let f = flatten c in
-    rowLines f 1 (fresh f) (pieces (bytesFor (rowWidth f)) rows)
+    lines 1 (fileTrace f (fresh f) (pieces (bytesFor (rowWidth f)) rows))
 
 -- of the bytes of net.card (no such file: no bytes) and of standard input
 unfoldable pub runProgram : (card rows : List ℕ) → List ℕ

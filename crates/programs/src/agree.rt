@@ -3,6 +3,7 @@ use crate::file::row_bytes;
 use crate::file::row_of;
 use crate::same::same_reply;
 use crate::same::same_state;
+use card::MOST_SIGNALS;
 use card::MOST_SUBNETS;
 use hierarchy::Answer;
 use runners::State;
@@ -16,7 +17,8 @@ ghost use Prim.Native.Nat.{_≤_, _-_, _<_};
 ghost use lib.ListN.{length, replicate};
 ghost use Rattle.card.specs.Card.{Card};
 ghost use Rattle.card.specs.Spelling.{putInto};
-ghost use Rattle.programs.specs.Agreeing.{IsBoth, IsAgreed, Agrees, callOf, callsOf, degreeCount, rowSize};
+ghost use Rattle.runners.specs.Rows.{Ask, degrees, noRow};
+ghost use Rattle.programs.specs.Agreeing.{IsBoth, IsAgreed, Agrees, callOf, callsOf, rowSize};
 
 // The states that a call of both runners leaves, and whether it answered alike and left equal ones.
 pub struct Both {
@@ -26,7 +28,7 @@ pub struct Both {
 }
 
 fn both_rows(card: &[u8], order: &[u16], row: &[u16], flat: State, subnet: State) -> Both
-    ensures { λ r. ⌜ IsBoth (now (card .entry)) (record { row = now (row .entry); order = now (order .entry) }) flat subnet r ⌝ }
+    ensures { λ r. ⌜ IsBoth (now (card .entry)) (record { ask = Ask.row (degrees (now (row .entry))); order = now (order .entry) }) flat subnet r ⌝ }
 {
     let a = flat_row(card, flat, row);
     let b = subnet_row(card, subnet, order, row);
@@ -64,14 +66,12 @@ fn order_of(bytes: &[u8]) -> [u16; MOST_SUBNETS]
     order
 }
 
-// A row that is not whole has no degrees, so that both runners refuse it.
-fn degree_count(whole: bool, signals: u16) -> usize
-    ensures { λ r. ⌜ r ≡ degreeCount whole signals ⌝ }
+// Where bytes hold no row. No card has as many signals as this row has degrees, so that both runners refuse it.
+fn both_without_row(card: &[u8], order: &[u16], flat: State, subnet: State) -> Both
+    ensures { λ r. ⌜ IsBoth (now (card .entry)) (record { ask = Ask.row noRow; order = now (order .entry) }) flat subnet r ⌝ }
 {
-    if !whole {
-        return 0;
-    }
-    signals as usize
+    let row = [0; MOST_SIGNALS + 1];
+    both_rows(card, order, &row, flat, subnet)
 }
 
 // A call of a file, of which the first n bytes are the row's.
@@ -79,11 +79,14 @@ fn both_calls(card: &[u8], bytes: &[u8], n: usize, signals: u16, flat: State, su
     requires { ⌜ (n ≤ length (now bytes)) × (length (now bytes) - n ≤ 32) × (signals ≤ 63) ⌝ }
     ensures { λ r. ⌜ ((c : Card) → c .signals ≡ signals → rowSize c ≡ n → IsBoth (now (card .entry)) (callOf c (now (bytes .entry))) flat subnet r) ⌝ }
 {
-    let row = row_of(&bytes[..n], signals);
-    let degrees = row.degrees;
-    let g = degree_count(row.whole, signals);
     let order = order_of(&bytes[n..]);
     let s = bytes.len() - n;
+    let row = row_of(&bytes[..n], signals);
+    if !row.whole {
+        return both_without_row(card, &order[..s], flat, subnet);
+    }
+    let degrees = row.degrees;
+    let g = signals as usize;
     both_rows(card, &order[..s], &degrees[..g], flat, subnet)
 }
 

@@ -6,19 +6,17 @@ use runners::RowAnswer;
 use runners::State;
 use runners::nets::net_row;
 use runners::nets::net_signals;
-ghost use mathlib.Core.List.{[], _∷_};
-ghost use mathlib.Core.Option.{none};
 ghost use Prim.Native.Nat.{_≤_};
 ghost use lib.ListN.{take};
 ghost use Rattle.hierarchy.specs.Judgement.{Judgement};
-ghost use Rattle.runners.specs.Calls.{called, inOrder};
+ghost use Rattle.runners.specs.Rows.{RowRead, noRow};
 ghost use Rattle.runners.specs.Answers.{IsRow};
 ghost use Rattle.runners.specs.Nets.{IsNet};
-ghost use Rattle.programs.specs.Feeds.{callOn, fileCall};
+ghost use Rattle.programs.specs.Feeds.{readCall, fileCall};
 
 // The call where bytes hold no row. No card has as many signals as this row has degrees, so that the row is refused.
 fn without_row(net: Net, state: State) -> RowAnswer
-    ensures { λ r. ⌜ ((j : Judgement) → IsNet j net → IsRow (callOn (inOrder (0 ∷ [])) j state (λ c. none)) r) ⌝ }
+    ensures { λ r. ⌜ ((j : Judgement) → IsNet j net → IsRow (readCall j state (λ c. noRow)) r) ⌝ }
 {
     let order = [0];
     let row = [0; MOST_SIGNALS + 1];
@@ -27,7 +25,7 @@ fn without_row(net: Net, state: State) -> RowAnswer
 
 // The call with the first degrees.
 fn with_row(net: Net, state: State, degrees: [u16; MOST_SIGNALS], signals: u16) -> RowAnswer
-    ensures { λ r. ⌜ ((j : Judgement) → IsNet j net → signals ≤ 63 → IsRow (called (inOrder (0 ∷ [])) j state (take signals degrees)) r) ⌝ }
+    ensures { λ r. ⌜ ((j : Judgement) → IsNet j net → signals ≤ 63 → IsRow (readCall j state (λ c. RowRead.degrees (take signals degrees))) r) ⌝ }
 {
     let n = signals as usize;
     if MOST_SIGNALS < n {

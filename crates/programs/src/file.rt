@@ -4,14 +4,16 @@ use card::fields::field_at;
 ghost use mathlib.Core.Path.{_≡_};
 ghost use Prim.Native.Nat.{_-_, _*_, _≤_, _<_};
 ghost use mathlib.Core.List.{_++_};
-ghost use mathlib.Core.Option.{none};
 ghost use lib.ListN.{replicate};
 ghost use Rattle.card.specs.Finite.{table};
 ghost use Rattle.card.specs.Bits.{bytesFor};
 ghost use Rattle.card.specs.Fields.{fieldAt};
 ghost use Rattle.card.specs.Card.{Card};
-ghost use Rattle.runners.specs.Rows.{rowOf};
+ghost use Rattle.runners.specs.Rows.{noRow, rowOf};
 ghost use Rattle.programs.specs.Files.{fileRow};
+
+// Bits a degree.
+const DEGREE_BITS: usize = 10;
 
 // A row, where the bytes hold one: its degrees, and zeros behind them.
 pub struct FileRow {
@@ -23,11 +25,11 @@ pub struct FileRow {
 pub fn row_bytes(signals: u16) -> usize
     ensures { λ r. ⌜ r ≡ bytesFor (10 * signals) ⌝ }
 {
-    (10 * signals as usize + 7) / 8
+    (DEGREE_BITS * signals as usize + 7) / 8
 }
 
 fn no_row() -> FileRow
-    ensures { λ r. ⌜ r ≡ fileRow none ⌝ }
+    ensures { λ r. ⌜ r ≡ fileRow noRow ⌝ }
 {
     FileRow {
         whole: false,
@@ -42,7 +44,7 @@ fn degrees_of(bytes: &[u8], signals: u16) -> [u16; MOST_SIGNALS]
     let mut degrees = [0; MOST_SIGNALS];
     let mut g = 0;
     while g < signals {
-        degrees[g as usize] = field_at(bytes, 10 * g as usize, 10);
+        degrees[g as usize] = field_at(bytes, DEGREE_BITS * g as usize, DEGREE_BITS);
         g += 1;
     }
     degrees
@@ -51,7 +53,7 @@ fn degrees_of(bytes: &[u8], signals: u16) -> [u16; MOST_SIGNALS]
 // The row that bytes hold; no card has more than 63 signals. Two wrong readers that this rules out: one that lets a fill bit be 1, and one
 // that takes missing bytes for zeros.
 pub fn row_of(bytes: &[u8], signals: u16) -> FileRow
-    ensures { λ r. ⌜ ((f : Card) → f .signals ≡ signals → signals ≤ 63 → r ≡ fileRow (rowOf f (now (bytes .entry)))) × (63 < signals → r ≡ fileRow none) ⌝ }
+    ensures { λ r. ⌜ ((f : Card) → f .signals ≡ signals → signals ≤ 63 → r ≡ fileRow (rowOf f (now (bytes .entry)))) × (63 < signals → r ≡ fileRow noRow) ⌝ }
 {
     if 63 < signals {
         return no_row();
@@ -60,7 +62,7 @@ pub fn row_of(bytes: &[u8], signals: u16) -> FileRow
     if bytes.len() != n {
         return no_row();
     }
-    let width = 10 * signals as usize;
+    let width = DEGREE_BITS * signals as usize;
     if field_at(bytes, width, 8 * n - width) != 0 {
         return no_row();
     }

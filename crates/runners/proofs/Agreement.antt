@@ -3,7 +3,7 @@
 use Prim.Native.Nat.{ℕ, _≤_, _<_}
 use mathlib.Core.Path.{_≡_, refl}
 use mathlib.Core.Logic.{_≢_}
-use mathlib.Core.Bool.{true}
+use mathlib.Core.Bool.{Bool, true}
 use mathlib.Core.List.{List}
 use native.Mathlib.Omega.{arith}
 use lib.ListN.{length}
@@ -15,11 +15,12 @@ use Rattle.hierarchy.proofs.Accepted.{accepted-meets}
 use Rattle.flattening.specs.Flattening.{flatPlaceRow, flatten}
 use Rattle.flattening.proofs.FlatLaws.{flat-place}
 use Rattle.runners.specs.State.{fresh}
-use Rattle.runners.specs.Calls.{view, freshLent, freshCall, eachOnce, flatCall, subnetCall}
-use Rattle.runners.specs.Traces.{Call, flatTrace, subnetTrace, Agreement, Demand3}
+use Rattle.runners.specs.Rows.{Act, actOf}
+use Rattle.runners.specs.Calls.{view, freshLent, freshCall, eachOnce}
+use Rattle.runners.specs.Traces.{Call, flatTrace, subnetTrace, Bounded, Agreement, Demand3}
 use Rattle.runners.proofs.AlikeLaws.{visits-alike}
 use Rattle.runners.proofs.StateLaws.{Consistent, fresh-sized, fresh-consistent}
-use Rattle.runners.proofs.TraceLaws.{Valid, view-store, 25·alone, trace-clear, runners-trace, net-trace, consistent-bounded, trace-bounded}
+use Rattle.runners.proofs.TraceLaws.{Valid, view-store, 25·alone, Sound, trace-clear, runners-trace, net-trace, trace-good, ask-keeps, ask-mild, consistent-bounded}
 
 -- the fresh state of a flat card, lent or not
 pub fresh-view : (f : Card) → view (freshLent f) ≡ fresh f
@@ -42,22 +43,34 @@ module _ (card : List ℕ) (c : Card) (e : judge card ≡ accepted c) where
   unfolding freshCall
   fresh-lent = rw e refl
 
+  abbrev f : Card
+  f = flatten c
+
+  pub start-sound : Sound f (Consistent f) (freshLent f)
+  start-sound = record { counts = start-valid .counts; good = start-valid .consistent }
+
+  abbrev asked : Call → Act
+  asked k = actOf f (k .ask)
+
+  abbrev ordered : Call → Bool
+  ordered k = eachOnce (length (c .subnets)) (k .order)
+
   -- NO STATE REACHED FROM FRESH EARNS 25, whatever the rows and the visiting orders
   pub never-25-flat : (calls : List Call) → All (λ x. x .0 ≢ 25·alone) (flatTrace card ((freshCall card) .1) calls)
-  unfolding flatCall
-  never-25-flat calls = rw fresh-lent (trace-clear card c e (λ k d. true) (freshLent (flatten c)) start-valid calls)
+  never-25-flat calls =
+      rw (fresh-lent, e) (trace-clear f (Consistent f) (λ s h. h) Call asked (λ k. ask-keeps f (k .ask)) (λ k. ask-mild f (k .ask)) (λ k. true) (freshLent f) start-sound calls)
 
   pub never-25-subnet : (calls : List Call) → All (λ x. x .0 ≢ 25·alone) (subnetTrace card ((freshCall card) .1) calls)
-  unfolding subnetCall
-  never-25-subnet calls = rw fresh-lent (trace-clear card c e (λ k d. eachOnce (length (d .subnets)) (k .order)) (freshLent (flatten c)) start-valid calls)
+  never-25-subnet calls =
+      rw (fresh-lent, e) (trace-clear f (Consistent f) (λ s h. h) Call asked (λ k. ask-keeps f (k .ask)) (λ k. ask-mild f (k .ask)) ordered (freshLent f) start-sound calls)
 
   calls-agree : (calls : List Call) → All (λ k. eachOnce (length (c .subnets)) (k .order) ≡ true) calls → Agreement card c calls
   calls-agree calls o =
       record {
-        start = rw fresh-lent (fresh-view (flatten c));
-        runners = rw fresh-lent (runners-trace card c e (freshLent (flatten c)) start-valid calls o);
-        net = rw fresh-lent (rw (fresh-view (flatten c)) at (net-trace card c e (freshLent (flatten c)) start-valid calls));
-        bounded = (consistent-bounded (flatten c) (fresh (flatten c)) start-consistent, trace-bounded (flatten c) (fresh (flatten c)) start-consistent calls);
+        start = rw fresh-lent (fresh-view f);
+        runners = rw (fresh-lent, e) (runners-trace f (Consistent f) (λ s h. h) Call asked (λ k. ask-keeps f (k .ask)) ordered (freshLent f) start-sound calls o);
+        net = rw (fresh-lent, e) (rw (fresh-view f) at (net-trace f (Consistent f) (λ s h. h) Call asked (λ k. ask-keeps f (k .ask)) (freshLent f) start-sound calls));
+        bounded = (consistent-bounded f (fresh f) start-consistent, trace-good f (Consistent f) (λ s h. h) Call asked (λ k. ask-keeps f (k .ask)) (Bounded f) (consistent-bounded f) (fresh f) start-consistent calls);
       }
 
 -- DEMAND 3: the two runners' traces are one, that of the paper's step; and no visit's outcome hangs on a place that its subnet cannot see

@@ -19,7 +19,7 @@ use Rattle.hierarchy.proofs.WalkLaws.{Below, every-none, every-all, and-no, tes
 use Rattle.flattening.specs.Flattening.{flatPlaceRow, flatten}
 use Rattle.runners.specs.State.{scale, entry, transfer, remaining, flow, owed, due, covered}
 use Rattle.runners.specs.Rows.{rowFault}
-use Rattle.runners.specs.Calls.{view, inRange, consistent, valid}
+use Rattle.runners.specs.Calls.{view, inRange, consistent, validIn, valid}
 use Rattle.runners.specs.Columns.{Grown, nothing, Columns}
 use Rattle.runners.specs.Visits.{posting, turnIn}
 use Rattle.runners.specs.inner.Transitions.{spanSum, PostsSpan}
@@ -163,7 +163,7 @@ module _ (c : Card) (l : Lent) where
   lowAll = every (c .signals) (λ g. leb (entry ((view l) .degrees) g) (scale c))
 
   valid-parts : valid (flatten c) l ≡ (eqb (l .places) (length (c .places)) && eqb (l .transitions) (length (c .transitions)) && eqb (l .signals) (c .signals) && (coveredAll && rangedAll && lowAll))
-  unfolding valid consistent flatten
+  unfolding validIn consistent flatten
   valid-parts = rw (
     map-length flatPlaceRow (c .places),
     every-same (length (c .transitions)) _ (λ t. inRange c (transfer ((view l) .transfers) t)) (λ t b. range-flat c (transfer ((view l) .transfers) t)),

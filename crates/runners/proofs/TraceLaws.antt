@@ -1,10 +1,11 @@
--- Lists of calls: no state reached from fresh earns 25, and the two runners' traces are one. Assumes nothing.
+-- Lists of calls of any kind: where each call keeps what makes a state good, the two runners' traces are one, that of the net's own run, every
+-- state is good, and none earns 25. And a row keeps a state consistent. Assumes nothing.
 use Prim.Native.Nat.{ℕ}
 use mathlib.Core.Path.{_≡_, refl, sym, ap, _∙_}
 use mathlib.Core.Logic.{_≢_, Iff·trans}
 use mathlib.Core.Bool.{Bool, true, false}
 use mathlib.Core.List.{List, [], _∷_, _++_, map}
-use mathlib.Core.Option.{Option, none, some, Option·map}
+use mathlib.Core.Option.{Option, none, some, Option·map, Option·some-ne-none}
 use native.Mathlib.Omega.{arith}
 use lib.ListN.{length, drop}
 use lib.Seq.{take-at}
@@ -12,15 +13,13 @@ use lib.Dec.{ltb, eqb}
 use Rattle.card.specs.Finite.{All, someUnless, lowest, _otherwise_}
 use Rattle.card.specs.Card.{Card}
 use Rattle.card.proofs.Decides.{Decides, eq-is, and-is}
-use Rattle.hierarchy.specs.Judgement.{accepted, judge}
-use Rattle.flattening.specs.Flattening.{flatten}
 use Rattle.runners.specs.Numbers.{RowOutcome, refusal}
 use Rattle.runners.specs.State.{NetState, scale, entry}
 use Rattle.runners.specs.Step.{conflict, next}
-use Rattle.runners.specs.Rows.{settle, rowFault, rowRefusal, step}
-use Rattle.runners.specs.Calls.{view, slot, store, consistent, valid, eachOnce, called, flatCall, subnetCall}
+use Rattle.runners.specs.Rows.{settle, rowFault, rowRefusal, degrees, noRow, Ask, row, Act, actOf, perform}
+use Rattle.runners.specs.Calls.{view, slot, store, validIn, inState, valid, lentCall}
 use Rattle.runners.specs.inner.Storing.{Counts}
-use Rattle.runners.specs.Traces.{trace, Call, flatTrace, subnetTrace, netTrace, observed, Bounded}
+use Rattle.runners.specs.Traces.{trace, observed, Bounded}
 use Rattle.runners.specs.declared.Transfer.{Transfer}
 use Rattle.runners.specs.declared.State.{State as Lent}
 use Rattle.runners.specs.declared.Refusal.{Refusal}
@@ -53,7 +52,7 @@ pub record Valid (f : Card) (l : Lent) : Type 0 where
   pub consistent : Consistent f (view l)
 
 pub valid-is : (f : Card) (l : Lent) → Decides (valid f l) (Valid f l)
-unfolding valid
+unfolding validIn
 valid-is f l =
     Iff·trans (and-is _ _ _ _ (and-is _ _ _ _ (and-is _ _ _ _ (eq-is (l .places) (length (f .places))) (eq-is (l .transitions) (length (f .transitions))))
     (eq-is (l .signals) (f .signals))) (consistent-is f (view l))) (
@@ -61,27 +60,15 @@ valid-is f l =
       λ h. (((h .counts .places, h .counts .transitions), h .counts .signals), h .consistent),
     )
 
--- a row call with a valid state: the tests of the order and of the row
-abbrev pub tests : (ordered : Bool) → Card → Lent → List ℕ → Option Refusal
-tests ordered f l row = someUnless ordered BadOrder otherwise rowRefusal f (view l) row
+-- WHAT THERE IS TO SHOW OF A CALL: where it is not refused, it keeps a state good, and as long as the net.
+pub record Kept (f : Card) (Good : NetState → Type 0) (s : NetState) : Type 0 where
+  pub good : Good s
+  pub sized : Sized f s
 
--- what a call leaves is valid
-pub kept : (f : Card) (l : Lent) (row : List ℕ) (ordered : Bool) → Valid f l
-    → Valid f ((settle (tests ordered f l row) l (store l (next f (view l) row))) .1)
-kept f l row false v = v
-kept f l row true v = go (rowRefusal f (view l) row) refl
-  where
-    go : (x : Option Refusal) → rowRefusal f (view l) row ≡ x → Valid f ((settle x l (store l (next f (view l) row))) .1)
-    go (some why) e = v
-    go none e =
-        let k = fits-is f (view l) row .0 e in
-        let q = view-store f l (next f (view l) row) (v .counts) (next-sized f (view l) row (k .long)) in
-        record {
-          counts = record { places = v .counts .places; transitions = v .counts .transitions; signals = v .counts .signals };
-          consistent = rw q (next-consistent f (view l) row (v .consistent) k);
-        }
+abbrev pub Keeps : (f : Card) → (Good : NetState → Type 0) → Act → Type 0
+Keeps f Good a = (s : NetState) → Good s → a .refusal s ≡ none → Kept f Good (a .next s)
 
--- no test of the order or of the row gives 25
+-- and, for 25, that its own tests do not give it
 abbrev NotState : Refusal → Type 0
 NotState (BadCard f at) = Unit {0}
 NotState BadState = ⊥
@@ -90,9 +77,12 @@ NotState BadRow = Unit {0}
 NotState (BadDegree g) = Unit {0}
 NotState (Conflict p) = Unit {0}
 
-Clear : Option Refusal → Type 0
+pub Clear : Option Refusal → Type 0
 Clear none = Unit {0}
 Clear (some why) = NotState why
+
+abbrev pub Mild : Act → Type 0
+Mild a = (s : NetState) → Clear (a .refusal s)
 
 clear-otherwise : (a b : Option Refusal) → Clear a → Clear b → Clear (a otherwise b)
 unfolding Clear
@@ -109,13 +99,6 @@ unfolding Clear
 clear-map why h none = tt
 clear-map why h (some n) = h n
 
-tests-clear : (ordered : Bool) (f : Card) (l : Lent) (row : List ℕ) → Clear (tests ordered f l row)
-unfolding rowRefusal rowFault
-tests-clear ordered f l row =
-    clear-otherwise _ _ (clear-unless ordered BadOrder tt) (clear-otherwise _ _ (clear-otherwise _ _ (clear-unless (eqb (length row) (f .signals)) BadRow tt)
-    (clear-map BadDegree (λ n. tt) (lowest 0 (f .signals) (λ g. ltb (scale f) (entry row g)))))
-    (clear-map Conflict (λ n. tt) (conflict f (view l) row)))
-
 abbrev pub 25·alone : RowOutcome
 25·alone = refusal BadState
 
@@ -129,84 +112,121 @@ not-25 (some BadRow) before after h e = let z : _≡_ {A = ℕ} 20 25 = cc in om
 not-25 (some (BadDegree g)) before after h e = let z : _≡_ {A = ℕ} 0 1 = cc in omega arith
 not-25 (some (Conflict p)) before after h e = let z : _≡_ {A = ℕ} 0 1 = cc in omega arith
 
--- a row that is tested and stored in a lent state is the step on what that holds
-pub settled-step : (f : Card) (l : Lent) (row : List ℕ) → Valid f l
-    → observed (settle (rowRefusal f (view l) row) l (store l (next f (view l) row))) ≡ step f (view l) row
-unfolding step
-settled-step f l row v = go (rowRefusal f (view l) row) refl
-  where
-    go : (x : Option Refusal) → rowRefusal f (view l) row ≡ x
-        → observed (settle x l (store l (next f (view l) row))) ≡ settle x (view l) (next f (view l) row)
-    go (some why) q = refl
-    go none q =
-        rw (view-store f l (next f (view l) row) (v .counts) (next-sized f (view l) row (fits-is f (view l) row .0 q .long)))
+-- a lent state with the counts of a net that holds a good state
+pub record Sound (f : Card) (Good : NetState → Type 0) (l : Lent) : Type 0 where
+  pub counts : Counts f l
+  pub good : Good (view l)
 
-module _ (card : List ℕ) (c : Card) (e : judge card ≡ accepted c) where
-  abbrev f : Card
-  f = flatten c
+-- CALLS OF ANY KIND
+module _ (f : Card) (Good : NetState → Type 0) (safe : (s : NetState) → Good s → Consistent f s) (C : Type 0) (act : C → Act) (keeps : (k : C) → Keeps f Good (act k)) where
+  tested : (l : Lent) → Sound f Good l → valid f l ≡ true
+  tested l v = valid-is f l .1 (record { counts = v .counts; consistent = safe (view l) (v .good) })
 
-  -- of an accepted card and a valid state, a call is the rest of its tests and then the step
-  call-is : (ordered : Card → Bool) (l : Lent) (row : List ℕ) → Valid f l
-      → called ordered (judge card) l row ≡ settle (tests (ordered c) f l row) l (store l (next f (view l) row))
-  call-is ordered l row v = rw (e, valid-is f l .1 v)
+  -- of a sound state a call is the rest of its tests and then the act,
+  call-is : (ordered : Bool) (k : C) (l : Lent) → Sound f Good l
+      → lentCall inState f ordered (act k) l ≡ settle (someUnless ordered BadOrder otherwise (act k) .refusal (view l)) l (store l ((act k) .next (view l)))
+  call-is ordered k l v = rw (tested l v)
 
-  call-valid : (ordered : Card → Bool) (l : Lent) (row : List ℕ) → Valid f l → Valid f ((called ordered (judge card) l row) .1)
-  call-valid ordered l row v = rw (call-is ordered l row v) (kept f l row (ordered c) v)
+  -- and leaves a sound one
+  settled-sound : (ordered : Bool) (k : C) (l : Lent) → Sound f Good l
+      → Sound f Good ((settle (someUnless ordered BadOrder otherwise (act k) .refusal (view l)) l (store l ((act k) .next (view l)))) .1)
+  settled-sound false k l v = v
+  settled-sound true k l v = go ((act k) .refusal (view l)) refl
+    where
+      go : (x : Option Refusal) → (act k) .refusal (view l) ≡ x → Sound f Good ((settle x l (store l ((act k) .next (view l)))) .1)
+      go (some why) e = v
+      go none e =
+          let n = keeps k (view l) (v .good) e in
+          record {
+            counts = record { places = v .counts .places; transitions = v .counts .transitions; signals = v .counts .signals };
+            good = rw (view-store f l ((act k) .next (view l)) (v .counts) (n .sized)) (n .good);
+          }
 
-  call-clear : (ordered : Card → Bool) (l : Lent) (row : List ℕ) → Valid f l → (called ordered (judge card) l row) .0 ≢ 25·alone
-  call-clear ordered l row v = rw (call-is ordered l row v) (not-25 (tests (ordered c) f l row) l _ (tests-clear (ordered c) f l row))
+  pub call-sound : (ordered : Bool) (k : C) (l : Lent) → Sound f Good l → Sound f Good ((lentCall inState f ordered (act k) l) .1)
+  call-sound ordered k l v = rw (call-is ordered k l v) (settled-sound ordered k l v)
 
-  pub trace-clear : (ordered : Call → Card → Bool) (l : Lent) → Valid f l → (calls : List Call)
-      → All (λ x. x .0 ≢ 25·alone) (trace (λ m k. called (ordered k) (judge card) m (k .row)) l calls)
+  -- a call on a lent state is the act on what it holds
+  pub call-observed : (k : C) (l : Lent) → Sound f Good l → observed (lentCall inState f true (act k) l) ≡ perform (act k) (view l)
+  call-observed k l v = rw (call-is true k l v) (go ((act k) .refusal (view l)) refl)
+    where
+      go : (x : Option Refusal) → (act k) .refusal (view l) ≡ x
+          → observed (settle x l (store l ((act k) .next (view l)))) ≡ settle x (view l) ((act k) .next (view l))
+      go (some why) e = refl
+      go none e = rw (view-store f l ((act k) .next (view l)) (v .counts) (keeps k (view l) (v .good) e .sized))
+
+  -- THE TWO RUNNERS' TRACES ARE ONE, where the orders are valid,
+  pub runners-trace : (ordered : C → Bool) (l : Lent) → Sound f Good l → (calls : List C) → All (λ k. ordered k ≡ true) calls
+      → trace (λ m k. lentCall inState f (ordered k) (act k) m) l calls ≡ trace (λ m k. lentCall inState f true (act k) m) l calls
   unfolding trace
-  trace-clear ordered l v [] = tt
-  trace-clear ordered l v (k ∷ calls) = (call-clear (ordered k) l (k .row) v, trace-clear ordered _ (call-valid (ordered k) l (k .row) v) calls)
+  runners-trace ordered l v [] o = refl
+  runners-trace ordered l v (k ∷ calls) o =
+      rw (o .0, runners-trace ordered ((lentCall inState f true (act k) l) .1) (call-sound true k l v) calls (o .1))
 
-  -- with a valid order both runners' calls are the step
-  ordered-call : (l : Lent) (k : Call) → Valid f l → eachOnce (length (c .subnets)) (k .order) ≡ true
-      → subnetCall card (k .order) l (k .row) ≡ flatCall card l (k .row)
-  unfolding subnetCall flatCall
-  ordered-call l k v o =
-      call-is (λ d. eachOnce (length (d .subnets)) (k .order)) l (k .row) v ∙ rw o (sym (call-is (λ d. true) l (k .row) v))
-
-  flat-valid : (l : Lent) (k : Call) → Valid f l → Valid f ((flatCall card l (k .row)) .1)
-  unfolding flatCall
-  flat-valid l k v = call-valid (λ d. true) l (k .row) v
-
-  pub runners-trace : (l : Lent) → Valid f l → (calls : List Call) → All (λ k. eachOnce (length (c .subnets)) (k .order) ≡ true) calls
-      → subnetTrace card l calls ≡ flatTrace card l calls
-  unfolding trace
-  runners-trace l v [] o = refl
-  runners-trace l v (k ∷ calls) o =
-      rw (ordered-call l k v (o .0), runners-trace ((flatCall card l (k .row)) .1) (flat-valid l k v) calls (o .1))
-
-  observed-step : (l : Lent) (row : List ℕ) → Valid f l → observed (flatCall card l row) ≡ step f (view l) row
-  unfolding flatCall
-  observed-step l row v = rw (call-is (λ d. true) l row v) (settled-step f l row v)
-
-  pub net-trace : (l : Lent) → Valid f l → (calls : List Call) → map observed (flatTrace card l calls) ≡ netTrace f (view l) calls
+  -- THAT OF THE NET'S OWN RUN;
+  pub net-trace : (l : Lent) → Sound f Good l → (calls : List C)
+      → map observed (trace (λ m k. lentCall inState f true (act k) m) l calls) ≡ trace (λ s k. perform (act k) s) (view l) calls
   unfolding trace
   net-trace l v [] = refl
   net-trace l v (k ∷ calls) =
-      let q = observed-step l (k .row) v in
-      let r : view ((flatCall card l (k .row)) .1) ≡ (step f (view l) (k .row)) .1 = ap (λ (x : RowOutcome × NetState). x .1) q in
-      rw (q, net-trace ((flatCall card l (k .row)) .1) (flat-valid l k v) calls, r)
+      let q = call-observed k l v in
+      let r : view ((lentCall inState f true (act k) l) .1) ≡ (perform (act k) (view l)) .1 = ap (λ (x : RowOutcome × NetState). x .1) q in
+      rw (q, net-trace ((lentCall inState f true (act k) l) .1) (call-sound true k l v) calls, r)
 
--- a consistent state has every marking in range, and so has each state that a trace reaches from it
+  -- NO STATE THAT IS REACHED EARNS 25, whatever the orders;
+  pub trace-clear : ((k : C) → Mild (act k)) → (ordered : C → Bool) (l : Lent) → Sound f Good l → (calls : List C)
+      → All (λ x. x .0 ≢ 25·alone) (trace (λ m k. lentCall inState f (ordered k) (act k) m) l calls)
+  unfolding trace
+  trace-clear mild ordered l v [] = tt
+  trace-clear mild ordered l v (k ∷ calls) = (
+    rw (call-is (ordered k) k l v) (not-25 (someUnless (ordered k) BadOrder otherwise (act k) .refusal (view l)) l _ (clear-otherwise _ _ (clear-unless (ordered k) BadOrder tt) (mild k (view l)))),
+    trace-clear mild ordered ((lentCall inState f (ordered k) (act k) l) .1) (call-sound (ordered k) k l v) calls,
+  )
+
+  -- AND EVERY STATE THAT IS REACHED IS GOOD
+  perform-good : (k : C) (s : NetState) → Good s → Good ((perform (act k) s) .1)
+  perform-good k s h = go ((act k) .refusal s) refl
+    where
+      go : (x : Option Refusal) → (act k) .refusal s ≡ x → Good ((settle x s ((act k) .next s)) .1)
+      go (some why) e = h
+      go none e = keeps k s h e .good
+
+  pub trace-good : (P : NetState → Type 0) → ((s : NetState) → Good s → P s) → (s : NetState) → Good s → (calls : List C)
+      → All P (map (λ x. x .1) (trace (λ x k. perform (act k) x) s calls))
+  unfolding trace
+  trace-good P g s h [] = tt
+  trace-good P g s h (k ∷ calls) =
+      let n = perform-good k s h in
+      (g ((perform (act k) s) .1) n, trace-good P g ((perform (act k) s) .1) n calls)
+
+-- THE CALLS THAT THERE ARE, a clause for each kind: an accepted row keeps a state consistent, and no test of a row gives 25
+none-some : {A : Type 0} {why : Refusal} → some why ≡ none → A
+none-some e = absurd (Option·some-ne-none _ e)
+
+pub ask-keeps : (f : Card) (k : Ask) → Keeps f (Consistent f) (actOf f k)
+ask-keeps f (row (degrees r)) s h e =
+    let k = fits-is f s r .0 e in
+    record { good = next-consistent f s r h k; sized = next-sized f s r (k .long) }
+ask-keeps f (row noRow) s h e = none-some e
+
+row-clear : (f : Card) (s : NetState) (r : List ℕ) → Clear (rowRefusal f s r)
+unfolding rowRefusal rowFault
+row-clear f s r =
+    clear-otherwise _ _ (clear-otherwise _ _ (clear-unless (eqb (length r) (f .signals)) BadRow tt)
+    (clear-map BadDegree (λ n. tt) (lowest 0 (f .signals) (λ g. ltb (scale f) (entry r g)))))
+    (clear-map Conflict (λ n. tt) (conflict f s r))
+
+pub ask-mild : (f : Card) (k : Ask) → Mild (actOf f k)
+unfolding Clear
+ask-mild f (row (degrees r)) s = row-clear f s r
+ask-mild f (row noRow) s = tt
+
+-- what a row leaves of a valid state
+pub kept : (f : Card) (l : Lent) (r : List ℕ) (ordered : Bool) → Valid f l
+    → Valid f ((settle (someUnless ordered BadOrder otherwise rowRefusal f (view l) r) l (store l (next f (view l) r))) .1)
+kept f l r ordered v =
+    let n = settled-sound f (Consistent f) (λ s h. h) Ask (actOf f) (ask-keeps f) ordered (row (degrees r)) l (record { counts = v .counts; good = v .consistent }) in
+    record { counts = n .counts; consistent = n .good }
+
+-- a consistent state has every marking in range
 pub consistent-bounded : (f : Card) (s : NetState) → Consistent f s → Bounded f s
 consistent-bounded f s h p l = omega (arith, h .places p l .space)
-
-step-consistent : (f : Card) (s : NetState) (row : List ℕ) → Consistent f s → Consistent f ((step f s row) .1)
-unfolding step
-step-consistent f s row h = go (rowRefusal f s row) refl
-  where
-    go : (x : Option Refusal) → rowRefusal f s row ≡ x → Consistent f ((settle x s (next f s row)) .1)
-    go (some why) q = h
-    go none q = next-consistent f s row h (fits-is f s row .0 q)
-
-pub trace-bounded : (f : Card) (s : NetState) → Consistent f s → (calls : List Call) → All (Bounded f) (map (λ x. x .1) (netTrace f s calls))
-unfolding trace
-trace-bounded f s h [] = tt
-trace-bounded f s h (k ∷ calls) =
-    let n = step-consistent f s (k .row) h in
-    (consistent-bounded f ((step f s (k .row)) .1) n, trace-bounded f ((step f s (k .row)) .1) n calls)

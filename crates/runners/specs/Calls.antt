@@ -13,8 +13,7 @@ use Rattle.flattening.specs.Flattening.{flatten}
 use Rattle.runners.specs.Numbers.{RowOutcome}
 use Rattle.runners.specs.Numbers
 use Rattle.runners.specs.State.{NetState, scale, entry, transfer, fresh, covered}
-use Rattle.runners.specs.Step.{next}
-use Rattle.runners.specs.Rows.{settle, rowRefusal}
+use Rattle.runners.specs.Rows.{settle, degrees, Ask, row, Act, actOf}
 use Rattle.runners.specs.declared.Transfer.{Transfer}
 use Rattle.runners.specs.declared.Transfer.the-variants.{Idle, Carrying}
 use Rattle.runners.specs.declared.Slot.{Slot}
@@ -81,9 +80,26 @@ consistent f s =
     && every (length (f .transitions)) (λ t. inRange f (transfer (s .transfers) t))
     && every (f .signals) (λ g. leb (entry (s .degrees) g) (scale f))
 
-unfoldable pub valid : Card → Lent → Bool
-valid f l =
-    eqb (l .places) (length (f .places)) && eqb (l .transitions) (length (f .transitions)) && eqb (l .signals) (f .signals) && consistent f (view l)
+-- How a state is lent: the state that a lent one holds, a state stored in a lent one, and whether its lengths are those of a net.
+pub record Lending (S : Type 0) : Type 0 where
+  pub view : S → NetState
+  pub store : S → NetState → S
+  pub fits : Card → S → Bool
+
+unfoldable pub validIn : {S : Type 0} → Lending S → Card → S → Bool
+validIn way f l = way .fits f l && consistent f (way .view l)
+
+-- in the runners' struct
+abbrev pub inState : Lending Lent
+inState =
+    record {
+      view = view;
+      store = store;
+      fits = λ f l. eqb (l .places) (length (f .places)) && eqb (l .transitions) (length (f .transitions)) && eqb (l .signals) (f .signals);
+    }
+
+abbrev pub valid : Card → Lent → Bool
+valid = validIn inState
 
 -- 23: a visiting order is a list of S numbers naming each subnet once. (S entries that name each of S subnets name none twice, and nothing
 -- else: the number of distinct subnets named equals S.)
@@ -93,21 +109,40 @@ names order s = any (length order) (λ i. eqb (getD order i 0) s)
 unfoldable pub eachOnce : (S : ℕ) → (order : List ℕ) → Bool
 eachOnce S order = eqb (length order) S && every S (names order)
 
--- A row call tests the card (1 to 16), 25, 23, 20, 21, 22.
-abbrev pub called : (ordered : Card → Bool) → Judgement → Lent → (row : List ℕ) → RowOutcome × Lent
-called ordered (refused n at) l row = (Numbers.RowOutcome.refused n (some at), l)
-called ordered (accepted c) l row =
-    let f = flatten c in
-    let s = view l in
-    settle (someUnless (valid f l) BadState otherwise someUnless (ordered c) BadOrder otherwise rowRefusal f s row) l (store l (next f s row))
+-- What a call is lent beside card and state: what it asks, and whether its visiting order is one (true where none is lent).
+pub record Given : Type 0 where
+  pub ask : Ask
+  pub ordered : Bool
+
+-- 25, 23, and then the call's own tests
+abbrev pub lentCall : {S : Type 0} → Lending S → Card → (ordered : Bool) → Act → S → RowOutcome × S
+lentCall way f ordered act l =
+    let s = way .view l in
+    settle (someUnless (validIn way f l) BadState otherwise someUnless ordered BadOrder otherwise act .refusal s) l (way .store l (act .next s))
+
+-- A CALL, on a state that is lent in any way. A row call tests the card (1 to 16), 25, 23, 20, 21, 22.
+abbrev pub callOn : {S : Type 0} → Lending S → Judgement → (Card → Given) → S → RowOutcome × S
+callOn way (refused n at) given l = (Numbers.RowOutcome.refused n (some at), l)
+callOn way (accepted c) given l = lentCall way (flatten c) ((given c) .ordered) (actOf (flatten c) ((given c) .ask)) l
 
 -- the flat runner
-unfoldable pub flatCall : (card : List ℕ) → Lent → (row : List ℕ) → RowOutcome × Lent
-flatCall card = called (λ c. true) (judge card)
+abbrev pub flatAsk : {S : Type 0} → Lending S → (card : List ℕ) → S → Ask → RowOutcome × S
+flatAsk way card l ask = callOn way (judge card) (λ c. record { ask = ask; ordered = true }) l
 
 -- the subnet runner, which is lent a visiting order
 abbrev pub inOrder : (order : List ℕ) → Card → Bool
 inOrder order c = eachOnce (length (c .subnets)) order
 
+abbrev pub subnetAsk : {S : Type 0} → Lending S → (card order : List ℕ) → S → Ask → RowOutcome × S
+subnetAsk way card order l ask = callOn way (judge card) (λ c. record { ask = ask; ordered = inOrder order c }) l
+
+-- their row calls, in the runners' struct
+unfoldable pub flatCall : (card : List ℕ) → Lent → (row : List ℕ) → RowOutcome × Lent
+flatCall card l r = flatAsk inState card l (row (degrees r))
+
 unfoldable pub subnetCall : (card order : List ℕ) → Lent → (row : List ℕ) → RowOutcome × Lent
-subnetCall card order = called (inOrder order) (judge card)
+subnetCall card order l r = subnetAsk inState card order l (row (degrees r))
+
+-- a row call on what a card was judged to be
+abbrev pub called : (ordered : Card → Bool) → Judgement → Lent → (row : List ℕ) → RowOutcome × Lent
+called ordered j l r = callOn inState j (λ c. record { ask = row (degrees r); ordered = ordered c }) l

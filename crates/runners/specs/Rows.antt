@@ -1,6 +1,6 @@
 -- A row on the flat net: tests 20, 21 and 22, the reply and the next state; and a row of a file ('Why a call is turned back').
 use Prim.Native.Nat.{ℕ, suc, _+_, _-_, _*_, _/_}
-use mathlib.Core.Bool.{_&&_}
+use mathlib.Core.Bool.{Bool, _&&_}
 use mathlib.Core.List.{List}
 use mathlib.Core.Option.{Option, none, some, Option·map}
 use lib.ListN.{length}
@@ -30,9 +30,42 @@ rowFault f row =
 unfoldable pub rowRefusal : Card → NetState → (row : List ℕ) → Option Refusal
 rowRefusal f s row = rowFault f row otherwise Option·map Conflict (conflict f s row)
 
--- tests 20 and 21, and then the step
-unfoldable pub step : Card → NetState → (row : List ℕ) → RowOutcome × NetState
-step f s row = settle (rowRefusal f s row) s (next f s row)
+-- What is read of a row: its degrees, or why it has none. (20, in a file: bytes missing or a nonzero fill bit.)
+pub data RowRead : Type 0 where
+  degrees : (row : List ℕ) → RowRead
+  noRow : RowRead
+
+-- What a call asks of a net. A kind of call is a case here and a clause of `actOf`.
+pub data Ask : Type 0 where
+  row : RowRead → Ask
+
+-- What it does to the net's state: why it is refused, and else the next state.
+pub record Act : Type 0 where
+  pub refusal : NetState → Option Refusal
+  pub next : NetState → NetState
+
+-- of a row, tests 20, 21 and 22, and the step
+abbrev pub rowAct : Card → RowRead → Act
+rowAct f (degrees r) = record { refusal = λ s. rowRefusal f s r; next = λ s. next f s r }
+rowAct f noRow = record { refusal = λ s. some BadRow; next = λ s. s }
+
+abbrev pub actOf : Card → Ask → Act
+actOf f (row r) = rowAct f r
+
+-- On the net's own state: tests 20 and 21, and then the step.
+abbrev pub perform : Act → NetState → RowOutcome × NetState
+perform a s = settle (a .refusal s) s (a .next s)
+
+abbrev pub step : Card → NetState → Ask → RowOutcome × NetState
+step f s ask = perform (actOf f ask) s
+
+-- So many bits, and zeros to the byte.
+unfoldable pub filled : (width : ℕ) → (bytes : List ℕ) → Bool
+filled width bytes = eqb (length bytes) (bytesFor width) && every (8 * bytesFor width - width) (λ i. eqb (bit bytes (width + i)) 0)
+
+-- What bytes hold for each signal: so many bits in front, then so many a signal, and zeros to the byte.
+unfoldable pub cells : (lead cell signals : ℕ) → (bytes : List ℕ) → Option (List ℕ)
+cells lead cell signals bytes = someIf (filled (lead + cell * signals) bytes) (table 0 signals (λ g. bitField (bit bytes) (lead + cell * g) cell))
 
 -- Rows from standard input: 10 bits a degree, zeros to the byte.
 abbrev pub degreeWidth : Card → ℕ
@@ -41,17 +74,13 @@ degreeWidth f = 10
 abbrev pub rowWidth : Card → ℕ
 rowWidth f = degreeWidth f * f .signals
 
--- the row that bytes hold; none where bytes are missing or a fill bit is not zero
-unfoldable pub rowOf : Card → (bytes : List ℕ) → Option (List ℕ)
-rowOf f bytes =
-    someIf (eqb (length bytes) (bytesFor (rowWidth f)) && every (8 * bytesFor (rowWidth f) - rowWidth f) (λ i. eqb (bit bytes (rowWidth f + i)) 0))
-    (table 0 (f .signals) (λ g. bitField (bit bytes) (degreeWidth f * g) (degreeWidth f)))
+abbrev pub orNoRow : Option (List ℕ) → RowRead
+orNoRow none = noRow
+orNoRow (some r) = degrees r
+
+abbrev pub rowOf : Card → (bytes : List ℕ) → RowRead
+rowOf f bytes = orNoRow (cells 0 (degreeWidth f) (f .signals) bytes)
 
 -- a file in pieces of n bytes; the last may be shorter
 unfoldable pub pieces : (n : ℕ) → (file : List ℕ) → List (List ℕ)
 pieces n file = table 0 ((length file + n - 1) / n) (λ k. slice (n * k) (n * suc k) file)
-
--- 20, in a file: bytes missing or a nonzero fill bit
-abbrev pub fileStep : Card → NetState → Option (List ℕ) → RowOutcome × NetState
-fileStep f s none = (rowOutcome (No BadRow), s)
-fileStep f s (some row) = step f s row

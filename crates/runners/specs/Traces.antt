@@ -11,8 +11,8 @@ use Rattle.hierarchy.specs.Judgement.{accepted, judge}
 use Rattle.flattening.specs.Flattening.{flatten}
 use Rattle.runners.specs.Numbers.{RowOutcome}
 use Rattle.runners.specs.State.{NetState, entry, fresh, fullMarking}
-use Rattle.runners.specs.Rows.{step}
-use Rattle.runners.specs.Calls.{view, freshCall, eachOnce, flatCall, subnetCall}
+use Rattle.runners.specs.Rows.{Ask, step}
+use Rattle.runners.specs.Calls.{view, inState, freshCall, eachOnce, flatAsk, subnetAsk}
 use Rattle.runners.specs.Visits.{VisitsAlike}
 use Rattle.runners.specs.declared.State.{State as Lent}
 
@@ -21,20 +21,20 @@ unfoldable pub trace : {S C : Type 0} → (S → C → RowOutcome × S) → S �
 trace call s [] = []
 trace call s (c ∷ cs) = call s c ∷ trace call ((call s c) .1) cs
 
--- a row, and the visiting order that the subnet runner is lent for it
+-- what is asked (a row), and the visiting order that the subnet runner is lent for it
 pub record Call : Type 0 where
-  pub row : List ℕ
+  pub ask : Ask
   pub order : List ℕ
 
--- the two runners, and what tests 20 and 21, and then the step, give on the flat net, run on the rows alone
+-- the two runners, and what tests 20 and 21, and then the step, give on the flat net, run on what is asked alone
 abbrev pub flatTrace : (card : List ℕ) → Lent → List Call → List (RowOutcome × Lent)
-flatTrace card = trace (λ l k. flatCall card l (k .row))
+flatTrace card = trace (λ l k. flatAsk inState card l (k .ask))
 
 abbrev pub subnetTrace : (card : List ℕ) → Lent → List Call → List (RowOutcome × Lent)
-subnetTrace card = trace (λ l k. subnetCall card (k .order) l (k .row))
+subnetTrace card = trace (λ l k. subnetAsk inState card (k .order) l (k .ask))
 
 abbrev pub netTrace : (f : Card) → NetState → List Call → List (RowOutcome × NetState)
-netTrace f = trace (λ s k. step f s (k .row))
+netTrace f = trace (λ s k. step f s (k .ask))
 
 -- a reply, with the state that a lent one holds
 abbrev pub observed : RowOutcome × Lent → RowOutcome × NetState
