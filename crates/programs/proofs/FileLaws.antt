@@ -5,7 +5,7 @@ use mathlib.Core.Bool.{Bool, true, false, cond}
 use mathlib.Core.List.{List, [], _∷_, _++_, append-assoc}
 use mathlib.Core.Option.{Option, none, some}
 use native.Mathlib.Omega.{arith}
-use native.Mathlib.Nat.{zero-add}
+use native.Mathlib.Nat.{mul-le-mul-left}
 use lib.ListN.{length, set, take, replicate, length-replicate}
 use lib.Seq.{set-at, take-at}
 use lib.Dec.{eqb}
@@ -56,48 +56,60 @@ unfolding table
 table-same from zero f h e = refl
 table-same from (suc n) f h e = rw (e from (omega arith)) (ap (λ (xs : List ℕ). h from ∷ xs) (table-same (suc from) n f h (λ i l. e i (omega arith))))
 
--- a row has its degrees one after another
-row-is : (f : Card) (bytes : List ℕ) (g : ℕ) → f .signals ≡ g
-    → rowOf f bytes ≡ orNoRow (someIf (filled (10 * g) bytes) (table 0 g (λ k. bitField (bit bytes) (10 * k) 10)))
-unfolding cells
-row-is f bytes g e = rw e (simp zero-add)
+-- what bytes hold for each signal, so many bits in front of it
+pub cells-few : (cell g : ℕ) → cell ≤ 16 → g ≤ 63 → cell * g ≤ 1008
+cells-few cell g h k = omega (arith, mul-le-mul-left cell k)
 
 some-is : (b : Bool) (xs r : List ℕ) → orNoRow (someIf b xs) ≡ degrees r → xs ≡ r
 some-is true xs r e = cc
 some-is false xs r e = absurd (let z : _≡_ {A = ℕ} 0 1 = cc in omega arith)
 
+module _ (lead cell g : ℕ) (bytes : List ℕ) where
+  abbrev width : ℕ
+  width = lead + cell * g
+
+  cells-long : (r : List ℕ) → orNoRow (cells lead cell g bytes) ≡ degrees r → length r ≡ g
+  unfolding cells
+  cells-long r e =
+      sym (ap (λ (ys : List ℕ). length ys) (some-is (filled width bytes) (table 0 g (λ k. bitField (bit bytes) (lead + cell * k) cell)) r e))
+      ∙ table-length 0 g (λ k. bitField (bit bytes) (lead + cell * k) cell)
+
+  -- bytes of another length hold nothing
+  pub cells-length : (length bytes ≡ bytesFor width → ⊥) → cells lead cell g bytes ≡ none
+  unfolding cells filled
+  cells-length n = rw (ne-eqb (length bytes) (bytesFor width) n)
+
+  -- nor do bytes with a fill bit that is not zero
+  module _ (l : length bytes ≡ bytesFor width) (v : ℕ) (i : v ≡ fieldAt bytes width (8 * bytesFor width - width)) where
+    fill-is : v ≡ bitField (bit bytes) width (8 * bytesFor width - width)
+    fill-is = i ∙ field-in bytes width (8 * bytesFor width - width) (omega arith) (omega arith)
+
+    filled-is : filled width bytes ≡ eqb v 0
+    unfolding filled
+    filled-is = rw (eq-eqb (length bytes) (bytesFor width) l) (field-zero (bit bytes) width (8 * bytesFor width - width) ∙ ap (λ (n : ℕ). eqb n 0) (sym fill-is))
+
+    pub cells-fill : (v ≡ 0 → ⊥) → cells lead cell g bytes ≡ none
+    unfolding cells
+    cells-fill n = rw (filled-is, ne-eqb v 0 n)
+
+    in-bytes : (k : ℕ) → k < g → lead + cell * k + cell ≤ 8 * length bytes
+    in-bytes k m = omega (arith, l, mul-le-mul-left cell (let h : k + 1 ≤ g = omega arith in h))
+
+    cells-whole : cell ≤ 16 → v ≡ 0 → cells lead cell g bytes ≡ some (table 0 g (λ k. fieldAt bytes (lead + cell * k) cell))
+    unfolding cells
+    cells-whole few n =
+        rw (filled-is, eq-eqb v 0 n)
+        (ap (λ (xs : List ℕ). some xs) (table-same 0 g (λ k. bitField (bit bytes) (lead + cell * k) cell) (λ k. fieldAt bytes (lead + cell * k) cell) (λ k m. sym (field-in bytes (lead + cell * k) cell few (in-bytes k (omega arith))))))
+
+    pub cells-handed : cell ≤ 16 → v ≡ 0 → (xs : List ℕ) → xs ≡ stored (λ k. fieldAt bytes (lead + cell * k) cell) g
+        → _≡_ {A = FileRow} (record { whole = true; degrees = xs }) (fileRow (orNoRow (cells lead cell g bytes)))
+    cells-handed few n xs d =
+        rw (cells-whole few n)
+        (ap (λ (ys : List ℕ). record { whole = true; degrees = ys }) (d ∙ ap (λ (k : ℕ). table 0 g (λ k. fieldAt bytes (lead + cell * k) cell) ++ replicate (63 - k) 0) (sym (table-length 0 g (λ k. fieldAt bytes (lead + cell * k) cell)))))
+
+-- a row has as many degrees as the card has signals
 pub row-long : (f : Card) (bytes r : List ℕ) → rowOf f bytes ≡ degrees r → length r ≡ f .signals
-row-long f bytes r e =
-    let xs = table 0 (f .signals) (λ k. bitField (bit bytes) (10 * k) 10) in
-    sym (ap (λ (ys : List ℕ). length ys) (some-is (filled (10 * f .signals) bytes) xs r (sym (row-is f bytes (f .signals) refl) ∙ e)))
-    ∙ table-length 0 (f .signals) (λ k. bitField (bit bytes) (10 * k) 10)
-
--- bytes of another length hold no row
-pub row-length : (f : Card) (bytes : List ℕ) (g : ℕ) → f .signals ≡ g → (length bytes ≡ bytesFor (10 * g) → ⊥) → rowOf f bytes ≡ noRow
-unfolding filled
-row-length f bytes g e n = row-is f bytes g e ∙ rw (ne-eqb (length bytes) (bytesFor (10 * g)) n)
-
--- nor do bytes with a fill bit that is not zero
-module _ (f : Card) (bytes : List ℕ) (g : ℕ) (e : f .signals ≡ g) (l : length bytes ≡ bytesFor (10 * g)) (v : ℕ) (i : v ≡ fieldAt bytes (10 * g) (8 * bytesFor (10 * g) - 10 * g)) where
-  fill-is : v ≡ bitField (bit bytes) (10 * g) (8 * bytesFor (10 * g) - 10 * g)
-  fill-is = i ∙ field-in bytes (10 * g) (8 * bytesFor (10 * g) - 10 * g) (omega arith) (omega arith)
-
-  filled-is : filled (10 * g) bytes ≡ eqb v 0
-  unfolding filled
-  filled-is = rw (eq-eqb (length bytes) (bytesFor (10 * g)) l) (field-zero (bit bytes) (10 * g) (8 * bytesFor (10 * g) - 10 * g) ∙ ap (λ (n : ℕ). eqb n 0) (sym fill-is))
-
-  pub row-fill : (v ≡ 0 → ⊥) → rowOf f bytes ≡ noRow
-  row-fill n = row-is f bytes g e ∙ rw (filled-is, ne-eqb v 0 n)
-
-  pub row-whole : v ≡ 0 → rowOf f bytes ≡ degrees (table 0 g (λ k. fieldAt bytes (10 * k) 10))
-  row-whole n =
-      row-is f bytes g e ∙ rw (filled-is, eq-eqb v 0 n)
-      (ap (λ (xs : List ℕ). degrees xs) (table-same 0 g (λ k. bitField (bit bytes) (10 * k) 10) (λ k. fieldAt bytes (10 * k) 10) (λ k m. sym (field-in bytes (10 * k) 10 (omega arith) (omega arith)))))
-
-  pub row-handed : v ≡ 0 → (xs : List ℕ) → xs ≡ stored (λ k. fieldAt bytes (10 * k) 10) g → _≡_ {A = FileRow} (record { whole = true; degrees = xs }) (fileRow (rowOf f bytes))
-  row-handed n xs d =
-      rw (row-whole n)
-      (ap (λ (ys : List ℕ). record { whole = true; degrees = ys }) (d ∙ ap (λ (k : ℕ). table 0 g (λ k. fieldAt bytes (10 * k) 10) ++ replicate (63 - k) 0) (sym (table-length 0 g (λ k. fieldAt bytes (10 * k) 10)))))
+row-long f bytes r e = cells-long 0 10 (f .signals) bytes r e
 
 -- what the reader of a row found
 differs : true ≡ false → ⊥

@@ -1,15 +1,15 @@
-// A row of a file: 10 bits a degree, zeros to the byte.
+// A row of a file: so many bits in front, so many a signal, and zeros to the byte. In a rows file there are none in front, and 10 a degree.
 use card::MOST_SIGNALS;
 use card::fields::field_at;
 ghost use mathlib.Core.Path.{_≡_};
-ghost use Prim.Native.Nat.{_-_, _*_, _≤_, _<_};
+ghost use Prim.Native.Nat.{_+_, _-_, _*_, _≤_, _<_};
 ghost use mathlib.Core.List.{_++_};
 ghost use lib.ListN.{replicate};
 ghost use Rattle.card.specs.Finite.{table};
 ghost use Rattle.card.specs.Bits.{bytesFor};
 ghost use Rattle.card.specs.Fields.{fieldAt};
 ghost use Rattle.card.specs.Card.{Card};
-ghost use Rattle.runners.specs.Rows.{noRow, rowOf};
+ghost use Rattle.runners.specs.Rows.{noRow, orNoRow, cells, rowOf};
 ghost use Rattle.programs.specs.Files.{fileRow};
 
 // Bits a degree.
@@ -37,17 +37,36 @@ fn no_row() -> FileRow
     }
 }
 
-fn degrees_of(bytes: &[u8], signals: u16) -> [u16; MOST_SIGNALS]
-    requires { ⌜ signals ≤ 63 ⌝ }
-    ensures { λ r. ⌜ r ≡ table 0 signals (λ g. fieldAt (now (bytes .entry)) (10 * g) 10) ++ replicate (63 - signals) 0 ⌝ }
+fn cells_in(bytes: &[u8], lead: usize, cell: usize, signals: u16) -> [u16; MOST_SIGNALS]
+    requires { ⌜ (lead ≤ 16) × (cell ≤ 16) × (signals ≤ 63) ⌝ }
+    ensures { λ r. ⌜ r ≡ table 0 signals (λ g. fieldAt (now (bytes .entry)) (lead + cell * g) cell) ++ replicate (63 - signals) 0 ⌝ }
 {
-    let mut degrees = [0; MOST_SIGNALS];
+    let mut numbers = [0; MOST_SIGNALS];
     let mut g = 0;
     while g < signals {
-        degrees[g as usize] = field_at(bytes, DEGREE_BITS * g as usize, DEGREE_BITS);
+        numbers[g as usize] = field_at(bytes, lead + cell * g as usize, cell);
         g += 1;
     }
-    degrees
+    numbers
+}
+
+// What bytes hold for each signal.
+fn cells_of(bytes: &[u8], lead: usize, cell: usize, signals: u16) -> FileRow
+    requires { ⌜ (lead ≤ 16) × (cell ≤ 16) × (signals ≤ 63) ⌝ }
+    ensures { λ r. ⌜ r ≡ fileRow (orNoRow (cells lead cell signals (now (bytes .entry)))) ⌝ }
+{
+    let width = lead + cell * signals as usize;
+    let n = (width + 7) / 8;
+    if bytes.len() != n {
+        return no_row();
+    }
+    if field_at(bytes, width, 8 * n - width) != 0 {
+        return no_row();
+    }
+    FileRow {
+        whole: true,
+        degrees: cells_in(bytes, lead, cell, signals),
+    }
 }
 
 // The row that bytes hold; no card has more than 63 signals. Two wrong readers that this rules out: one that lets a fill bit be 1, and one
@@ -58,16 +77,5 @@ pub fn row_of(bytes: &[u8], signals: u16) -> FileRow
     if 63 < signals {
         return no_row();
     }
-    let n = row_bytes(signals);
-    if bytes.len() != n {
-        return no_row();
-    }
-    let width = DEGREE_BITS * signals as usize;
-    if field_at(bytes, width, 8 * n - width) != 0 {
-        return no_row();
-    }
-    FileRow {
-        whole: true,
-        degrees: degrees_of(bytes, signals),
-    }
+    cells_of(bytes, 0, DEGREE_BITS, signals)
 }
