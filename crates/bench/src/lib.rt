@@ -2,9 +2,12 @@
 // counts of 16 bits; or bit 47, then 7 bits for the fault and 40 for its position.
 mod rows;
 
+use card::SMALL_CARD;
+use card::SMALL_TABLE;
 use card::TABLE;
 use card::reader::ReadAnswer;
 use card::reader::read;
+use card::tables::number_at;
 use hierarchy::Answer;
 use hierarchy::check::check;
 
@@ -38,14 +41,20 @@ fn topped(n: u16, answer: u64) -> u64 {
 }
 
 // What the reader answers, below the number of field i. It looks at the table, so that no compiler leaves the table out.
+fn read_field_in(card: &[u8], i: usize, numbers: &mut [u16]) -> u64 {
+    let r = read(card, numbers);
+    let a = r.answer;
+    topped(number_at(numbers, i), read_answer(a))
+}
+
 #[no_mangle]
 pub extern "C" fn read_field(card: &[u8], i: usize) -> u64 {
-    let r = read(card);
-    let a = r.answer;
-    if i < TABLE {
-        return topped(r.numbers[i], read_answer(a));
+    if card.len() <= SMALL_CARD {
+        let mut numbers = [0; SMALL_TABLE];
+        return read_field_in(card, i, &mut numbers);
     }
-    read_answer(a)
+    let mut numbers = [0; TABLE];
+    read_field_in(card, i, &mut numbers)
 }
 
 // What the check answers.

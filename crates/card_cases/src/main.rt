@@ -14,6 +14,7 @@ use crate::tables::number_at;
 use crate::tables::numbers_in;
 use crate::tables::put_tables;
 use crate::tables::wide;
+use card::TABLE;
 use card::reader::ReadAnswer;
 use card::reader::read;
 use hierarchy::Answer;
@@ -40,13 +41,13 @@ fn put_read(a: ReadAnswer) {
 
 fn put_card_case(card: &[u8]) {
     put_check(check(card));
-    let r = read(card);
+    let mut numbers = [0; TABLE];
+    let r = read(card, &mut numbers);
     let a = r.answer;
     put_read(a);
     let ReadAnswer::Whole(k) = a else {
         return;
     };
-    let numbers = r.numbers;
     let tables = tables_of(k, &numbers, card.len());
     put_tables(&tables);
 }

@@ -12,6 +12,10 @@ use Rattle.hierarchy.specs.Judgement.{Judgement, accepted, refused, judge, outc
 use Rattle.hierarchy.specs.declared.CardFault.{CardFault}
 use Rattle.hierarchy.specs.declared.Answer.{Answer}
 use Rattle.hierarchy.specs.declared.Answer.the-variants.{Accepted, Refused}
+use Rattle.card.specs.Parsing.{readCard}
+use Rattle.card.specs.Tables.{IsTable}
+use Rattle.net_runner.specs.Copies.{IsCounted}
+use Rattle.net_runner.specs.declared.counts.CardCounts.{CardCounts}
 use Rattle.hierarchy.specs.declared.check.CheckedCard.{CheckedCard}
 use Rattle.hierarchy.proofs.Accepted.{accepted-meets, accepted-loaded}
 use Rattle.flattening.specs.Flattening.{flatten}
@@ -55,18 +59,21 @@ pub counts-refused : (j : Judgement) (a : Answer) (f : CardFault) (at : ℕ) (co
 counts-refused (refused n b) a f at counts h e = refl
 counts-refused (accepted c) a f at counts h e = no-both _ _ _ _ _ (sym (sym (ap checkOutcome e) ∙ h))
 
-pub counts-accepted : (card : List ℕ) (k : CheckedCard) → IsChecked (judge card) k → (s p t g : ℕ) (counts : List ℕ) → k .answer ≡ Accepted s p t → g ≡ getD (k .numbers) 2 0 → s ∷ p ∷ t ∷ g ∷ [] ≡ countsTold (judge card) counts
-counts-accepted card k h s p t g counts a eg = go (judge card) refl h
+pub counts-accepted : (card : List ℕ) (k : CardCounts) → IsCounted card k → (s p t : ℕ) (counts : List ℕ) → k .answer ≡ Accepted s p t → s ∷ p ∷ t ∷ k .signals ∷ [] ≡ countsTold (judge card) counts
+counts-accepted card k h s p t counts a = go (judge card) refl (h .answer)
   where
-    go : (j : Judgement) → judge card ≡ j → IsChecked j k → s ∷ p ∷ t ∷ g ∷ [] ≡ countsTold j counts
-    go (refused n b) i w = no-both _ _ _ _ _ (sym (ap checkOutcome a) ∙ w .answer)
+    go : (j : Judgement) → judge card ≡ j → checkOutcome (k .answer) ≡ outcomeOf j → s ∷ p ∷ t ∷ k .signals ∷ [] ≡ countsTold j counts
+    go (refused n b) i w = no-both _ _ _ _ _ (sym (ap checkOutcome a) ∙ w)
     go (accepted c) i w =
-        let q : CheckOutcome.accepted s p t ≡ CheckOutcome.accepted (length (c .subnets)) (length (c .places)) (length (c .transitions)) = sym (ap checkOutcome a) ∙ w .answer in
+        let q : CheckOutcome.accepted s p t ≡ CheckOutcome.accepted (length (c .subnets)) (length (c .places)) (length (c .transitions)) = sym (ap checkOutcome a) ∙ w in
         let es : s ≡ length (c .subnets) = cc in
         let ep : p ≡ length (c .places) = cc in
         let et : t ≡ length (c .transitions) = cc in
-        let ez : g ≡ c .signals = eg ∙ accepted-loaded c (accepted-meets card c i) k w .laid .signals in
-        rw (es, ep, et, ez)
+        rw (es, ep, et, h .signals c i)
+
+pub is-counted : (card : List ℕ) (k : CheckedCard) (size g : ℕ) (numbers : List ℕ) → IsChecked card k → IsTable (readCard card) size numbers → g ≡ getD numbers 2 0
+    → IsCounted card (record { answer = k .answer; signals = g })
+is-counted card k size g numbers h t e = record { answer = h .answer; signals = λ c q. e ∙ (accepted-loaded card k size numbers h t) .loaded c q .laid .signals }
 
 -- the fresh state's answer
 pub fresh-no : (card : List ℕ) (k : FreshState) → IsFresh (freshCall card) k → (f : CardFault) (at : ℕ) → k .answer ≡ Refused f at → (x : Slices) → (refusal (BadCard f at), x) ≡ freshOn card x

@@ -4,13 +4,16 @@ use mathlib.Core.Path.{_≡_}
 use mathlib.Core.List.{List, map}
 use mathlib.Core.Option.{some}
 use lib.ListN.{length, take}
-use Rattle.hierarchy.specs.Judgement.{Judgement, accepted, refused}
+use Rattle.card.specs.Card.{Card}
+use Rattle.hierarchy.specs.Numbers.{checkOutcome}
+use Rattle.hierarchy.specs.Judgement.{Judgement, accepted, refused, judge, answer}
 use Rattle.runners.specs.Numbers.{RowOutcome, rowOutcome}
 use Rattle.runners.specs.Calls.{view}
 use Rattle.runners.specs.declared.State.{State as Lent}
 use Rattle.runners.specs.declared.Refusal.the-variants.{BadState}
 use Rattle.runners.specs.declared.Reply.the-variants.{No}
 use Rattle.runners.specs.Columns.{codeOf}
+use Rattle.net_runner.specs.declared.counts.CardCounts.{CardCounts}
 use Rattle.net_runner.specs.Slices.{Slices, stateOf}
 
 -- no more entries than a lent state has
@@ -44,3 +47,8 @@ handedBack (RowOutcome.refused n v, l) x = (RowOutcome.refused n v, x)
 abbrev pub tooLong : Judgement → RowOutcome
 tooLong (refused n at) = RowOutcome.refused n (some at)
 tooLong (accepted c) = rowOutcome (No BadState)
+
+-- the check's answer, and how many signals an accepted card has
+pub record IsCounted (card : List ℕ) (r : CardCounts) : Type 0 where
+  pub answer : checkOutcome (r .answer) ≡ answer card
+  pub signals : (c : Card) → judge card ≡ accepted c → r .signals ≡ c .signals

@@ -1,13 +1,13 @@
 // The runner as a library for C and Rust: the entry points of the layers on numbers and slices. Every function takes any slices and answers 0
 // or the number of a refusal, with its value in a lent number; a refusal leaves every lent slice as it was. net_runner.h declares them for C.
+mod counts;
 mod lending;
 mod told;
 
 use card::Head;
-use card::tables::signals;
+use counts::counted;
 use flattening::flatten;
 use hierarchy::Answer;
-use hierarchy::check::load;
 use hierarchy::write::write;
 use lending::accept;
 use lending::fits;
@@ -34,15 +34,14 @@ pub extern "C" fn net_check(card: &[u8], counts: &mut [usize; 4], value: &mut us
     ensures { λ r. ⌜ IsTold (checkTold (answer (now (card .entry)))) r (now (value .exit)) ⌝ }
     ensures { λ r. ⌜ now (counts .exit) ≡ countsTold (judge (now (card .entry))) (now (counts .entry)) ⌝ }
 {
-    let k = load(card);
+    let k = counted(card);
     let a = k.answer;
     let t = answer_told(a);
     let Answer::Accepted(s, p, n) = a else {
         *value = t.value;
         return t.number;
     };
-    let numbers = k.numbers;
-    *counts = [s, p, n, signals(&numbers) as usize];
+    *counts = [s, p, n, k.signals as usize];
     *value = 0;
     0
 }

@@ -11,8 +11,8 @@ use Rattle.hierarchy.specs.declared.Answer.{Answer}
 use Rattle.net_runner.proofs.net_check.Statement.{statement}
 use Rattle.net_runner.proofs.net_check.Tie as tie
 
-load-requires : tie.Need-load-requires
-load-requires c κs = search needs
+counted-requires : tie.Need-counted-requires
+counted-requires c κs = search needs
 
 answer-told-requires : tie.Need-answer-told-requires
 answer-told-requires c κs = search needs
@@ -25,39 +25,31 @@ enum-told c = search needs
 
 returns : tie.Need-returns
 returns c =
-    let k = c .before .before .before .load in
+    let k = c .before .before .before .counted in
     let t = c .before .before .answer-told .ensures ∙ ap checkTold (k .ensures .answer) in (
       record { number = ap (λ (x : Told). x .number) t; value = ap (λ (x : Told). x .value) t },
       counts-refused (judge (now (c .before .before .before .before .before .args .card))) (k .result .answer) _ _ (now (c .before .before .before .before .before .args .counts)) (k .ensures .answer) (c .enum-told .given .1),
     )
 
-slice-aggregate-signals : tie.Need-slice-aggregate-signals
-slice-aggregate-signals c = search needs
-
-signals-requires : tie.Need-signals-requires
-signals-requires c κs = search needs
-
-cast-t14 : tie.Need-cast-t14
-cast-t14 c = search needs
+cast-t10 : tie.Need-cast-t10
+cast-t10 c = search needs
 
 returns-2 : tie.Need-returns-2
 returns-2 c =
-    let k = c .before .before .before .before .before .before .before .before .load in
-    let t = sym (ap checkTold (k .ensures .answer)) ∙ ap (λ (x : Answer). checkTold (checkOutcome x)) (c .before .before .before .before .before .a .given .1) in (
+    let k = c .before .before .before .before .before .before .counted in
+    let t = sym (ap checkTold (k .ensures .answer)) ∙ ap (λ (x : Answer). checkTold (checkOutcome x)) (c .before .before .before .a .given .1) in (
       record { number = sym (ap (λ (x : Told). x .number) t); value = sym (ap (λ (x : Told). x .value) t) },
-      counts-accepted (now (c .before .before .before .before .before .before .before .before .before .before .args .card)) (k .result) (k .ensures) _ _ _ (c .before .signals .result) (now (c .before .before .before .before .before .before .before .before .before .before .args .counts)) (c .before .before .before .before .before .a .given .1) (c .before .signals .ensures),
+      counts-accepted (now (c .before .before .before .before .before .before .before .before .args .card)) (k .result) (k .ensures) _ _ _ (now (c .before .before .before .before .before .before .before .before .args .counts)) (c .before .before .before .a .given .1),
     )
 
 pub net-check-spec : {M : Type 1} → statement M
 net-check-spec =
     tie.close
     (tie.spec
-    load-requires
+    counted-requires
     answer-told-requires
     enum-known-a
     enum-told
     returns
-    slice-aggregate-signals
-    signals-requires
-    cast-t14
+    cast-t10
     returns-2)
