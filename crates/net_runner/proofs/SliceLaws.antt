@@ -35,8 +35,8 @@ use Rattle.runners.specs.declared.Refusal.the-variants.{BadCard, BadState, BadO
 use Rattle.runners.specs.Answers.{IsRow}
 use Rattle.runners.specs.declared.RowAnswer.{RowAnswer}
 use Rattle.runners.specs.declared.Reply.the-variants.{Ok, No}
-use Rattle.runners.proofs.StateLaws.{Consistent, consistent-is, Sized, fresh-sized}
-use Rattle.runners.proofs.TraceLaws.{view-store, Keeps, ask-keeps}
+use Rattle.runners.proofs.StateLaws.{consistent-is, Sized, fresh-sized}
+use Rattle.runners.proofs.TraceLaws.{view-store, Good, Keeps, ask-keeps}
 use Rattle.runners.proofs.TransferLaws.{slot-at}
 use Rattle.net_runner.specs.Told.{rowTold, IsTold}
 use Rattle.net_runner.specs.Slices.{IsCalled, Slices, slices, stateOf, slicesOf, sized, inSlices, freshIn, flatOn, subnetOn}
@@ -157,7 +157,7 @@ module _ (x : Slices) (l : Lent) (h : Lends x l) where
       ap (λ (s : NetState). eqb (l .places) (length (f .places)) && eqb (l .transitions) (length (f .transitions)) && eqb (l .signals) (f .signals) && consistent f s) (h .state)
       ∙ rw (h .places, h .transitions, h .signals)
 
-  module _ (f : Card) (ordered : Bool) (a : Act) (keeps : Keeps f (Consistent f) a) where
+  module _ (f : Card) (ordered : Bool) (a : Act) (keeps : Keeps f a) where
     abbrev s : NetState
     s = stateOf x
 
@@ -169,7 +169,8 @@ module _ (x : Slices) (l : Lent) (h : Lends x l) where
     settled v (some why) e = refused-back why l x
     settled v none e =
         let z = sized-lengths f x (and-left (sized f x) (consistent f s) v) in
-        let k = keeps s (consistent-is f s .0 (and-right (sized f x) (consistent f s) v)) (none-right (someUnless ordered BadOrder) (a .refusal s) e) in
+        let g : Good f s = record { consistent = consistent-is f s .0 (and-right (sized f x) (consistent f s) v); sized = record { markings = z .places; transfers = map-length transferOf (x .transfers) ∙ z .transitions; degrees = z .signals } } in
+        let k = keeps s g (none-right (someUnless ordered BadOrder) (a .refusal s) e) in
         let n : Counts f l = record { places = h .places ∙ z .places; transitions = h .transitions ∙ z .transitions; signals = h .signals ∙ z .signals } in
         ap (λ (y : Slices). (RowOutcome.ok, y)) (taken-store f l (a .next s) x n (k .sized) (h .places) (h .transitions) (h .signals))
 

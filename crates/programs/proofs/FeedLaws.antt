@@ -20,7 +20,6 @@ use Rattle.runners.specs.Traces.{trace, observed}
 use Rattle.runners.specs.declared.State.{State as Lent}
 use Rattle.runners.specs.declared.Net.{Net}
 use Rattle.runners.specs.declared.RowAnswer.{RowAnswer}
-use Rattle.runners.proofs.StateLaws.{Consistent}
 use Rattle.runners.proofs.TraceLaws.{net-trace, ask-keeps}
 use Rattle.runners.proofs.CallLaws.{one-visited}
 use Rattle.runners.proofs.Agreement.{fresh-view, start-sound, fresh-lent}
@@ -62,5 +61,5 @@ fed-lines card c e rows =
     let f = flatten c in
     ap₂ (λ (g : Card) (b : Bool). lines 1 (map observed (trace (λ l bytes. lentCall inState g b (actOf g (row (rowOf f bytes))) l) ((freshCall card) .1) rows))) (flatten-again c) (one-visited c)
     ∙ ap (λ (l : Lent). lines 1 (map observed (trace (λ l bytes. lentCall inState f true (actOf f (row (rowOf f bytes))) l) l rows))) (fresh-lent card c e)
-    ∙ ap (lines 1) (net-trace f (Consistent f) (λ s h. h) (List ℕ) (λ bytes. actOf f (row (rowOf f bytes))) (λ bytes. ask-keeps f (row (rowOf f bytes))) (freshLent f) (start-sound card c e) rows)
+    ∙ ap (lines 1) (net-trace f (List ℕ) (λ bytes. actOf f (row (rowOf f bytes))) (λ bytes. ask-keeps f (row (rowOf f bytes))) (freshLent f) (start-sound card c e) rows)
     ∙ ap (λ (s : NetState). lines 1 (fileTrace f s rows)) (fresh-view f)

@@ -60,15 +60,16 @@ valid-is f l =
       λ h. (((h .counts .places, h .counts .transitions), h .counts .signals), h .consistent),
     )
 
--- WHAT THERE IS TO SHOW OF A CALL: where it is not refused, it keeps a state good, and as long as the net.
-pub record Kept (f : Card) (Good : NetState → Type 0) (s : NetState) : Type 0 where
-  pub good : Good s
+-- a good state of a net: consistent, and as long as the net
+pub record Good (f : Card) (s : NetState) : Type 0 where
+  pub consistent : Consistent f s
   pub sized : Sized f s
 
-abbrev pub Keeps : (f : Card) → (Good : NetState → Type 0) → Act → Type 0
-Keeps f Good a = (s : NetState) → Good s → a .refusal s ≡ none → Kept f Good (a .next s)
+-- WHAT THERE IS TO SHOW OF A CALL: where it is not refused, it keeps a state good;
+abbrev pub Keeps : (f : Card) → Act → Type 0
+Keeps f a = (s : NetState) → Good f s → a .refusal s ≡ none → Good f (a .next s)
 
--- and, for 25, that its own tests do not give it
+-- and, for 25, its own tests do not give it.
 abbrev NotState : Refusal → Type 0
 NotState (BadCard f at) = Unit {0}
 NotState BadState = ⊥
@@ -113,40 +114,40 @@ not-25 (some (BadDegree g)) before after h e = let z : _≡_ {A = ℕ} 0 1 = cc 
 not-25 (some (Conflict p)) before after h e = let z : _≡_ {A = ℕ} 0 1 = cc in omega arith
 
 -- a lent state with the counts of a net that holds a good state
-pub record Sound (f : Card) (Good : NetState → Type 0) (l : Lent) : Type 0 where
+pub record Sound (f : Card) (l : Lent) : Type 0 where
   pub counts : Counts f l
-  pub good : Good (view l)
+  pub good : Good f (view l)
 
 -- CALLS OF ANY KIND
-module _ (f : Card) (Good : NetState → Type 0) (safe : (s : NetState) → Good s → Consistent f s) (C : Type 0) (act : C → Act) (keeps : (k : C) → Keeps f Good (act k)) where
-  tested : (l : Lent) → Sound f Good l → valid f l ≡ true
-  tested l v = valid-is f l .1 (record { counts = v .counts; consistent = safe (view l) (v .good) })
+module _ (f : Card) (C : Type 0) (act : C → Act) (keeps : (k : C) → Keeps f (act k)) where
+  tested : (l : Lent) → Sound f l → valid f l ≡ true
+  tested l v = valid-is f l .1 (record { counts = v .counts; consistent = v .good .consistent })
 
   -- of a sound state a call is the rest of its tests and then the act,
-  call-is : (ordered : Bool) (k : C) (l : Lent) → Sound f Good l
+  call-is : (ordered : Bool) (k : C) (l : Lent) → Sound f l
       → lentCall inState f ordered (act k) l ≡ settle (someUnless ordered BadOrder otherwise (act k) .refusal (view l)) l (store l ((act k) .next (view l)))
   call-is ordered k l v = rw (tested l v)
 
   -- and leaves a sound one
-  settled-sound : (ordered : Bool) (k : C) (l : Lent) → Sound f Good l
-      → Sound f Good ((settle (someUnless ordered BadOrder otherwise (act k) .refusal (view l)) l (store l ((act k) .next (view l)))) .1)
+  settled-sound : (ordered : Bool) (k : C) (l : Lent) → Sound f l
+      → Sound f ((settle (someUnless ordered BadOrder otherwise (act k) .refusal (view l)) l (store l ((act k) .next (view l)))) .1)
   settled-sound false k l v = v
   settled-sound true k l v = go ((act k) .refusal (view l)) refl
     where
-      go : (x : Option Refusal) → (act k) .refusal (view l) ≡ x → Sound f Good ((settle x l (store l ((act k) .next (view l)))) .1)
+      go : (x : Option Refusal) → (act k) .refusal (view l) ≡ x → Sound f ((settle x l (store l ((act k) .next (view l)))) .1)
       go (some why) e = v
       go none e =
           let n = keeps k (view l) (v .good) e in
           record {
             counts = record { places = v .counts .places; transitions = v .counts .transitions; signals = v .counts .signals };
-            good = rw (view-store f l ((act k) .next (view l)) (v .counts) (n .sized)) (n .good);
+            good = rw (view-store f l ((act k) .next (view l)) (v .counts) (n .sized)) n;
           }
 
-  pub call-sound : (ordered : Bool) (k : C) (l : Lent) → Sound f Good l → Sound f Good ((lentCall inState f ordered (act k) l) .1)
+  pub call-sound : (ordered : Bool) (k : C) (l : Lent) → Sound f l → Sound f ((lentCall inState f ordered (act k) l) .1)
   call-sound ordered k l v = rw (call-is ordered k l v) (settled-sound ordered k l v)
 
   -- a call on a lent state is the act on what it holds
-  pub call-observed : (k : C) (l : Lent) → Sound f Good l → observed (lentCall inState f true (act k) l) ≡ perform (act k) (view l)
+  pub call-observed : (k : C) (l : Lent) → Sound f l → observed (lentCall inState f true (act k) l) ≡ perform (act k) (view l)
   call-observed k l v = rw (call-is true k l v) (go ((act k) .refusal (view l)) refl)
     where
       go : (x : Option Refusal) → (act k) .refusal (view l) ≡ x
@@ -155,7 +156,7 @@ module _ (f : Card) (Good : NetState → Type 0) (safe : (s : NetState) → Good
       go none e = rw (view-store f l ((act k) .next (view l)) (v .counts) (keeps k (view l) (v .good) e .sized))
 
   -- THE TWO RUNNERS' TRACES ARE ONE, where the orders are valid,
-  pub runners-trace : (ordered : C → Bool) (l : Lent) → Sound f Good l → (calls : List C) → All (λ k. ordered k ≡ true) calls
+  pub runners-trace : (ordered : C → Bool) (l : Lent) → Sound f l → (calls : List C) → All (λ k. ordered k ≡ true) calls
       → trace (λ m k. lentCall inState f (ordered k) (act k) m) l calls ≡ trace (λ m k. lentCall inState f true (act k) m) l calls
   unfolding trace
   runners-trace ordered l v [] o = refl
@@ -163,7 +164,7 @@ module _ (f : Card) (Good : NetState → Type 0) (safe : (s : NetState) → Good
       rw (o .0, runners-trace ordered ((lentCall inState f true (act k) l) .1) (call-sound true k l v) calls (o .1))
 
   -- THAT OF THE NET'S OWN RUN;
-  pub net-trace : (l : Lent) → Sound f Good l → (calls : List C)
+  pub net-trace : (l : Lent) → Sound f l → (calls : List C)
       → map observed (trace (λ m k. lentCall inState f true (act k) m) l calls) ≡ trace (λ s k. perform (act k) s) (view l) calls
   unfolding trace
   net-trace l v [] = refl
@@ -173,7 +174,7 @@ module _ (f : Card) (Good : NetState → Type 0) (safe : (s : NetState) → Good
       rw (q, net-trace ((lentCall inState f true (act k) l) .1) (call-sound true k l v) calls, r)
 
   -- NO STATE THAT IS REACHED EARNS 25, whatever the orders;
-  pub trace-clear : ((k : C) → Mild (act k)) → (ordered : C → Bool) (l : Lent) → Sound f Good l → (calls : List C)
+  pub trace-clear : ((k : C) → Mild (act k)) → (ordered : C → Bool) (l : Lent) → Sound f l → (calls : List C)
       → All (λ x. x .0 ≢ 25·alone) (trace (λ m k. lentCall inState f (ordered k) (act k) m) l calls)
   unfolding trace
   trace-clear mild ordered l v [] = tt
@@ -183,14 +184,14 @@ module _ (f : Card) (Good : NetState → Type 0) (safe : (s : NetState) → Good
   )
 
   -- AND EVERY STATE THAT IS REACHED IS GOOD
-  perform-good : (k : C) (s : NetState) → Good s → Good ((perform (act k) s) .1)
+  perform-good : (k : C) (s : NetState) → Good f s → Good f ((perform (act k) s) .1)
   perform-good k s h = go ((act k) .refusal s) refl
     where
-      go : (x : Option Refusal) → (act k) .refusal s ≡ x → Good ((settle x s ((act k) .next s)) .1)
+      go : (x : Option Refusal) → (act k) .refusal s ≡ x → Good f ((settle x s ((act k) .next s)) .1)
       go (some why) e = h
-      go none e = keeps k s h e .good
+      go none e = keeps k s h e
 
-  pub trace-good : (P : NetState → Type 0) → ((s : NetState) → Good s → P s) → (s : NetState) → Good s → (calls : List C)
+  pub trace-good : (P : NetState → Type 0) → ((s : NetState) → Good f s → P s) → (s : NetState) → Good f s → (calls : List C)
       → All P (map (λ x. x .1) (trace (λ x k. perform (act k) x) s calls))
   unfolding trace
   trace-good P g s h [] = tt
@@ -202,10 +203,10 @@ module _ (f : Card) (Good : NetState → Type 0) (safe : (s : NetState) → Good
 none-some : {A : Type 0} {why : Refusal} → some why ≡ none → A
 none-some e = absurd (Option·some-ne-none _ e)
 
-pub ask-keeps : (f : Card) (k : Ask) → Keeps f (Consistent f) (actOf f k)
+pub ask-keeps : (f : Card) (k : Ask) → Keeps f (actOf f k)
 ask-keeps f (row (degrees r)) s h e =
     let k = fits-is f s r .0 e in
-    record { good = next-consistent f s r h k; sized = next-sized f s r (k .long) }
+    record { consistent = next-consistent f s r (h .consistent) k; sized = next-sized f s r (k .long) }
 ask-keeps f (row noRow) s h e = none-some e
 
 row-clear : (f : Card) (s : NetState) (r : List ℕ) → Clear (rowRefusal f s r)
@@ -220,12 +221,20 @@ unfolding Clear
 ask-mild f (row (degrees r)) s = row-clear f s r
 ask-mild f (row noRow) s = tt
 
--- what a row leaves of a valid state
+-- What a row leaves of a valid lent state is valid, whatever the lengths of its arrays.
 pub kept : (f : Card) (l : Lent) (r : List ℕ) (ordered : Bool) → Valid f l
     → Valid f ((settle (someUnless ordered BadOrder otherwise rowRefusal f (view l) r) l (store l (next f (view l) r))) .1)
-kept f l r ordered v =
-    let n = settled-sound f (Consistent f) (λ s h. h) Ask (actOf f) (ask-keeps f) ordered (row (degrees r)) l (record { counts = v .counts; good = v .consistent }) in
-    record { counts = n .counts; consistent = n .good }
+kept f l r false v = v
+kept f l r true v = go (rowRefusal f (view l) r) refl
+  where
+    go : (x : Option Refusal) → rowRefusal f (view l) r ≡ x → Valid f ((settle x l (store l (next f (view l) r))) .1)
+    go (some why) e = v
+    go none e =
+        let k = fits-is f (view l) r .0 e in
+        record {
+          counts = record { places = v .counts .places; transitions = v .counts .transitions; signals = v .counts .signals };
+          consistent = rw (view-store f l (next f (view l) r) (v .counts) (next-sized f (view l) r (k .long))) (next-consistent f (view l) r (v .consistent) k);
+        }
 
 -- a consistent state has every marking in range
 pub consistent-bounded : (f : Card) (s : NetState) → Consistent f s → Bounded f s
