@@ -50,7 +50,7 @@ returns-2 : tie.Need-returns-2
 returns-2 c =
     let a = c .before .before .before .before .before .args in
     let v = c .before .before .field-at in
-    nothing (c .no-row2 .ensures) (cells-fill (a .lead) (a .cell) (a .signals) (now (a .bytes)) (c .before .before .before .if1 .left) (v .result) (v .ensures) (c .before .if2 .taken))
+    nothing (c .no-row2 .ensures) (cells-fill (a .lead) (a .cell) (a .signals) (now (a .bytes)) (c .before .before .before .if1 .left) (v .result) (v .ensures) (λ q. omega (arith, q)))
 
 cells-in-requires : tie.Need-cells-in-requires
 cells-in-requires c κs = search needs
@@ -59,7 +59,7 @@ returns-3 : tie.Need-returns-3
 returns-3 c =
     let a = c .before .before .before .before .before in
     let v = c .before .before .field-at in
-    cells-handed (a .args .lead) (a .args .cell) (a .args .signals) (now (a .args .bytes)) (c .before .before .before .if1 .left) (v .result) (v .ensures) (a .pre .1) (c .before .if2 .left) (c .cells-in .result) (c .cells-in .ensures)
+    cells-handed (a .args .lead) (a .args .cell) (a .args .signals) (now (a .args .bytes)) (c .before .before .before .if1 .left) (v .result) (v .ensures) (a .pre .1) (omega arith) (c .cells-in .result) (c .cells-in .ensures)
 
 pub cells-of-spec : {M : Type 1} → statement M
 cells-of-spec =
