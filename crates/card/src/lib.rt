@@ -49,7 +49,7 @@ pub const TABLE: usize = HEADER_FIELDS
 pub const CARD_BYTES: usize = 22770;
 
 // Cards of up to so many bytes, a robot's among them, get by with a table of so many numbers: a card has at least a bit for each of its numbers.
-pub const SMALL_CARD: usize = 512;
+pub const SMALL_CARD: usize = 256;
 
 pub const SMALL_TABLE: usize = 8 * SMALL_CARD;
 

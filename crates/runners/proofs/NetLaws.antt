@@ -52,10 +52,10 @@ module _ (j : Judgement) (a : Answer) (numbers starts : List ℕ) (h : IsLoaded 
 
   pub net-accepted : (s p t s′ p′ t′ g : ℕ) (full : List ℕ) → a ≡ Accepted s p t → (s < 65536 → s′ ≡ s) → (p < 65536 → p′ ≡ p) → (t < 65536 → t′ ≡ t) → g ≡ getD numbers 2 0
       → ((c : Card) → InTables c numbers starts → s′ ≡ length (c .subnets) → Filled Capacity c full)
-      → IsNetIn j (Accepted s p t) numbers starts full (record { subnets = s′; places = p′; transitions = t′; signals = g })
+      → IsNetIn j a numbers starts full (record { subnets = s′; places = p′; transitions = t′; signals = g })
   net-accepted s p t s′ p′ t′ g full e es ep et eg fu = go j refl (sym (ap checkOutcome e) ∙ h .answer)
     where
-      go : (i : Judgement) → j ≡ i → checkOutcome (Accepted s p t) ≡ outcomeOf i → IsNetIn i (Accepted s p t) numbers starts full (record { subnets = s′; places = p′; transitions = t′; signals = g })
+      go : (i : Judgement) → j ≡ i → checkOutcome (Accepted s p t) ≡ outcomeOf i → IsNetIn i a numbers starts full (record { subnets = s′; places = p′; transitions = t′; signals = g })
       go (refused m b) d q = absurd (let z : _≡_ {A = ℕ} 0 1 = cc in omega arith)
       go (accepted c) d q =
           let x = h .tables c d in
@@ -65,7 +65,7 @@ module _ (j : Judgement) (a : Answer) (numbers starts : List ℕ) (h : IsLoaded 
           let y : t ≡ length (c .transitions) = cc in
           let z : s′ ≡ length (c .subnets) = es (omega (arith, u, w .fewSubnets)) ∙ u in
           record {
-            answer = q;
+            answer = ap checkOutcome e ∙ q;
             signals = eg ∙ x .loaded .laid .signals;
             tables = record {
               tables = x;

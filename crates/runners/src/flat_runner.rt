@@ -1,6 +1,5 @@
 // The flat runner: the step on a card's flat card, which is a card of one subnet. Its tables are made from the card's, which are kept.
 use crate::Net;
-use crate::NetRows;
 use crate::RowAnswer;
 use crate::State;
 use crate::loader::net_of;
@@ -18,7 +17,7 @@ ghost use Rattle.hierarchy.specs.Judgement.{Judgement, judge, outcomeOf};
 ghost use Rattle.flattening.specs.FlatCards.{flatRoom};
 ghost use Rattle.runners.specs.Calls.{flatCall};
 ghost use Rattle.runners.specs.Answers.{IsRow};
-ghost use Rattle.runners.specs.Nets.{flatJudged, IsNetIn, IsNet};
+ghost use Rattle.runners.specs.Nets.{flatJudged, IsNet};
 
 // The check's answer to the flat card: its own refusal, or one subnet and the card's places and transitions.
 fn flat_answer(a: Answer) -> Answer
@@ -28,19 +27,6 @@ fn flat_answer(a: Answer) -> Answer
         Answer::Refused(f, at) => Answer::Refused(f, at),
         Answer::Accepted(_s, p, t) => Answer::Accepted(1, p, t),
     }
-}
-
-// The net of a card's flat card, with the numbers of both cards in lent tables that have room for them.
-fn load_flat_net(card: &[u8], numbers: &mut [u16], flat: &mut [u16]) -> NetRows
-    requires { ⌜ flatRoom (length (now card)) (length (now numbers)) (length (now flat)) ≡ true ⌝ }
-    ensures { λ r. ⌜ length (now (numbers .exit)) ≡ length (now (numbers .entry)) ⌝ }
-    ensures { λ r. ⌜ length (now (flat .exit)) ≡ length (now (flat .entry)) ⌝ }
-    ensures { λ r. ⌜ IsNetIn (flatJudged (judge (now (card .entry)))) (r .answer) (now (flat .exit)) (r .starts) (r .full) (r .sizes) ⌝ }
-{
-    let k = load_flat(card, numbers, flat);
-    let a = k.answer;
-    let starts = k.flat_starts;
-    net_of(flat_answer(a), flat, starts)
 }
 
 // The flat card's row, in the order that names its one subnet.
@@ -56,11 +42,13 @@ fn flat_row_in(
     ensures { λ r. ⌜ length (now (flat .exit)) ≡ length (now (flat .entry)) ⌝ }
     ensures { λ r. ⌜ IsRow (flatCall (now (card .entry)) state (now (row .entry))) r ⌝ }
 {
-    let n = load_flat_net(card, numbers, flat);
-    let a = n.answer;
-    let order = [0];
+    let k = load_flat(card, numbers, flat);
+    let own = k.answer;
+    let a = flat_answer(own);
+    let n = net_of(a, flat, &k.flat_starts);
     let sizes = n.sizes;
-    row_on(a, flat, &n.starts, &n.full, sizes, &order, state, row)
+    let order = [0];
+    row_on(a, flat, &k.flat_starts, &n.full, sizes, &order, state, row)
 }
 
 // The flat runner's row call: the step on the flat card. Two wrong ones that this rules out: one that reports a conflict before it looks at a
@@ -85,9 +73,11 @@ pub fn flat_net(card: &[u8]) -> Net
 {
     let mut numbers = [0; TABLE];
     let mut flat = [0; TABLE];
-    let n = load_flat_net(card, &mut numbers, &mut flat);
-    let answer = n.answer;
-    let starts = n.starts;
+    let k = load_flat(card, &mut numbers, &mut flat);
+    let own = k.answer;
+    let answer = flat_answer(own);
+    let n = net_of(answer, &flat, &k.flat_starts);
+    let starts = k.flat_starts;
     let full = n.full;
     let sizes = n.sizes;
     Net {

@@ -84,10 +84,8 @@ pub struct Net {
     sizes: Sizes,
 }
 
-// What is made of a card beside the table of its numbers, which is lent.
-struct NetRows {
-    answer: hierarchy::Answer,
-    starts: [u32; STARTS],
+// What a net has beside a card's two tables.
+struct NetSizes {
     full: [u32; MOST_PLACES],
     sizes: Sizes,
 }

@@ -4,12 +4,13 @@ use crate::RowAnswer;
 use crate::Sizes;
 use crate::State;
 use crate::guards::state_test;
-use crate::loader::load_net;
+use crate::loader::net_of;
 use crate::order::each_once;
 use crate::row::loaded_row;
 use crate::row::row_on;
 use card::TABLE;
 use hierarchy::Answer;
+use hierarchy::check::load;
 ghost use mathlib.Core.Path.{_≡_};
 ghost use Prim.Native.Nat.{_+_, _-_, _≤_, min};
 ghost use lib.ListN.{length};
@@ -27,9 +28,10 @@ pub fn card_net(card: &[u8]) -> Net
     ensures { λ r. ⌜ IsNet (judge (now (card .entry))) r ⌝ }
 {
     let mut numbers = [0; TABLE];
-    let n = load_net(card, &mut numbers);
-    let answer = n.answer;
-    let starts = n.starts;
+    let k = load(card, &mut numbers);
+    let answer = k.answer;
+    let n = net_of(answer, &numbers, &k.starts);
+    let starts = k.starts;
     let full = n.full;
     let sizes = n.sizes;
     Net {

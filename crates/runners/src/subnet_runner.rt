@@ -2,11 +2,12 @@
 // or reads a flat card.
 use crate::RowAnswer;
 use crate::State;
-use crate::loader::load_net;
+use crate::loader::net_of;
 use crate::row::row_on;
 use card::SMALL_CARD;
 use card::SMALL_TABLE;
 use card::TABLE;
+use hierarchy::check::load;
 ghost use mathlib.Core.Path.{_≡_};
 ghost use mathlib.Core.Bool.{true};
 ghost use lib.ListN.{length};
@@ -26,10 +27,11 @@ fn subnet_row_in(
     ensures { λ r. ⌜ length (now (numbers .exit)) ≡ length (now (numbers .entry)) ⌝ }
     ensures { λ r. ⌜ IsRow (subnetCall (now (card .entry)) (now (order .entry)) state (now (row .entry))) r ⌝ }
 {
-    let n = load_net(card, numbers);
-    let a = n.answer;
+    let k = load(card, numbers);
+    let a = k.answer;
+    let n = net_of(a, numbers, &k.starts);
     let sizes = n.sizes;
-    row_on(a, numbers, &n.starts, &n.full, sizes, order, state, row)
+    row_on(a, numbers, &k.starts, &n.full, sizes, order, state, row)
 }
 
 // The subnet runner's row call. Two wrong ones that this rules out: one that tests the order in front of the state, and one that stores the

@@ -14,8 +14,8 @@ enum-told c = search needs
 
 returns : tie.Need-returns
 returns c =
-    let a = c .before .before .before .args in
-    λ j h. net-refused j (a .answer) (now (a .numbers)) (a .t3) h _ _ _ _ (c .enum-told .given .1) refl
+    let a = c .before .before .before .before .args in
+    λ j h. net-refused j (a .answer) (now (a .numbers)) (now (a .starts)) h _ _ _ _ (c .enum-told .given .1) refl
 
 narrow-requires : tie.Need-narrow-requires
 narrow-requires c κs = search needs
@@ -29,16 +29,13 @@ narrow-requires-3 c κs = search needs
 signals-requires : tie.Need-signals-requires
 signals-requires c κs = search needs
 
-slice-aggregate-by-place : tie.Need-slice-aggregate-by-place
-slice-aggregate-by-place c = search needs
-
 by-place-requires : tie.Need-by-place-requires
 by-place-requires c κs = search needs
 
 returns-2 : tie.Need-returns-2
 returns-2 c =
     let a = c .before .before .before .before .before .before .before .before .before .before .args in
-    λ j h. net-accepted j (a .answer) (now (a .numbers)) (a .t3) h _ _ _ (c .before .before .before .before .before .narrow .result) (c .before .before .before .before .narrow2 .result) (c .before .before .before .narrow3 .result) (c .before .before .signals .result) (c .by-place .result) (c .before .before .before .before .before .before .before .answer .given .1) (c .before .before .before .before .before .narrow .ensures .0) (c .before .before .before .before .narrow2 .ensures .0) (c .before .before .before .narrow3 .ensures .0) (c .before .before .signals .ensures) (λ d x e. c .by-place .ensures d x e)
+    λ j h. net-accepted j (a .answer) (now (a .numbers)) (now (a .starts)) h _ _ _ (c .before .before .before .before .narrow .result) (c .before .before .before .narrow2 .result) (c .before .before .narrow3 .result) (c .before .signals .result) (c .by-place .result) (c .before .before .before .before .before .before .answer .given .1) (c .before .before .before .before .narrow .ensures .0) (c .before .before .before .narrow2 .ensures .0) (c .before .before .narrow3 .ensures .0) (c .before .signals .ensures) (λ d x e. c .by-place .ensures d x e)
 
 pub net-of-spec : {M : Type 1} → statement M
 net-of-spec =
@@ -51,6 +48,5 @@ net-of-spec =
     narrow-requires-2
     narrow-requires-3
     signals-requires
-    slice-aggregate-by-place
     by-place-requires
     returns-2)
