@@ -5,17 +5,17 @@ use mathlib.Core.Logic.{_⊎_, inl, inr}
 use mathlib.Core.List.{List, [], _∷_, _++_, flatten}
 use native.Mathlib.Omega.{arith}
 use native.Mathlib.Nat.{zero-add, add-zero, add-suc}
-use lib.ListN.{length, getD, length-append, List·getD-append, List·getD-eq-default}
+use lib.ListN.{length, getD, length-append, List·getD-append}
 use lib.Seq.{getD-append-add}
 use Rattle.card.specs.Finite.{sumTo, table, All}
 use Rattle.card.specs.Card.{Card, subnetAt, placeAt, transitionAt, arcAt, firstPlace, firstTransition, firstArc, noTransition, headerFields, subnetFields, placeFields, transitionFields, arcFields}
 use Rattle.card.specs.Format.{count}
 use Rattle.card.specs.Grammar.{header, subnet, place, transition, arc, maxArcs}
-use Rattle.card.specs.Tables.{numbersOf, tableSize}
+use Rattle.card.specs.Tables.{numbersOf}
 use Rattle.card.specs.inner.Runs.{runs}
 use Rattle.card.specs.Index.{subnetRow, transitionRow, placeField, arcField, SubnetThere, PlaceThere, TransitionThere, ArcThere, Lists, Laid}
 use Rattle.card.specs.Wellformed.{Wellformed, TransitionRow}
-use Rattle.card.proofs.Sums.{sum-mono, table-length, table-at, all-at}
+use Rattle.card.proofs.Sums.{sum-mono, all-at}
 use Rattle.card.proofs.BitLaws.{lt-or-ge}
 use Rattle.card.proofs.Prefix.{Counted}
 use Rattle.card.proofs.RunLaws.{runs-suc}
@@ -185,10 +185,6 @@ arcs-few c (suc k) h l =
 module _ (c : Card) (w : Wellformed c) where
   pub counted : Counted c
   counted = record { places = w .rows .placeCount; transitions = w .rows .transitionCount; arcs = w .rows .arcCount }
-
-  pub numbers-few : length (numbersOf c) ≤ tableSize
-  numbers-few =
-      omega (arith, numbers-long c counted, w .fewSubnets, w .rows .fewPlaces, w .rows .fewTransitions, w .rows .arcCount, arcs-few c (length (c .transitions)) (w .rows .transitions) (omega arith))
 
 module _ (c : Card) (w : Wellformed c) (numbers : List ℕ) (entered : (i : ℕ) → getD numbers i 0 ≡ getD (numbersOf c) i 0) where
   there-subnet : (s : ℕ) → s < length (c .subnets) → SubnetThere numbers (subnetRow c s) (subnetAt c s)

@@ -13,7 +13,7 @@ use Rattle.card.specs.Card.{Card}
 use Rattle.card.specs.Index.{startsSize, Loaded}
 use Rattle.card.specs.Parsing.{Parsing, readCard}
 use Rattle.card.specs.Parsing
-use Rattle.card.specs.Tables.{numbersOf, numbersTable, startsRead, hasRoom, IsTable}
+use Rattle.card.specs.Tables.{numbersOf, numbersTable, hasRoom, IsTable}
 use Rattle.card.proofs.Sums.{table-length, table-at}
 use Rattle.card.proofs.Turn.{zero-in}
 use Rattle.card.proofs.ReadLaws.{blank-table, tables-loaded}
@@ -24,7 +24,7 @@ use Rattle.hierarchy.specs.declared.Answer.{Answer}
 use Rattle.hierarchy.specs.declared.Answer.the-variants.{Accepted, Refused}
 use Rattle.hierarchy.specs.declared.CardFault.{CardFault}
 use Rattle.hierarchy.specs.declared.check.CheckedCard.{CheckedCard}
-use Rattle.hierarchy.proofs.Accepted.{not-accepted, accepted-meets, accepted-loaded, Checked}
+use Rattle.hierarchy.proofs.Accepted.{not-accepted, accepted-meets, accepted-loaded}
 use Rattle.flattening.specs.Flattening.{flatten}
 use Rattle.flattening.specs.FlatCards.{flatTable, flatStarts, IsFlatTable, IsFlatCard, flatRoom, IsLentFlat}
 use Rattle.flattening.specs.inner.FlatRows.{Sizes}

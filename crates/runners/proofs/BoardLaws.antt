@@ -1,18 +1,17 @@
 -- What the columns of the board hold of a state and of the step. Assumes nothing.
 use Prim.Native.Nat.{ℕ, _+_, _-_, _*_, _≤_, _<_}
 use mathlib.Core.Path.{_≡_, refl, sym, ap, _∙_}
-use mathlib.Core.Bool.{Bool}
 use mathlib.Core.List.{List, map}
 use native.Mathlib.Omega.{arith}
 use native.Mathlib.Nat.{zero-add}
 use lib.ListN.{length}
 use lib.Seq.{getD-take}
 use Rattle.card.specs.Finite.{sumTo}
-use Rattle.card.specs.Card.{Card, draws, fills, placeAt}
+use Rattle.card.specs.Card.{Card}
 use Rattle.card.proofs.Sums.{sum-same}
 use Rattle.hierarchy.specs.Conditions.{Meets}
 use Rattle.flattening.specs.Flattening.{flatten}
-use Rattle.runners.specs.State.{scale, entry, transfer, remaining, incidence, flow, owed, due, fullMarking, covered}
+use Rattle.runners.specs.State.{scale, entry, transfer, remaining, incidence, flow, owed, due, covered}
 use Rattle.runners.specs.Calls.{view}
 use Rattle.runners.specs.Columns.{Grown, codeOf, transferOf, codeAt, Columns}
 use Rattle.runners.specs.Visits.{posting, turnIn}
@@ -21,7 +20,7 @@ use Rattle.runners.specs.inner.Verdict.{coveredBy}
 use Rattle.runners.specs.inner.Storing.{slotAt, CodesOf, Counts}
 use Rattle.runners.specs.inner.Markings.{Filled}
 use Rattle.runners.specs.declared.Transfer.{Transfer}
-use Rattle.runners.specs.declared.Transfer.the-variants.{Idle, Carrying}
+use Rattle.runners.specs.declared.Transfer.the-variants.{Idle}
 use Rattle.runners.specs.declared.Slot.{Slot}
 use Rattle.runners.specs.declared.places.PlaceNumber.the-variants.{Capacity}
 use Rattle.runners.specs.declared.State.{State as Lent}

@@ -7,7 +7,6 @@ use mathlib.Core.Option.{Option, none, some, Option·map}
 use lib.ListN.{length}
 use Rattle.card.specs.Finite.{every, any, someUnless, _otherwise_}
 use Rattle.card.specs.Card.{Card}
-use Rattle.card.specs.Grammar.{card}
 use Rattle.hierarchy.specs.Judgement.{accepted}
 use Rattle.flattening.specs.Flattening.{flatten}
 use Rattle.flattening.proofs.FlatLaws.{flatten-again}

@@ -4,11 +4,10 @@ use mathlib.Core.Path.{_≡_, refl, sym, ap, ap₂, subst, _∙_}
 use mathlib.Core.Logic.{_⊎_, inl, inr}
 use mathlib.Core.List.{List}
 use native.Mathlib.Omega.{arith}
-use native.Mathlib.Numerals.{add-one}
 use lib.ListN.{length, getD, set, replicate, length-set, length-replicate}
 use lib.Seq.{getD-set-same, getD-set-other}
 use Rattle.card.specs.Finite.{sumTo}
-use Rattle.card.specs.Card.{Place, Card, subnetAt, placeAt, firstPlace}
+use Rattle.card.specs.Card.{Card, subnetAt, placeAt, firstPlace}
 use Rattle.card.specs.Index.{subnetRow, placeField, firstPlaceStart, Loaded}
 use Rattle.card.proofs.BitLaws.{lt-or-ge}
 use Rattle.card.proofs.Prefix.{places-below}
@@ -18,7 +17,6 @@ use Rattle.hierarchy.specs.Conditions.{Meets}
 use Rattle.flattening.specs.Flattening.{flatten}
 use Rattle.flattening.proofs.FlatLaws.{place-flat}
 use Rattle.runners.specs.State.{scale, entry}
-use Rattle.runners.specs.Visits.{InTables}
 use Rattle.runners.specs.inner.Markings.{numberOf, FilledTo, Filled}
 use Rattle.runners.specs.declared.places.PlaceNumber.{PlaceNumber}
 use Rattle.runners.specs.declared.places.PlaceNumber.the-variants.{Capacity, Tokens}

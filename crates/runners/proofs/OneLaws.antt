@@ -1,6 +1,6 @@
 -- What one transition posts, whether it is a candidate, and how far it moves, out of a card's tables and the columns. Assumes nothing.
-use Prim.Native.Nat.{ℕ, suc, _+_, _-_, _*_, _≤_, _<_, min}
-use mathlib.Core.Path.{_≡_, refl, sym, ap, ap₂, subst, subst₂, _∙_}
+use Prim.Native.Nat.{ℕ, suc, _+_, _-_, _*_, _≤_, _<_}
+use mathlib.Core.Path.{_≡_, refl, sym, ap, ap₂, subst, _∙_}
 use mathlib.Core.Bool.{Bool, true, false, _&&_, cond}
 use mathlib.Core.List.{List}
 use native.Mathlib.Omega.{arith}
@@ -13,7 +13,7 @@ use Rattle.card.specs.Card.{Card, transitionAt, arcAt, firstTransition}
 use Rattle.card.specs.Index.{firstTransitionStart, transitionRowStart}
 use Rattle.flattening.specs.Flattening.{flatten}
 use Rattle.runners.specs.State.{NetState, Claims, entry, transfer, remaining}
-use Rattle.runners.specs.Step.{idle, allows, candidateOn, startedOn, rise, movesOn}
+use Rattle.runners.specs.Step.{allows, candidateOn, startedOn, rise, movesOn}
 use Rattle.runners.specs.Columns.{Moved, Grown, posted}
 use Rattle.runners.specs.Visits.{InTables}
 use Rattle.runners.specs.declared.Transfer.{Transfer}

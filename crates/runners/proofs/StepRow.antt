@@ -1,6 +1,6 @@
 -- Three rounds of visits, with the verdict in front of the third, are the step; and each visit of a row is in its turn. Assumes nothing.
-use Prim.Native.Nat.{ℕ, zero, suc, _+_, _-_, _*_, _≤_, _<_}
-use mathlib.Core.Path.{_≡_, refl, sym, ap, ap₂, subst, _∙_}
+use Prim.Native.Nat.{ℕ, zero, suc, _+_, _-_, _≤_, _<_}
+use mathlib.Core.Path.{_≡_, refl, sym, ap, ap₂, _∙_}
 use mathlib.Core.Logic.{_⊎_, inl, inr}
 use mathlib.Core.Bool.{Bool, true, false, not, _&&_, cond, false≢true}
 use mathlib.Core.List.{List, _++_, map}
@@ -22,12 +22,12 @@ use Rattle.flattening.specs.Flattening.{flatPlaceRow, flatten}
 use Rattle.flattening.proofs.FlatLaws.{flat-below, flat-place}
 use Rattle.runners.specs.Numbers.{rowOutcome}
 use Rattle.runners.specs.State.{NetState, scale, entry, transfer, remaining, flow, owed, due, fullMarking, covered}
-use Rattle.runners.specs.Step.{idle, candidateOn, candidate, startedOn, started, conflict, moves, movesOn, arrivesOn, next}
+use Rattle.runners.specs.Step.{idle, candidateOn, candidate, started, conflict, moves, arrivesOn, next}
 use Rattle.runners.specs.Rows.{settle, rowFault}
 use Rattle.runners.specs.Calls.{view, slot, store, valid}
 use Rattle.runners.specs.Answers.{IsRow}
-use Rattle.runners.specs.Columns.{codeOf, transferOf, codeAt, noted, Columns, columns}
-use Rattle.runners.specs.Visits.{posting, finding, moving, amount, effect, stepTurn, InTurn, turnIn}
+use Rattle.runners.specs.Columns.{transferOf, noted, Columns, columns}
+use Rattle.runners.specs.Visits.{posting, finding, moving, amount, stepTurn, InTurn, turnIn}
 use Rattle.runners.specs.inner.Rounds.{AllPost, AllFind, AllMove}
 use Rattle.runners.specs.inner.Verdict.{coveredBy, orPast}
 use Rattle.runners.specs.inner.Markings.{Filled}
@@ -52,7 +52,7 @@ use Rattle.runners.proofs.FreshLaws.{map-table}
 use Rattle.runners.proofs.StepLaws.{conflict-is, flow-split, started-at, owed-split, due-split}
 use Rattle.runners.proofs.VisitLaws.{no-effect, effects-sum}
 use Rattle.runners.proofs.FewLaws.{remaining-few}
-use Rattle.runners.proofs.BoardLaws.{board-exact, transfer-seen, marking-seen, degree-seen, code-seen, covered-seen}
+use Rattle.runners.proofs.BoardLaws.{board-exact, marking-seen, degree-seen, code-seen, covered-seen}
 use Rattle.runners.proofs.VerdictLaws.{lowest-below}
 
 -- a list by its first entries and those behind them

@@ -2,7 +2,6 @@
 use Prim.Native.Nat.{ℕ}
 use mathlib.Core.Path.{_≡_}
 use mathlib.Core.List.{List, [], _∷_}
-use Rattle.card.specs.Card.{Card}
 use Rattle.hierarchy.specs.Numbers.{checkOutcome}
 use Rattle.hierarchy.specs.Judgement.{Judgement, accepted, refused, outcomeOf}
 use Rattle.flattening.specs.Flattening.{flatten}

@@ -15,7 +15,7 @@ ghost use Rattle.card.specs.Card.{Card, draws, fills, transitionAt, arcAt};
 ghost use Rattle.card.specs.Finite.{every};
 ghost use Rattle.card.specs.Index.{Lists, firstPlaceStart};
 ghost use Rattle.card.specs.Index.{arcOf, Begins};
-ghost use Rattle.flattening.specs.Flattening.{flatten, flatArc};
+ghost use Rattle.flattening.specs.Flattening.{flatten};
 ghost use Rattle.runners.specs.State.{scale as scaleOf, entry, incidence};
 ghost use Rattle.runners.specs.Step.{allows as allowsIt};
 ghost use Rattle.runners.specs.Columns.{Moved, Grown, nothing, posted};

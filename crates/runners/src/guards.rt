@@ -12,7 +12,6 @@ use card::MOST_PLACES;
 use card::MOST_SIGNALS;
 use card::MOST_TRANSITIONS;
 ghost use mathlib.Core.Path.{_≡_};
-ghost use mathlib.Core.Bool.{Bool};
 ghost use Prim.Native.Nat.{_≤_};
 ghost use lib.ListN.{length};
 ghost use lib.Dec.{leb, ltb};

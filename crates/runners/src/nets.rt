@@ -13,7 +13,6 @@ use hierarchy::Answer;
 use hierarchy::check::load;
 ghost use mathlib.Core.Path.{_≡_};
 ghost use Prim.Native.Nat.{_+_, _-_, _≤_, min};
-ghost use lib.ListN.{length};
 ghost use Rattle.card.specs.Card.{Card};
 ghost use Rattle.hierarchy.specs.Judgement.{Judgement, accepted, judge};
 ghost use Rattle.runners.specs.Calls.{called, inOrder};

@@ -12,11 +12,11 @@ ghost use mathlib.Core.Path.{_≡_};
 ghost use mathlib.Core.Bool.{cond};
 ghost use mathlib.Core.List.{map};
 ghost use Prim.Native.Nat.{_≤_};
-ghost use lib.ListN.{length, set};
+ghost use lib.ListN.{set};
 ghost use Rattle.card.specs.Card.{Card};
 ghost use Rattle.runners.specs.State.{scale as scaleOf, transfer as transferAt, remaining as remainingOf};
 ghost use Rattle.runners.specs.Step.{advanced as advancedOf};
-ghost use Rattle.runners.specs.Columns.{codeOf, transferOf, codeAt};
+ghost use Rattle.runners.specs.Columns.{codeOf, transferOf};
 ghost use Rattle.runners.specs.inner.Storing.{CodesOf, Stored};
 ghost use Rattle.runners.specs.declared.Transfer.the-variants.{Carrying};
 

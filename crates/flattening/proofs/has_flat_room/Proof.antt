@@ -1,6 +1,4 @@
 -- `flattening::has_flat_room` meets its contract. Assumes nothing.
-use mathlib.Core.Path.{sym, ap, _∙_}
-use mathlib.Core.Bool.{Bool, _&&_}
 use borrow.Author.Needs.{needs}
 use Rattle.flattening.proofs.has_flat_room.Statement.{statement}
 use Rattle.flattening.proofs.has_flat_room.Tie as tie

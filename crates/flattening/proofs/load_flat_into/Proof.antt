@@ -1,5 +1,5 @@
 -- `flattening::load_flat_into` meets its contract. Assumes nothing.
-use mathlib.Core.Path.{_≡_, ap, _∙_}
+use mathlib.Core.Path.{ap, _∙_}
 use denote.Ref.{now}
 use lib.ListN.{length, length-replicate}
 use Rattle.card.proofs.ReadLaws.{lent-is}

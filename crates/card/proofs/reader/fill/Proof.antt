@@ -1,5 +1,5 @@
 -- `card::reader::fill` meets its contract. Assumes nothing.
-use Prim.Native.Nat.{ℕ, _+_, _-_}
+use Prim.Native.Nat.{_+_, _-_}
 use native.Mathlib.Omega.{arith}
 use denote.Ref.{now}
 use Rattle.card.specs.Tables.{tableSize}
@@ -9,7 +9,7 @@ use Rattle.card.specs.declared.FormatFault.the-variants.{Truncated}
 use Rattle.card.proofs.Turn.{Left, left-start, left-room, left-fits, left-ends, left-bad, left-more, left-done, arc-room, left-arc}
 use Rattle.card.proofs.ReadLaws.{refused-is, ended-is}
 use Rattle.card.specs.declared.layout.Move.the-variants.{More}
-use mathlib.Core.Path.{refl, sym, ap, _∙_}
+use mathlib.Core.Path.{refl, _∙_}
 use lib.ListN.{length, set, length-set}
 use Rattle.card.proofs.reader.fill.Statement.{statement}
 use Rattle.card.proofs.reader.fill.Tie as tie

@@ -1,8 +1,7 @@
 -- `card::tables::clear` meets its contract. Assumes nothing.
-use Prim.Native.Nat.{ℕ, _-_}
+use Prim.Native.Nat.{_-_}
 use mathlib.Core.Path.{refl}
 use native.Mathlib.Omega.{arith}
-use denote.Ref.{now}
 use lib.ListN.{length}
 use Rattle.card.proofs.ReadLaws.{Cleared, cleared-more, cleared-done}
 use borrow.Author.Needs.{needs}

@@ -1,6 +1,5 @@
 -- `hierarchy::check::load` meets its contract. Assumes nothing.
 use mathlib.Core.Path.{refl, sym, _∙_}
-use denote.Ref.{now}
 use Rattle.card.proofs.ReadLaws.{lent-filled, lent-kept}
 use borrow.Author.Needs.{needs}
 use Rattle.hierarchy.proofs.check.load.Statement.{statement}

@@ -1,5 +1,4 @@
 -- `hierarchy::check::load_into` meets its contract. Assumes nothing.
-use mathlib.Core.Path.{_≡_}
 use denote.Ref.{now}
 use Rattle.card.proofs.ReadLaws.{lent-is}
 use Rattle.hierarchy.proofs.CheckLaws.{read-into}

@@ -1,6 +1,5 @@
 -- `runners::flat_runner::flat_row` meets its contract. Assumes nothing.
 use mathlib.Core.Path.{refl}
-use mathlib.Core.Bool.{_&&_}
 use borrow.Author.Tests.{le-leb}
 use borrow.Author.Needs.{needs}
 use Rattle.runners.proofs.flat_runner.flat_row.Statement.{statement}

@@ -1,7 +1,6 @@
 -- `runners::guards::state_test` meets its contract. Assumes nothing.
 use mathlib.Core.Path.{sym, _∙_}
 use denote.Ref.{now}
-use Rattle.card.specs.Card.{Card}
 use Rattle.runners.specs.inner.Storing.{Counts}
 use Rattle.runners.proofs.ScaleLaws.{scale-flat}
 use Rattle.runners.proofs.GuardLaws.{places-off, transitions-off, signals-off, transfers-off, degrees-off, valid-covered}

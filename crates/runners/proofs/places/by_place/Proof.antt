@@ -1,6 +1,6 @@
 -- `runners::places::by_place` meets its contract. Assumes nothing.
 use Prim.Native.Nat.{ℕ, _-_, _≤_}
-use mathlib.Core.Path.{_≡_, refl, sym, subst, _∙_}
+use mathlib.Core.Path.{_≡_, sym, subst, _∙_}
 use native.Mathlib.Omega.{arith}
 use native.Mathlib.Numerals.{add-one}
 use denote.Ref.{now}
