@@ -80,3 +80,18 @@ withCandidates k dr fl cs = columns (k .markings) (k .transfers) (k .degrees) (k
 
 abbrev pub withState : Columns → (markings transfers : List ℕ) → Columns
 withState k ms xs = columns ms xs (k .degrees) (k .row) (k .owed) (k .due) (k .drawn) (k .filled) (k .candidates)
+
+-- What is said of the columns before and after, where a function is lent only some of them: it holds whatever the others are.
+-- In the first round standing claims change,
+abbrev pub OnStanding : (says : Columns → Columns → Type 0) → (transfers owed owed′ due due′ : List ℕ) → Type 0
+OnStanding says xs o o′ d d′ =
+    (ms last row drawn filled : List ℕ) (cs : List Bool) → says (columns ms xs last row o d drawn filled cs) (columns ms xs last row o′ d′ drawn filled cs)
+
+-- in the second candidates and their claims,
+abbrev pub OnCandidates : (says : Columns → Columns → Type 0) → (markings transfers row owed due drawn drawn′ filled filled′ : List ℕ) → (cs cs′ : List Bool) → Type 0
+OnCandidates says ms xs row o d dr dr′ fl fl′ cs cs′ = (last : List ℕ) → says (columns ms xs last row o d dr fl cs) (columns ms xs last row o d dr′ fl′ cs′)
+
+-- in the third markings and transfers.
+abbrev pub OnState : (says : Columns → Columns → Type 0) → (degrees row : List ℕ) → (cs : List Bool) → (markings markings′ transfers transfers′ : List ℕ) → Type 0
+OnState says last row cs ms ms′ xs xs′ =
+    (owed due drawn filled : List ℕ) → says (columns ms xs last row owed due drawn filled cs) (columns ms′ xs′ last row owed due drawn filled cs)

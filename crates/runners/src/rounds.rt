@@ -3,11 +3,8 @@ use crate::visits::visit_find;
 use crate::visits::visit_move;
 use crate::visits::visit_post;
 ghost use mathlib.Core.Path.{_≡_};
-ghost use mathlib.Core.Bool.{Bool};
-ghost use mathlib.Core.List.{List};
-ghost use Prim.Native.Nat.{ℕ};
 ghost use lib.ListN.{length};
-ghost use Rattle.runners.specs.Columns.{columns};
+ghost use Rattle.runners.specs.Columns.{OnStanding, OnCandidates, OnState};
 ghost use Rattle.runners.specs.Visits.{posting, finding, moving};
 ghost use Rattle.runners.specs.inner.Rounds.{IsRound};
 
@@ -21,7 +18,7 @@ pub fn post_all(
 )
     ensures { λ r. ⌜ length (now (owed .exit)) ≡ length (now (owed .entry)) ⌝ }
     ensures { λ r. ⌜ length (now (due .exit)) ≡ length (now (due .entry)) ⌝ }
-    ensures { λ r. ⌜ ((ms last row drawn filled : List ℕ) (cs : List Bool) → IsRound posting (now (order .entry)) (now (numbers .entry)) (now (starts .entry)) (columns ms (now (transfers .entry)) last row (now (owed .entry)) (now (due .entry)) drawn filled cs) (columns ms (now (transfers .entry)) last row (now (owed .exit)) (now (due .exit)) drawn filled cs)) ⌝ }
+    ensures { λ r. ⌜ OnStanding (IsRound posting (now (order .entry)) (now (numbers .entry)) (now (starts .entry))) (now (transfers .entry)) (now (owed .entry)) (now (owed .exit)) (now (due .entry)) (now (due .exit)) ⌝ }
 {
     let mut n: usize = 0;
     while n < order.len() {
@@ -46,7 +43,7 @@ pub fn find_all(
     ensures { λ r. ⌜ length (now (drawn .exit)) ≡ length (now (drawn .entry)) ⌝ }
     ensures { λ r. ⌜ length (now (filled .exit)) ≡ length (now (filled .entry)) ⌝ }
     ensures { λ r. ⌜ length (now (candidates .exit)) ≡ length (now (candidates .entry)) ⌝ }
-    ensures { λ r. ⌜ ((last : List ℕ) → IsRound finding (now (order .entry)) (now (numbers .entry)) (now (starts .entry)) (columns (now (markings .entry)) (now (transfers .entry)) last (now (row .entry)) (now (owed .entry)) (now (due .entry)) (now (drawn .entry)) (now (filled .entry)) (now (candidates .entry))) (columns (now (markings .entry)) (now (transfers .entry)) last (now (row .entry)) (now (owed .entry)) (now (due .entry)) (now (drawn .exit)) (now (filled .exit)) (now (candidates .exit)))) ⌝ }
+    ensures { λ r. ⌜ OnCandidates (IsRound finding (now (order .entry)) (now (numbers .entry)) (now (starts .entry))) (now (markings .entry)) (now (transfers .entry)) (now (row .entry)) (now (owed .entry)) (now (due .entry)) (now (drawn .entry)) (now (drawn .exit)) (now (filled .entry)) (now (filled .exit)) (now (candidates .entry)) (now (candidates .exit)) ⌝ }
 {
     let mut n: usize = 0;
     while n < order.len() {
@@ -79,7 +76,7 @@ pub fn move_all(
 )
     ensures { λ r. ⌜ length (now (markings .exit)) ≡ length (now (markings .entry)) ⌝ }
     ensures { λ r. ⌜ length (now (transfers .exit)) ≡ length (now (transfers .entry)) ⌝ }
-    ensures { λ r. ⌜ ((owed due drawn filled : List ℕ) → IsRound moving (now (order .entry)) (now (numbers .entry)) (now (starts .entry)) (columns (now (markings .entry)) (now (transfers .entry)) (now (degrees .entry)) (now (row .entry)) owed due drawn filled (now (candidates .entry))) (columns (now (markings .exit)) (now (transfers .exit)) (now (degrees .entry)) (now (row .entry)) owed due drawn filled (now (candidates .entry)))) ⌝ }
+    ensures { λ r. ⌜ OnState (IsRound moving (now (order .entry)) (now (numbers .entry)) (now (starts .entry))) (now (degrees .entry)) (now (row .entry)) (now (candidates .entry)) (now (markings .entry)) (now (markings .exit)) (now (transfers .entry)) (now (transfers .exit)) ⌝ }
 {
     let mut k: usize = 0;
     while k < order.len() {

@@ -27,7 +27,7 @@ ghost use Rattle.card.specs.Finite.{every};
 ghost use Rattle.flattening.specs.Flattening.{flatten};
 ghost use Rattle.runners.specs.State.{NetState, scale as scaleOf, entry, transfer as transferIn};
 ghost use Rattle.runners.specs.Step.{allows, candidateOn, startedOn, movesOn};
-ghost use Rattle.runners.specs.Columns.{noted, posted, columns};
+ghost use Rattle.runners.specs.Columns.{noted, posted, OnStanding, OnCandidates, OnState};
 ghost use Rattle.runners.specs.Visits.{posting, finding, moving, InTables, IsVisit};
 ghost use Rattle.runners.specs.inner.Transitions.{IsOne, IsSpan};
 
@@ -69,7 +69,7 @@ fn post_one(
 )
     ensures { λ r. ⌜ length (now (owed .exit)) ≡ length (now (owed .entry)) ⌝ }
     ensures { λ r. ⌜ length (now (due .exit)) ≡ length (now (due .entry)) ⌝ }
-    ensures { λ r. ⌜ ((ms last row drawn filled : List ℕ) (cs : List Bool) → IsOne posting t (now (numbers .entry)) (now (starts .entry)) (columns ms (now (transfers .entry)) last row (now (owed .entry)) (now (due .entry)) drawn filled cs) (columns ms (now (transfers .entry)) last row (now (owed .exit)) (now (due .exit)) drawn filled cs)) ⌝ }
+    ensures { λ r. ⌜ OnStanding (IsOne posting t (now (numbers .entry)) (now (starts .entry))) (now (transfers .entry)) (now (owed .entry)) (now (owed .exit)) (now (due .entry)) (now (due .exit)) ⌝ }
 {
     let transfer = transfer_at(transfers, t as usize);
     let rest = remaining(transfer, rules::scale(numbers));
@@ -88,7 +88,7 @@ pub fn post_span(
 )
     ensures { λ r. ⌜ length (now (owed .exit)) ≡ length (now (owed .entry)) ⌝ }
     ensures { λ r. ⌜ length (now (due .exit)) ≡ length (now (due .entry)) ⌝ }
-    ensures { λ r. ⌜ ((ms last row drawn filled : List ℕ) (cs : List Bool) → IsSpan posting first end (now (numbers .entry)) (now (starts .entry)) (columns ms (now (transfers .entry)) last row (now (owed .entry)) (now (due .entry)) drawn filled cs) (columns ms (now (transfers .entry)) last row (now (owed .exit)) (now (due .exit)) drawn filled cs)) ⌝ }
+    ensures { λ r. ⌜ OnStanding (IsSpan posting first end (now (numbers .entry)) (now (starts .entry))) (now (transfers .entry)) (now (owed .entry)) (now (owed .exit)) (now (due .entry)) (now (due .exit)) ⌝ }
 {
     let mut t = first;
     while t < end {
@@ -127,7 +127,7 @@ pub fn visit_post(
 )
     ensures { λ r. ⌜ length (now (owed .exit)) ≡ length (now (owed .entry)) ⌝ }
     ensures { λ r. ⌜ length (now (due .exit)) ≡ length (now (due .entry)) ⌝ }
-    ensures { λ r. ⌜ ((ms last row drawn filled : List ℕ) (cs : List Bool) → IsVisit posting s (now (numbers .entry)) (now (starts .entry)) (columns ms (now (transfers .entry)) last row (now (owed .entry)) (now (due .entry)) drawn filled cs) (columns ms (now (transfers .entry)) last row (now (owed .exit)) (now (due .exit)) drawn filled cs)) ⌝ }
+    ensures { λ r. ⌜ OnStanding (IsVisit posting s (now (numbers .entry)) (now (starts .entry))) (now (transfers .entry)) (now (owed .entry)) (now (owed .exit)) (now (due .entry)) (now (due .exit)) ⌝ }
 {
     let own = own_transitions(starts, s);
     post_span(numbers, starts, own.first, own.end, transfers, owed, due);
@@ -198,7 +198,7 @@ fn find_one(
     ensures { λ r. ⌜ length (now (drawn .exit)) ≡ length (now (drawn .entry)) ⌝ }
     ensures { λ r. ⌜ length (now (filled .exit)) ≡ length (now (filled .entry)) ⌝ }
     ensures { λ r. ⌜ length (now (candidates .exit)) ≡ length (now (candidates .entry)) ⌝ }
-    ensures { λ r. ⌜ ((last : List ℕ) → IsOne finding t (now (numbers .entry)) (now (starts .entry)) (columns (now (markings .entry)) (now (transfers .entry)) last (now (row .entry)) (now (owed .entry)) (now (due .entry)) (now (drawn .entry)) (now (filled .entry)) (now (candidates .entry))) (columns (now (markings .entry)) (now (transfers .entry)) last (now (row .entry)) (now (owed .entry)) (now (due .entry)) (now (drawn .exit)) (now (filled .exit)) (now (candidates .exit)))) ⌝ }
+    ensures { λ r. ⌜ OnCandidates (IsOne finding t (now (numbers .entry)) (now (starts .entry))) (now (markings .entry)) (now (transfers .entry)) (now (row .entry)) (now (owed .entry)) (now (due .entry)) (now (drawn .entry)) (now (drawn .exit)) (now (filled .entry)) (now (filled .exit)) (now (candidates .entry)) (now (candidates .exit)) ⌝ }
 {
     let transfer = transfer_at(transfers, t as usize);
     let candidate = is_candidate(numbers, starts, t, transfer, row, markings, owed, due);
@@ -225,7 +225,7 @@ fn find_span(
     ensures { λ r. ⌜ length (now (drawn .exit)) ≡ length (now (drawn .entry)) ⌝ }
     ensures { λ r. ⌜ length (now (filled .exit)) ≡ length (now (filled .entry)) ⌝ }
     ensures { λ r. ⌜ length (now (candidates .exit)) ≡ length (now (candidates .entry)) ⌝ }
-    ensures { λ r. ⌜ ((last : List ℕ) → IsSpan finding first end (now (numbers .entry)) (now (starts .entry)) (columns (now (markings .entry)) (now (transfers .entry)) last (now (row .entry)) (now (owed .entry)) (now (due .entry)) (now (drawn .entry)) (now (filled .entry)) (now (candidates .entry))) (columns (now (markings .entry)) (now (transfers .entry)) last (now (row .entry)) (now (owed .entry)) (now (due .entry)) (now (drawn .exit)) (now (filled .exit)) (now (candidates .exit)))) ⌝ }
+    ensures { λ r. ⌜ OnCandidates (IsSpan finding first end (now (numbers .entry)) (now (starts .entry))) (now (markings .entry)) (now (transfers .entry)) (now (row .entry)) (now (owed .entry)) (now (due .entry)) (now (drawn .entry)) (now (drawn .exit)) (now (filled .entry)) (now (filled .exit)) (now (candidates .entry)) (now (candidates .exit)) ⌝ }
 {
     let mut t = first;
     while t < end {
@@ -264,7 +264,7 @@ pub fn visit_find(
     ensures { λ r. ⌜ length (now (drawn .exit)) ≡ length (now (drawn .entry)) ⌝ }
     ensures { λ r. ⌜ length (now (filled .exit)) ≡ length (now (filled .entry)) ⌝ }
     ensures { λ r. ⌜ length (now (candidates .exit)) ≡ length (now (candidates .entry)) ⌝ }
-    ensures { λ r. ⌜ ((last : List ℕ) → IsVisit finding s (now (numbers .entry)) (now (starts .entry)) (columns (now (markings .entry)) (now (transfers .entry)) last (now (row .entry)) (now (owed .entry)) (now (due .entry)) (now (drawn .entry)) (now (filled .entry)) (now (candidates .entry))) (columns (now (markings .entry)) (now (transfers .entry)) last (now (row .entry)) (now (owed .entry)) (now (due .entry)) (now (drawn .exit)) (now (filled .exit)) (now (candidates .exit)))) ⌝ }
+    ensures { λ r. ⌜ OnCandidates (IsVisit finding s (now (numbers .entry)) (now (starts .entry))) (now (markings .entry)) (now (transfers .entry)) (now (row .entry)) (now (owed .entry)) (now (due .entry)) (now (drawn .entry)) (now (drawn .exit)) (now (filled .entry)) (now (filled .exit)) (now (candidates .entry)) (now (candidates .exit)) ⌝ }
 {
     let own = own_transitions(starts, s);
     find_span(
@@ -323,7 +323,7 @@ fn move_one(
 )
     ensures { λ r. ⌜ length (now (markings .exit)) ≡ length (now (markings .entry)) ⌝ }
     ensures { λ r. ⌜ length (now (transfers .exit)) ≡ length (now (transfers .entry)) ⌝ }
-    ensures { λ r. ⌜ ((owed due drawn filled : List ℕ) → IsOne moving t (now (numbers .entry)) (now (starts .entry)) (columns (now (markings .entry)) (now (transfers .entry)) (now (degrees .entry)) (now (row .entry)) owed due drawn filled (now (candidates .entry))) (columns (now (markings .exit)) (now (transfers .exit)) (now (degrees .entry)) (now (row .entry)) owed due drawn filled (now (candidates .entry)))) ⌝ }
+    ensures { λ r. ⌜ OnState (IsOne moving t (now (numbers .entry)) (now (starts .entry))) (now (degrees .entry)) (now (row .entry)) (now (candidates .entry)) (now (markings .entry)) (now (markings .exit)) (now (transfers .entry)) (now (transfers .exit)) ⌝ }
 {
     let was = transfer_at(transfers, t as usize);
     let transfer = started(was, is_noted(candidates, t as usize));
@@ -347,7 +347,7 @@ fn move_span(
 )
     ensures { λ r. ⌜ length (now (markings .exit)) ≡ length (now (markings .entry)) ⌝ }
     ensures { λ r. ⌜ length (now (transfers .exit)) ≡ length (now (transfers .entry)) ⌝ }
-    ensures { λ r. ⌜ ((owed due drawn filled : List ℕ) → IsSpan moving first end (now (numbers .entry)) (now (starts .entry)) (columns (now (markings .entry)) (now (transfers .entry)) (now (degrees .entry)) (now (row .entry)) owed due drawn filled (now (candidates .entry))) (columns (now (markings .exit)) (now (transfers .exit)) (now (degrees .entry)) (now (row .entry)) owed due drawn filled (now (candidates .entry)))) ⌝ }
+    ensures { λ r. ⌜ OnState (IsSpan moving first end (now (numbers .entry)) (now (starts .entry))) (now (degrees .entry)) (now (row .entry)) (now (candidates .entry)) (now (markings .entry)) (now (markings .exit)) (now (transfers .entry)) (now (transfers .exit)) ⌝ }
 {
     let mut t = first;
     while t < end {
@@ -379,7 +379,7 @@ pub fn visit_move(
 )
     ensures { λ r. ⌜ length (now (markings .exit)) ≡ length (now (markings .entry)) ⌝ }
     ensures { λ r. ⌜ length (now (transfers .exit)) ≡ length (now (transfers .entry)) ⌝ }
-    ensures { λ r. ⌜ ((owed due drawn filled : List ℕ) → IsVisit moving s (now (numbers .entry)) (now (starts .entry)) (columns (now (markings .entry)) (now (transfers .entry)) (now (degrees .entry)) (now (row .entry)) owed due drawn filled (now (candidates .entry))) (columns (now (markings .exit)) (now (transfers .exit)) (now (degrees .entry)) (now (row .entry)) owed due drawn filled (now (candidates .entry)))) ⌝ }
+    ensures { λ r. ⌜ OnState (IsVisit moving s (now (numbers .entry)) (now (starts .entry))) (now (degrees .entry)) (now (row .entry)) (now (candidates .entry)) (now (markings .entry)) (now (markings .exit)) (now (transfers .entry)) (now (transfers .exit)) ⌝ }
 {
     let own = own_transitions(starts, s);
     move_span(
