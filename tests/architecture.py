@@ -1,5 +1,6 @@
 #!/usr/bin/env python3
-"""docs/ARCHITECTURE.md tells the truth: each name in its tables is declared in the file beside it, and each file is there."""
+"""docs/ARCHITECTURE.md tells the truth: each name in its tables is declared in the file beside it, and each file is there; and no module of the
+subnet runner makes or reads a flat card."""
 
 import pathlib
 import re
@@ -31,8 +32,29 @@ def cells(text):
             yield line, [cell.strip() for cell in line.strip("|").split(" | ")][1:]
 
 
+def imported(module):
+    """The crates and the modules of its own crate that a module of the runners uses; definitions in contracts are no use of code."""
+    text = (root / f"crates/runners/src/{module}.rt").read_text()
+    return set(re.findall(r"^use (?:crate::)?(\w+)", text, re.M))
+
+
+def subnet_view():
+    """All that the subnet runner uses, directly or through what it uses."""
+    seen, left = set(), ["subnet_runner"]
+    while left:
+        module = left.pop()
+        if module not in seen:
+            seen.add(module)
+            left += imported(module) if (root / f"crates/runners/src/{module}.rt").is_file() else []
+    return seen
+
+
 def main():
     passed, wrong = 0, []
+    view = subnet_view()
+    for name, expected in (("visits", True), ("flattening", False), ("flat_runner", False)):
+        passed += (name in view) == expected
+        wrong += [] if (name in view) == expected else [f"the subnet runner {'uses' if name in view else 'does not use'} {name}"]
     for line, columns in cells((root / "docs/ARCHITECTURE.md").read_text()):
         for column in columns:
             for part in column.split("; "):

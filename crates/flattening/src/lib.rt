@@ -1,4 +1,4 @@
-// Flattening: the flat card of a card, written into a lent buffer. specs/ says which card it is.
+// Flattening: the flat card of a card, written into a lent buffer, or as tables beside the card's own. specs/ says which card it is.
 mod rows;
 mod tables;
 

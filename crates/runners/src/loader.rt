@@ -11,7 +11,7 @@ ghost use Rattle.hierarchy.specs.Judgement.{Judgement};
 ghost use Rattle.runners.specs.inner.Steps.{IsLoaded};
 ghost use Rattle.runners.specs.Nets.{IsNetIn};
 
-// The full marking of each place, and the sizes; of a refused card zeros.
+// The full marking of each place, and the sizes; a refused card has no signals, and nobody asks for the rest.
 pub fn net_of<'a>(answer: Answer, numbers: &'a [u16], starts: &'a [u32]) -> NetSizes
     ensures { λ r. ⌜ ((j : Judgement) → IsLoaded j answer (now (numbers .entry)) (now (starts .entry)) → IsNetIn j answer (now (numbers .entry)) (now (starts .entry)) (r .full) (r .sizes)) ⌝ }
 {

@@ -1,5 +1,6 @@
-// A row on a card's own tables, subnet by subnet: the tests in front of the step, and the step. Nothing here, nor in what it calls, makes or
-// reads a flat card. The functions ask that the tables are a loaded card's, so none is an entry point.
+// A row on a card's tables, subnet by subnet: the tests in front of the step, and the step. Nothing here, nor in what it calls, makes a flat card;
+// the flat runner hands in its flat card's tables as those of any card. The functions ask that the tables are a loaded card's, so none is an entry
+// point.
 use crate::Refusal;
 use crate::Reply;
 use crate::RowAnswer;
