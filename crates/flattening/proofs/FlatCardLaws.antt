@@ -19,19 +19,18 @@ use Rattle.card.proofs.Turn.{zero-in}
 use Rattle.card.proofs.ReadLaws.{blank-table, tables-loaded}
 use Rattle.hierarchy.specs.Check.{Found, check}
 use Rattle.hierarchy.specs.Numbers.{checkOutcome}
-use Rattle.hierarchy.specs.Judgement.{Judgement, accepted, refused, checked, judged, judge, answer, outcomeOf, IsChecked}
-use Rattle.hierarchy.specs.declared.Answer.{Answer}
+use Rattle.hierarchy.specs.Judgement.{Judgement, accepted, refused, checked, judged, judge, outcomeOf, IsChecked}
 use Rattle.hierarchy.specs.declared.Answer.the-variants.{Accepted, Refused}
 use Rattle.hierarchy.specs.declared.CardFault.{CardFault}
 use Rattle.hierarchy.specs.declared.check.CheckedCard.{CheckedCard}
 use Rattle.hierarchy.proofs.Accepted.{not-accepted, accepted-meets, accepted-loaded}
 use Rattle.flattening.specs.Flattening.{flatten}
 use Rattle.flattening.specs.FlatCards.{flatTable, flatStarts, IsFlatTable, IsFlatCard, flatRoom, IsLentFlat}
-use Rattle.flattening.specs.inner.FlatRows.{Sizes}
 use Rattle.flattening.specs.inner.FlatNumbers.{FlatTables}
 use Rattle.flattening.specs.declared.FlatCard.{FlatCard}
 use Rattle.flattening.proofs.FlatLaws.{flat-meets}
 use Rattle.flattening.proofs.FlatNumberLaws.{flat-few}
+use Rattle.flattening.proofs.FlatWrite.{accepted-sizes}
 
 pub flat-room-is : (bytes n m : ℕ) → flatRoom bytes n m ≡ true → (hasRoom bytes n ≡ true) × (n ≡ m)
 flat-room-is bytes n m e = go (hasRoom bytes n) refl e
@@ -39,21 +38,6 @@ flat-room-is bytes n m e = go (hasRoom bytes n) refl e
     go : (b : Bool) → hasRoom bytes n ≡ b → b && eqb n m ≡ true → (hasRoom bytes n ≡ true) × (n ≡ m)
     go true p q = (p, eqb-true n m q)
     go false p q = absurd (let z : _≡_ {A = ℕ} 0 1 = cc in omega arith)
-
--- the sizes that the check's answer tells, narrowed to 16 bits
-pub accepted-sizes : (bytes : List ℕ) (a : Answer) (c : Card) → checkOutcome a ≡ answer bytes → judge bytes ≡ accepted c → (s p t s′ p′ t′ : ℕ) → a ≡ Accepted s p t
-    → (s < 65536 → s′ ≡ s) → (p < 65536 → p′ ≡ p) → (t < 65536 → t′ ≡ t) → Sizes c s′ p′ t′
-accepted-sizes bytes a c h j s p t s′ p′ t′ e es ep et =
-    let q : checkOutcome (Accepted s p t) ≡ outcomeOf (accepted c) = sym (ap checkOutcome e) ∙ h ∙ ap outcomeOf j in
-    let w = (accepted-meets bytes c j) .wellformed in
-    let x : s ≡ length (c .subnets) = cc in
-    let y : p ≡ length (c .places) = cc in
-    let z : t ≡ length (c .transitions) = cc in
-    record {
-      subnets = es (omega (arith, x, w .fewSubnets)) ∙ x;
-      places = ep (omega (arith, y, w .rows .fewPlaces)) ∙ y;
-      transitions = et (omega (arith, z, w .rows .fewTransitions)) ∙ z;
-    }
 
 -- a table that holds a card's numbers, and zeros behind them, is the table of them
 table-of : (t : List ℕ) (c : Card) → ((i : ℕ) → getD t i 0 ≡ getD (numbersOf c) i 0) → t ≡ numbersTable (length t) c

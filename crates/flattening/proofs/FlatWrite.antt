@@ -14,7 +14,7 @@ use Rattle.card.proofs.Sums.{table-length, table-at, map-length}
 use Rattle.hierarchy.specs.Conditions.{Meets}
 use Rattle.card.specs.Index.{Loaded}
 use Rattle.hierarchy.specs.Numbers.{number, checkOutcome}
-use Rattle.hierarchy.specs.Judgement.{Judgement, accepted, refused, judged, judge, judgeTables, outcomeOf}
+use Rattle.hierarchy.specs.Judgement.{Judgement, accepted, refused, judged, judge, judgeTables, answer, outcomeOf}
 use Rattle.hierarchy.specs.Output.{delivered, writeRows, IsWritten}
 use Rattle.hierarchy.specs.declared.Written.{Written}
 use Rattle.hierarchy.specs.declared.Written.the-variants.{Refused as NotWritten}
@@ -110,6 +110,21 @@ module _ (c : Card) (m : Meets c) (ps ts arcs : List ℕ) (hp : PlacesTo c ps (l
   unfolding writeRows
   flat-written v g l q p t a ev eg el eq ep et ea buffer out r h = subst (λ (x : Judgement). IsWritten (delivered x encode buffer) r out) judged-flat (rw (ev, eg, el, eq, ep, et, ea) at h)
 
+-- the sizes that the check's answer tells, narrowed to 16 bits
+pub accepted-sizes : (bytes : List ℕ) (a : Answer) (c : Card) → checkOutcome a ≡ answer bytes → judge bytes ≡ accepted c → (s p t s′ p′ t′ : ℕ) → a ≡ Accepted s p t
+    → (s < 65536 → s′ ≡ s) → (p < 65536 → p′ ≡ p) → (t < 65536 → t′ ≡ t) → Sizes c s′ p′ t′
+accepted-sizes bytes a c h j s p t s′ p′ t′ e es ep et =
+    let q : checkOutcome (Accepted s p t) ≡ outcomeOf (accepted c) = sym (ap checkOutcome e) ∙ h ∙ ap outcomeOf j in
+    let w = (accepted-meets bytes c j) .wellformed in
+    let x : s ≡ length (c .subnets) = cc in
+    let y : p ≡ length (c .places) = cc in
+    let z : t ≡ length (c .transitions) = cc in
+    record {
+      subnets = es (omega (arith, x, w .fewSubnets)) ∙ x;
+      places = ep (omega (arith, y, w .rows .fewPlaces)) ∙ y;
+      transitions = et (omega (arith, z, w .rows .fewTransitions)) ∙ z;
+    }
+
 -- flattening a card that was checked
 module _ (bytes buffer : List ℕ) (k : Answer) (numbers starts : List ℕ) (h : Checked (judge bytes) k numbers starts) where
   pub flatten-refused : (f : CardFault) (at : ℕ) (r : Written) → k ≡ Refused f at → r ≡ NotWritten f at → IsWritten (flattenCall bytes buffer) r buffer
@@ -132,13 +147,4 @@ module _ (bytes buffer : List ℕ) (k : Answer) (numbers starts : List ℕ) (h :
       go : (x : Judgement) → judge bytes ≡ x → checkOutcome (Accepted s p t) ≡ outcomeOf x → IsWritten (delivered x (λ d. encode (flatten d)) buffer) r out
       go (refused n i) j q = absurd (let z : _≡_ {A = ℕ} 0 1 = cc in omega arith)
       go (accepted c) j q =
-          let m = accepted-meets bytes c j in
-          let a : s ≡ length (c .subnets) = cc in
-          let b : p ≡ length (c .places) = cc in
-          let d : t ≡ length (c .transitions) = cc in
-          let w = m .wellformed in
-          g c m (h .loaded c j) (record {
-            subnets = es (omega (arith, a, w .fewSubnets)) ∙ a;
-            places = ep (omega (arith, b, w .rows .fewPlaces)) ∙ b;
-            transitions = et (omega (arith, d, w .rows .fewTransitions)) ∙ d;
-          })
+          g c (accepted-meets bytes c j) (h .loaded c j) (accepted-sizes bytes k c (h .answer) j s p t s′ p′ t′ e es ep et)
