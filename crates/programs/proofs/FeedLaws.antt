@@ -29,6 +29,11 @@ use Rattle.programs.specs.Feeds.{readCall, fileCall, fedLines}
 use Rattle.programs.specs.declared.file.FileRow.{FileRow}
 use Rattle.programs.proofs.FileLaws.{row-long, row-hollow, row-found, too-many}
 
+-- no card has more than 63 signals
+pub few-signals : (net : Net) (j : Judgement) → IsNet j net → (n : ℕ) → n ≡ signalsIn j → n ≤ 63
+few-signals net (accepted c) h n e = omega (arith, e, h .tables .tables .meets .wellformed .fewSignals)
+few-signals net (refused k at) h n e = omega (arith, e)
+
 module _ (net : Net) (l : Lent) (x : RowAnswer) where
   few : (j : Judgement) → IsNet j net → (c : Card) → j ≡ accepted c → c .signals ≤ 63
   few j h c e = (subst (λ (i : Judgement). IsNet i net) e h) .tables .tables .meets .wellformed .fewSignals
@@ -48,10 +53,6 @@ module _ (net : Net) (l : Lent) (x : RowAnswer) where
         let q = row-found r (rowOf c bytes) n (λ xs s. row-long c bytes xs s ∙ sym e) (er c (sym e) (omega (arith, e, h .tables .tables .meets .wellformed .fewSignals))) b in
         subst (λ (o : RowRead). IsRow (readCall (accepted c) l (λ d. o)) x) (sym q) w
     file-present (refused k at) h e b w = w
-
-  pub few-signals : (j : Judgement) → IsNet j net → (n : ℕ) → n ≡ signalsIn j → n ≤ 63
-  few-signals (accepted c) h n e = omega (arith, e, h .tables .tables .meets .wellformed .fewSignals)
-  few-signals (refused k at) h n e = omega (arith, e)
 
 -- THE LINES THAT A RUN PRINTS ARE THE DEFINITION'S, from the state that the call for a fresh one returns: on the net of a card's flat card the
 -- order names its one subnet, so that the calls are the flat runner's, and their trace is that of the net's own run.

@@ -1,6 +1,6 @@
 -- Bytes put into a buffer one after another, decimal numbers, and lines of words. Assumes nothing.
 use Prim.Native.Nat.{ℕ, zero, suc, _+_, _-_, _*_, _/_, _%_, _^_, _≤_, _<_}
-use mathlib.Core.Path.{_≡_, refl, sym, ap, subst, _∙_}
+use mathlib.Core.Path.{_≡_, refl, sym, ap, ap₂, subst, _∙_}
 use mathlib.Core.Logic.{_⊎_, inl, inr}
 use mathlib.Core.Option.{none, some}
 use mathlib.Core.Bool.{Bool, true, false, cond}
@@ -8,8 +8,8 @@ use mathlib.Core.List.{List, [], _∷_, _++_, map, append-assoc}
 use native.Mathlib.Omega.{arith}
 use native.Mathlib.Numerals.{unary-clauses, add-one}
 use native.Mathlib.Nat.{pow-suc, zero-add}
-use lib.ListN.{length, getD, set, take, replicate, length-set, length-append, length-replicate}
-use lib.Seq.{set-append-seam, take-suc, take-all}
+use lib.ListN.{length, getD, set, take, drop, replicate, length-set, length-append, length-replicate, take-append-drop, replicate-append-replicate}
+use lib.Seq.{take-suc, take-all, take-append-seam, take-suc-set, drop-set-lt, drop-at}
 use lib.Dec.{ltb}
 use borrow.Author.Tests.{lt-ltb, le-ltb, ltb-false, eq-eqb, ne-eqb}
 use Rattle.card.proofs.BitLaws.{lt-or-ge}
@@ -19,7 +19,8 @@ use Rattle.runners.specs.declared.replies.Code.{Code}
 use Rattle.runners.proofs.ReplyLaws.{outcomeIn, outcome-of}
 use Rattle.programs.specs.Programs.{stateWords, refusalWords, valueWords, replyWords, cardLine}
 use Rattle.programs.specs.Text.{ascii, digit, digits, decimal, line}
-use Rattle.programs.specs.Lines.{Cursor, putByte, putAll, Puts, spaced, joined, transferWord, IsLine}
+use Rattle.programs.specs.Lines.{Cursor, putByte, putAll, Puts, spaced, joined, transferWord, IsPadded, IsLine, longest}
+use Rattle.programs.specs.declared.line.Line.{Line}
 
 -- one byte
 pub byte-in : (buffer : List ℕ) (at b : ℕ) → at < length buffer → Puts buffer at (b ∷ []) (set buffer at b) (at + 1)
@@ -75,24 +76,39 @@ puts-long x at w y r p = ap (λ (c : Cursor). length (c .buffer)) (p .is) ∙ al
 pub puts-most : (x : List ℕ) (at : ℕ) (w y : List ℕ) (r : ℕ) → Puts x at w y r → r ≤ at + length w
 puts-most x at w y r p = omega (arith, ap (λ (c : Cursor). c .at) (p .is), all-most (record { buffer = x; at = at }) w)
 
--- bytes behind bytes, in a buffer of zeros
-all-behind : (p : List ℕ) (n : ℕ) (w : List ℕ) → length w ≤ n
-    → putAll (record { buffer = p ++ replicate n 0; at = length p }) w ≡ record { buffer = p ++ (w ++ replicate (n - length w) 0); at = length p + length w }
+-- bytes that have room: they stand from at on, and the rest is as it was
+put-fits : (x : List ℕ) (at : ℕ) (w : List ℕ) → at + length w ≤ length x
+    → putAll (record { buffer = x; at = at }) w ≡ record { buffer = take at x ++ (w ++ drop (at + length w) x); at = at + length w }
 unfolding putAll
-all-behind p n [] l = simp unary-clauses
-all-behind p zero (b ∷ w) l = absurd (omega arith)
-all-behind p (suc n) (b ∷ w) l =
-    ap (λ (c : Cursor). putAll c w) (first ∙ ap (λ (xs : List ℕ). record { buffer = xs; at = length p + 1 }) (sym (append-assoc p (b ∷ []) (replicate n 0))) ∙ ap (λ (i : ℕ). record { buffer = (p ++ (b ∷ [])) ++ replicate n 0; at = i }) (sym (length-append p (b ∷ []))))
-    ∙ all-behind (p ++ (b ∷ [])) n w (omega arith)
-    ∙ ap (λ (xs : List ℕ). record { buffer = xs; at = length (p ++ (b ∷ [])) + length w }) (append-assoc p (b ∷ []) (w ++ replicate (n - length w) 0))
-    ∙ ap (λ (i : ℕ). record { buffer = p ++ (b ∷ (w ++ replicate (n - length w) 0)); at = i }) (let e : length (p ++ (b ∷ [])) + length w ≡ length p + suc (length w) = omega (arith, length-append p (b ∷ [])) in e)
-    ∙ ap (λ (k : ℕ). record { buffer = p ++ (b ∷ (w ++ replicate k 0)); at = length p + suc (length w) }) (let e : n - length w ≡ suc n - suc (length w) = omega arith in e)
+put-fits x at [] l = ap₂ (λ (xs : List ℕ) (i : ℕ). record { buffer = xs; at = i }) (sym (take-append-drop at x)) (let e : at ≡ at + 0 = omega arith in e) ∙ ap (λ (i : ℕ). record { buffer = take at x ++ drop i x; at = at + 0 }) (let e : at ≡ at + 0 = omega arith in e)
+put-fits x at (b ∷ w) l =
+    rw (lt-ltb at (length x) (omega (arith, l)))
+    (put-fits (set x at b) (at + 1) w (omega (arith, l, length-set x at b))
+    ∙ ap₂ (λ (u v : List ℕ). record { buffer = u ++ (w ++ v); at = at + 1 + length w }) (ap (λ (i : ℕ). take i (set x at b)) add-one-is ∙ take-suc-set x at b (omega (arith, l))) (drop-set-lt (at + 1 + length w) x at b (omega arith))
+    ∙ ap (λ (xs : List ℕ). record { buffer = xs; at = at + 1 + length w }) (append-assoc (take at x) (b ∷ []) (w ++ drop (at + 1 + length w) x))
+    ∙ ap (λ (i : ℕ). record { buffer = take at x ++ (b ∷ (w ++ drop i x)); at = i }) (let e : at + 1 + length w ≡ at + suc (length w) = omega arith in e))
   where
-    room : length p < length (p ++ replicate (suc n) 0)
-    room = omega (arith, length-append p (replicate (suc n) 0))
+    add-one-is : at + 1 ≡ suc at
+    add-one-is = omega arith
 
-    first : putByte (record { buffer = p ++ replicate (suc n) 0; at = length p }) b ≡ record { buffer = p ++ (b ∷ replicate n 0); at = length p + 1 }
-    first = rw (lt-ltb (length p) (length (p ++ replicate (suc n) 0)) room) (ap (λ (xs : List ℕ). record { buffer = xs; at = length p + 1 }) (set-append-seam p 0 (replicate n 0) b))
+module _ (x : List ℕ) (at : ℕ) (w y : List ℕ) (r : ℕ) (p : Puts x at w y r) (l : at + length w ≤ length x) where
+  pub puts-end : r ≡ at + length w
+  puts-end = ap (λ (c : Cursor). c .at) (p .is ∙ put-fits x at w l)
+
+  pub puts-whole : y ≡ take at x ++ (w ++ drop (at + length w) x)
+  puts-whole = ap (λ (c : Cursor). c .buffer) (p .is ∙ put-fits x at w l)
+
+-- a text byte by byte
+pub text-none : (text x : List ℕ) (at : ℕ) → Puts x at (take 0 text) x at
+text-none text x at = puts-none x at
+
+pub text-more : (text x : List ℕ) (at i : ℕ) (y : List ℕ) (m : ℕ) (z : List ℕ) (r : ℕ) → Puts x at (take i text) y m → i < length text
+    → Puts y m (getD text i 0 ∷ []) z r → Puts x at (take (i + 1) text) z r
+text-more text x at i y m z r p l q =
+    subst (λ (w : List ℕ). Puts x at w z r) (sym (rw (add-one, take-suc text i 0 l) refl)) (puts-join x at (take i text) y m (getD text i 0 ∷ []) z r p q)
+
+pub text-all : (text x : List ℕ) (at i : ℕ) (y : List ℕ) (m : ℕ) → Puts x at (take i text) y m → length text ≤ i → Puts x at text y m
+text-all text x at i y m p l = subst (λ (w : List ℕ). Puts x at w y m) (take-all i text l) p
 
 -- decimal numbers: fuel above the number is enough
 digits-same : (n : ℕ) (x y : List ℕ) → (10 ≤ n → x ≡ y)
@@ -233,25 +249,40 @@ all-whole c (b ∷ w) l = go (lt-or-ge (c .at) (length (c .buffer))) (all-whole 
     go (inr m) e =
         absurd (omega (arith, l, all-least (putByte c b) w, ap (λ (t : Bool). cond t (record { buffer = set (c .buffer) (c .at) b; at = c .at + 1 }) c .at) (le-ltb (c .at) (length (c .buffer)) m)))
 
+-- a text that is put into zeros
+abbrev pub zeros : ℕ → List ℕ
+zeros n = replicate n 0
+
+drop-zeros : (n k : ℕ) → k ≤ n → drop k (zeros n) ≡ zeros (n - k)
+drop-zeros n k l =
+    ap (λ (m : ℕ). drop k (zeros m)) (let e : n ≡ k + (n - k) = omega arith in e) ∙ ap (drop k) (sym (replicate-append-replicate {A = ℕ} k (n - k) 0))
+    ∙ drop-at (zeros k) (zeros (n - k)) k (length-replicate {A = ℕ} k 0)
+
+pub zeros-under : (room : ℕ) (text : List ℕ) → length text ≤ room → text ++ drop (length text) (zeros room) ≡ text ++ zeros (room - length text)
+zeros-under room text l = ap (λ (xs : List ℕ). text ++ xs) (drop-zeros room (length text) l)
+
+pub padded : (room : ℕ) (text y : List ℕ) (n : ℕ) → length text ≤ room → Puts (zeros room) 0 text y n → IsPadded room text y n
+padded room text y n l p =
+    record {
+      fits = l;
+      bytes = puts-whole (zeros room) 0 text y n p front ∙ ap (λ (k : ℕ). text ++ drop k (zeros room)) (zero-add (length text)) ∙ zeros-under room text l;
+      length = puts-end (zeros room) 0 text y n p front ∙ zero-add (length text);
+    }
+  where
+    front : 0 + length text ≤ length (zeros room)
+    front = omega (arith, l, length-replicate {A = ℕ} room 0)
+
 -- a line that is put into zeros and ends before they do
 module _ (w : List ℕ) (y : List ℕ) (m : ℕ) (z : List ℕ) (r : ℕ) (p : Puts (replicate 4361 0) 0 w y m) (l : m ≤ 4360) (q : Puts y m (10 ∷ []) z r) where
-  pub line-done : (text : List ℕ) → text ≡ w ++ (10 ∷ []) → IsLine text (record { bytes = z; length = r })
-  line-done text e = subst (λ (t : List ℕ). IsLine t (record { bytes = z; length = r })) (sym e) done
+  pub line-done : (text : List ℕ) → text ≡ w ++ (10 ∷ []) → IsPadded longest text z r
+  line-done text e =
+      subst (λ (t : List ℕ). IsPadded longest t z r) (sym e)
+      (padded longest (w ++ (10 ∷ [])) z r (omega (arith, l, long, length-append w (10 ∷ []))) (puts-join (replicate 4361 0) 0 w y m (10 ∷ []) z r p q))
     where
       long : m ≡ length w
       long =
           let i : m ≡ putAll (record { buffer = replicate 4361 0; at = 0 }) w .at = ap (λ (c : Cursor). c .at) (p .is) in
           omega (arith, i, all-whole (record { buffer = replicate 4361 0; at = 0 }) w (omega (arith, i, l, length-replicate {A = ℕ} 4361 0)))
-
-      fits : length (w ++ (10 ∷ [])) ≤ 4361
-      fits = omega (arith, l, long, length-append w (10 ∷ []))
-
-      is : _≡_ {A = Cursor} (record { buffer = z; at = r }) (record { buffer = (w ++ (10 ∷ [])) ++ replicate (4361 - length (w ++ (10 ∷ []))) 0; at = length (w ++ (10 ∷ [])) })
-      is = puts-join (replicate 4361 0) 0 w y m (10 ∷ []) z r p q .is ∙ all-behind [] 4361 (w ++ (10 ∷ [])) fits
-          ∙ ap (λ (i : ℕ). record { buffer = (w ++ (10 ∷ [])) ++ replicate (4361 - length (w ++ (10 ∷ []))) 0; at = i }) (zero-add (length (w ++ (10 ∷ []))))
-
-      done : IsLine (w ++ (10 ∷ [])) (record { bytes = z; length = r })
-      done = record { fits = fits; bytes = ap (λ (c : Cursor). c .buffer) is; length = ap (λ (c : Cursor). c .at) is }
 
 text-is : (w v : List ℕ) (ws : List (List ℕ)) → line (w ∷ v ∷ ws) ≡ ((w ++ (32 ∷ [])) ++ (v ++ spaced ws)) ++ (10 ∷ [])
 unfolding spaced
@@ -282,7 +313,7 @@ module _ (o : RowOutcome) (k : Code) (e : k ≡ replyCode o) (s : NetState) (x :
 -- the line of a row, and that of a card, part by part
 pub reply-done : (o : RowOutcome) (s : NetState) (n : ℕ) (y : List ℕ) (m : ℕ) (u : List ℕ) (k : ℕ) (v : List ℕ) (j : ℕ) (z : List ℕ) (r : ℕ) → n < 2 ^ 64
     → Puts (replicate 4361 0) 0 (decimal n) y m → Puts y m (32 ∷ []) u k → Puts u k (joined (replyWords o s)) v j → j ≤ k + 4339 → Puts v j (10 ∷ []) z r
-    → IsLine (line (decimal n ∷ replyWords o s)) (record { bytes = z; length = r })
+    → IsPadded longest (line (decimal n ∷ replyWords o s)) z r
 reply-done o s n y m u k v j z r i a b c l d =
     line-done ((decimal n ++ (32 ∷ [])) ++ joined (replyWords o s)) v j z r
     (puts-join (replicate 4361 0) 0 (decimal n ++ (32 ∷ [])) u k (joined (replyWords o s)) v j (puts-join (replicate 4361 0) 0 (decimal n) y m (32 ∷ []) u k a b) c)
@@ -292,5 +323,19 @@ reply-done o s n y m u k v j z r i a b c l d =
     (reply-text o s n)
 
 pub card-done : (n at : ℕ) (y : List ℕ) (m : ℕ) (z : List ℕ) (r : ℕ) → Puts (replicate 4361 0) 0 (joined (refusalWords n (some at))) y m → m ≤ 44 → Puts y m (10 ∷ []) z r
-    → IsLine (cardLine n at) (record { bytes = z; length = r })
+    → IsPadded longest (cardLine n at) z r
 card-done n at y m z r a l d = line-done (joined (refusalWords n (some at))) y m z r a (omega arith) d (cardLine n at) (card-text n at)
+
+-- a refusal's number, by another name
+pub numbered : (room n k at : ℕ) (bytes : List ℕ) (r : ℕ) → n ≡ k → IsPadded room (cardLine n at) bytes r → IsPadded room (cardLine k at) bytes r
+numbered room n k at bytes r e h = subst (λ (m : ℕ). IsPadded room (cardLine m at) bytes r) e h
+
+-- a line's text is its first bytes
+line-text : (text : List ℕ) (l : Line) → IsLine text l → take (l .length) (l .bytes) ≡ text
+line-text text l h = ap₂ (λ (n : ℕ) (xs : List ℕ). take n xs) (h .length) (h .bytes) ∙ take-append-seam text (replicate (longest - length text) 0)
+
+pub line-put : (l : Line) (x : List ℕ) (at : ℕ) (y : List ℕ) (r : ℕ) → (l .length ≤ length (l .bytes) → Puts x at (take (l .length) (l .bytes)) y r)
+    → (text : List ℕ) → IsLine text l → Puts x at text y r
+line-put l x at y r p text h =
+    subst (λ (w : List ℕ). Puts x at w y r) (line-text text l h)
+    (p (omega (arith, h .length, h .fits, ap length (h .bytes), length-append text (replicate (longest - length text) 0))))

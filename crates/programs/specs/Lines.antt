@@ -5,11 +5,13 @@ use mathlib.Core.Bool.{cond}
 use mathlib.Core.List.{List, [], _∷_, _++_}
 use lib.ListN.{length, set, replicate}
 use lib.Dec.{ltb}
+use Rattle.card.specs.Tables.{cardBytes}
 use Rattle.runners.specs.Numbers.{progress}
 use Rattle.programs.specs.Text.{ascii}
 use Rattle.programs.specs.Programs.{orElse}
 use Rattle.runners.specs.declared.Transfer.{Transfer}
 use Rattle.programs.specs.declared.line.Line.{Line}
+use Rattle.programs.specs.declared.flat.FlatText.{FlatText}
 
 -- a buffer, and where its next byte goes
 pub record Cursor : Type 0 where
@@ -43,12 +45,19 @@ joined (w ∷ ws) = w ++ spaced ws
 abbrev pub transferWord : Transfer → List ℕ
 transferWord x = orElse (ascii "-") (progress x)
 
--- The longest line: a row number of 20 digits, 255 markings of 10 digits, 255 progresses of 5, a space before each, ok, bar and newline.
+-- how many bytes the longest line has
 abbrev pub longest : ℕ
 longest = 4361
 
 -- the bytes of the text, with zeros behind them
-pub record IsLine (text : List ℕ) (l : Line) : Type 0 where
-  pub fits : length text ≤ longest
-  pub bytes : l .bytes ≡ text ++ replicate (longest - length text) 0
-  pub length : l .length ≡ length text
+pub record IsPadded (room : ℕ) (text padded : List ℕ) (n : ℕ) : Type 0 where
+  pub fits : length text ≤ room
+  pub bytes : padded ≡ text ++ replicate (room - length text) 0
+  pub length : n ≡ length text
+
+abbrev pub IsLine : (text : List ℕ) → Line → Type 0
+IsLine text l = IsPadded longest text (l .bytes) (l .length)
+
+-- what the flatten program writes, as the code hands it out
+abbrev pub IsFlatText : (text : List ℕ) → FlatText → Type 0
+IsFlatText text t = IsPadded cardBytes text (t .bytes) (t .length)

@@ -7,9 +7,10 @@ use runners::Reply;
 use runners::State;
 use runners::Transfer;
 use runners::replies::reply_code;
-ghost use Prim.Native.Nat.{_+_, _≤_};
-ghost use mathlib.Core.List.{[], _∷_, map};
+ghost use Prim.Native.Nat.{ℕ, _+_, _≤_};
+ghost use mathlib.Core.List.{List, [], _∷_, map};
 ghost use mathlib.Core.Option.{none, some};
+ghost use lib.ListN.{length, take};
 ghost use Rattle.hierarchy.specs.Numbers.{number};
 ghost use Rattle.runners.specs.Numbers.{rowOutcome};
 ghost use Rattle.runners.specs.Calls.{view};
@@ -17,9 +18,13 @@ ghost use Rattle.programs.specs.Text.{digit, decimal, line};
 ghost use Rattle.programs.specs.Programs.{replyWords, stateWords, refusalWords, cardLine};
 ghost use Rattle.programs.specs.Lines.{Puts, IsLine, spaced, joined, transferWord};
 
+// The bytes of the longest line: a row number of 20 digits, 255 markings of 10 digits, 255 progresses of 5, a space before each, ok, bar and
+// newline.
+pub const LONGEST: usize = 4361;
+
 // A line's bytes, newline and all, and zeros behind them.
 pub struct Line {
-    pub bytes: [u8; 4361],
+    pub bytes: [u8; LONGEST],
     pub length: usize,
 }
 
@@ -158,16 +163,69 @@ fn put_reply(out: &mut [u8], at: usize, reply: Reply, state: State) -> usize
     put_refusal_at(out, at, c.number, c.value as u64)
 }
 
+// Bytes one after another, as many as the buffer has room for. Two wrong ones that this rules out: one that begins at the buffer's front, and one
+// that stops at a zero.
+pub fn put_text(out: &mut [u8], at: usize, text: &[u8]) -> usize
+    ensures { λ r. ⌜ Puts (now (out .entry)) at (now (text .entry)) (now (out .exit)) r ⌝ }
+{
+    let mut next = at;
+    let mut i: usize = 0;
+    while i < text.len() {
+        next = put_byte(out, next, text[i]);
+        i += 1;
+    }
+    next
+}
+
+// The first n bytes of a text; nothing, if it has fewer.
+fn put_first(out: &mut [u8], at: usize, text: &[u8], n: usize) -> usize
+    ensures { λ r. ⌜ (n ≤ length (now (text .entry)) → Puts (now (out .entry)) at (take n (now (text .entry))) (now (out .exit)) r) ⌝ }
+{
+    if text.len() < n {
+        return at;
+    }
+    put_text(out, at, &text[..n])
+}
+
+// A line in a longer text. Two wrong ones that this rules out: one that puts the zeros behind the line too, and one that leaves the newline out.
+pub fn put_line(out: &mut [u8], at: usize, l: Line) -> usize
+    ensures { λ r. ⌜ ((text : List ℕ) → IsLine text l → Puts (now (out .entry)) at text (now (out .exit)) r) ⌝ }
+{
+    let bytes = l.bytes;
+    put_first(out, at, &bytes, l.length)
+}
+
+// No line.
+pub fn no_line() -> Line
+    ensures { λ r. ⌜ IsLine [] r ⌝ }
+{
+    Line {
+        bytes: [0; LONGEST],
+        length: 0,
+    }
+}
+
 // The line of row n. Two wrong ones that this rules out: one that prints fixed markings, and one that prints an idle transition as a
 // progress of 0.
 pub fn reply_line(n: u64, reply: Reply, state: State) -> Line
     ensures { λ r. ⌜ IsLine (line (decimal n ∷ replyWords (rowOutcome reply) (view state))) r ⌝ }
 {
-    let mut bytes = [0; 4361];
+    let mut bytes = [0; LONGEST];
     let a = put_decimal(&mut bytes, 0, n);
     let b = put_byte(&mut bytes, a, b' ');
     let c = put_reply(&mut bytes, b, reply, state);
     let length = put_byte(&mut bytes, c, b'\n');
+    Line { bytes, length }
+}
+
+// The line of a refusal that has a number and a value. Two wrong ones that this rules out: one that prints the value before the number, and one
+// that leaves the value out.
+pub fn refusal_line(number: u64, value: usize) -> Line
+    ensures { λ r. ⌜ IsLine (cardLine number value) r ⌝ }
+{
+    let mut bytes = [0; LONGEST];
+    let a = put_refusal_at(&mut bytes, 0, number, value as u64);
+    let length = put_byte(&mut bytes, a, b'\n');
     Line { bytes, length }
 }
 
@@ -176,8 +234,5 @@ pub fn reply_line(n: u64, reply: Reply, state: State) -> Line
 pub fn card_line(fault: CardFault, bit: usize) -> Line
     ensures { λ r. ⌜ IsLine (cardLine (number fault) bit) r ⌝ }
 {
-    let mut bytes = [0; 4361];
-    let a = put_refusal_at(&mut bytes, 0, fault_number(fault), bit as u64);
-    let length = put_byte(&mut bytes, a, b'\n');
-    Line { bytes, length }
+    refusal_line(fault_number(fault), bit)
 }

@@ -27,7 +27,7 @@ returns-2 c =
     let a = (c .before .before .before .before .before .before .before .args) in
     let n = (c .before .before .before .before .before .net-signals) in
     λ j h. file-present (a .net) (a .state) ((c .with-row) .result) (now (a .bytes)) (n .result) ((c .before .before .before .before .row-of) .result) ((c .before .before .before .before .row-of) .ensures .0) j h (n .ensures _ h) (test-holds ((c .before .before .before .before .row-of) .result .whole) ((c .before .before .before .before .row-of) .result .whole) refl ((c .before .before .if1) .left))
-    ((c .with-row) .ensures j h (few-signals (a .net) (a .state) ((c .with-row) .result) j h (n .result) (n .ensures _ h)))
+    ((c .with-row) .ensures j h (few-signals (a .net) j h (n .result) (n .ensures _ h)))
 
 pub file-row-spec : {M : Type 1} → statement M
 file-row-spec =
