@@ -2,41 +2,27 @@
 // card, one line: no, number, position. No such file: no bytes. A call is a row as in a rows file, and then the visiting order, a byte a
 // subnet. Of the calls the first 65,536 bytes are read; of a longer card the first INPUT_BYTES decide (long-input in card/proofs/LongInput.antt).
 use card::INPUT_BYTES;
+use console::put;
+use console::put_first;
+use console::read_file;
+use console::read_input;
 use hierarchy::Answer;
-use libc::STDIN_FILENO;
-use libc::STDOUT_FILENO;
 use programs::agree::agree;
 use programs::line::Line;
 use programs::line::card_line;
 use runners::fresh::fresh;
 
-fn read_card(card: &mut [u8]) -> usize {
-    let fd = os::open_read(b"net.card");
-    if fd < 0 {
-        return 0;
-    }
-    let n = io::read_full(fd, card);
-    libc::close(fd);
-    n
-}
-
-fn put_bytes(bytes: &[u8], n: usize) {
-    if n <= bytes.len() {
-        io::write_all(STDOUT_FILENO, &bytes[..n]);
-    }
-}
-
 fn put_line(l: Line) {
     let bytes = l.bytes;
-    put_bytes(&bytes, l.length);
+    put_first(&bytes, l.length);
 }
 
 fn put_agreed(yes: bool) {
     if yes {
-        io::write_all(STDOUT_FILENO, b"yes\n");
+        put(b"yes\n");
         return;
     }
-    io::write_all(STDOUT_FILENO, b"no\n");
+    put(b"no\n");
 }
 
 fn put_answer(card: &[u8], calls: &[u8]) {
@@ -51,13 +37,7 @@ fn put_answer(card: &[u8], calls: &[u8]) {
 fn main() {
     let mut card = [0; INPUT_BYTES];
     let mut calls = [0; 65536];
-    let n = read_card(&mut card);
-    let m = io::read_full(STDIN_FILENO, &mut calls);
-    if INPUT_BYTES < n {
-        return;
-    }
-    if 65536 < m {
-        return;
-    }
+    let n = read_file(b"net.card", &mut card);
+    let m = read_input(&mut calls);
     put_answer(&card[..n], &calls[..m]);
 }
