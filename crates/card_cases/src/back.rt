@@ -1,6 +1,5 @@
 // The numbers of a card, in its order, taken apart into tables.
 use crate::tables::LED;
-use crate::tables::wide;
 use card::ARC_FIELDS;
 use card::Counts;
 use card::HEADER_FIELDS;
@@ -8,6 +7,7 @@ use card::PLACE_FIELDS;
 use card::SUBNET_FIELDS;
 use card::TRANSITION_FIELDS;
 use card::tables::number_at;
+use console::cases::wide;
 ghost use mathlib.Core.Path.{_≡_};
 ghost use Prim.Native.Nat.{_<_, _≤_};
 ghost use lib.ListN.{length};

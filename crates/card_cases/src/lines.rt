@@ -1,18 +1,11 @@
 // The parts of the answers' lines.
-use libc::STDOUT_FILENO;
+use console::put;
+use console::put_number;
+use console::put_pair;
 ghost use Prim.Native.Nat.{_<_};
 
-pub fn put_text(text: &[u8]) {
-    io::write_all(STDOUT_FILENO, text);
-}
-
-pub fn put_number(n: u64) {
-    put_text(b" ");
-    io::print_decimal(STDOUT_FILENO, n);
-}
-
 pub fn put_counts(subnets: u64, places: u64, transitions: u64) {
-    put_text(b" ok");
+    put(b" ok");
     put_number(subnets);
     put_number(places);
     put_number(transitions);
@@ -20,25 +13,19 @@ pub fn put_counts(subnets: u64, places: u64, transitions: u64) {
 
 // A refusal's number, and its bit or the length that is needed.
 pub fn put_refusal(number: u64, value: usize) {
-    put_text(b" no");
-    put_number(number);
-    put_number(value as u64);
+    put_pair(b" no", number, value as u64);
 }
 
 pub fn put_length(n: usize) {
-    put_text(b" ok");
+    put(b" ok");
     put_number(n as u64);
 }
 
-fn put_byte(b: u8) {
-    io::print_hex(STDOUT_FILENO, b as u64, 2);
-}
-
 fn put_hex(bytes: &[u8]) {
-    put_text(b" ");
+    put(b" ");
     let mut i = 0;
     while i < bytes.len() {
-        put_byte(bytes[i]);
+        console::put_hex(bytes[i]);
         i += 1;
     }
 }

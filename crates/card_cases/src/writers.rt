@@ -1,14 +1,14 @@
 // The answers of the two writers to tables, each with a buffer that is filled with other bytes, all of which are shown.
 use crate::lines::put_bytes;
 use crate::lines::put_length;
-use crate::lines::put_number;
 use crate::lines::put_refusal;
-use crate::lines::put_text;
 use card::Head;
 use card::writer::CardSpelt;
 use card::writer::SpellAnswer;
 use card::writer::put_card;
 use card::writer::spell;
+use console::put;
+use console::put_number;
 use hierarchy::SHORT_BUFFER;
 use hierarchy::Written;
 use hierarchy::write::write;
@@ -18,7 +18,7 @@ fn put_outcome(done: bool, n: usize) {
     if done {
         put_length(n);
     } else {
-        put_text(b" short");
+        put(b" short");
         put_number(n as u64);
     }
 }
@@ -44,25 +44,25 @@ fn put_whole_card(bytes: &[u8], n: usize, room: usize)
 fn put_spelt(s: CardSpelt, room: usize)
     requires { ⌜ room < 65536 ⌝ }
 {
-    put_text(b"spell");
+    put(b"spell");
     let bytes = s.bytes;
     let a = s.answer;
     match a {
         SpellAnswer::Whole(n) => put_whole_card(&bytes, n, room),
         SpellAnswer::Refused(f, at) => put_refusal(card::fault_number(f), at),
     }
-    put_text(b"\n");
+    put(b"\n");
 }
 
 fn put_written(w: Written, out: &[u8]) {
-    put_text(b"write");
+    put(b"write");
     match w {
         Written::Wrote(n) => put_length(n),
         Written::Refused(f, at) => put_refusal(hierarchy::fault_number(f), at),
         Written::Short(n) => put_refusal(SHORT_BUFFER, n),
     }
     put_bytes(out);
-    put_text(b"\n");
+    put(b"\n");
 }
 
 fn put_write(

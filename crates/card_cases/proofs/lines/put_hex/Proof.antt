@@ -1,3 +1,4 @@
+-- `card_cases::lines::put_hex` meets its contract. Assumes nothing.
 use Prim.Native.Nat.{_-_, _≤_}
 use lib.ListN.{length}
 use borrow.Author.Needs.{needs}
@@ -10,20 +11,20 @@ Inv-loop bytes i₀ i = i ≤ length bytes
 abbrev μ-loop : tie.MeasureT-loop
 μ-loop bytes i₀ i = length bytes - i
 
-slice-aggregate-put-text : tie.Need-slice-aggregate-put-text Inv-loop μ-loop
-slice-aggregate-put-text c = search needs
+slice-aggregate-put : tie.Need-slice-aggregate-put Inv-loop μ-loop
+slice-aggregate-put c = search needs
 
-put-text-requires : tie.Need-put-text-requires Inv-loop μ-loop
-put-text-requires c κs = search needs
+put-requires : tie.Need-put-requires Inv-loop μ-loop
+put-requires c κs = search needs
 
 loop-holds : tie.Need-loop-holds Inv-loop μ-loop
 loop-holds c = search needs
 
-shared-slice-read-put-byte : tie.Need-shared-slice-read-put-byte Inv-loop μ-loop
-shared-slice-read-put-byte c = search needs
+shared-slice-read-put-hex : tie.Need-shared-slice-read-put-hex Inv-loop μ-loop
+shared-slice-read-put-hex c = search needs
 
-put-byte-requires : tie.Need-put-byte-requires Inv-loop μ-loop
-put-byte-requires c κs = search needs
+put-hex-requires : tie.Need-put-hex-requires Inv-loop μ-loop
+put-hex-requires c κs = search needs
 
 add-i : tie.Need-add-i Inv-loop μ-loop
 add-i c = search needs
@@ -43,11 +44,11 @@ put-hex-spec =
     (tie.spec
     Inv-loop
     μ-loop
-    slice-aggregate-put-text
-    put-text-requires
+    slice-aggregate-put
+    put-requires
     loop-holds
-    shared-slice-read-put-byte
-    put-byte-requires
+    shared-slice-read-put-hex
+    put-hex-requires
     add-i
     loop-less
     loop-again
