@@ -2,17 +2,17 @@
 use crate::lines::put_answer;
 use crate::lines::put_line;
 use crate::lines::put_state;
-use crate::numbers::next_number;
-use crate::numbers::number_at;
-use crate::numbers::numbers_in;
-use crate::numbers::wide;
 use crate::states::with_entry;
+use console::cases::number_at;
+use console::cases::numbers_in;
+use console::cases::wide;
+use console::put;
+use console::put_pair;
 use flattening::flatten;
 use hierarchy::Answer;
 use hierarchy::SHORT_BUFFER;
 use hierarchy::Written;
 use hierarchy::fault_number;
-use libc::STDOUT_FILENO;
 use programs::line::card_line;
 use runners::State;
 use runners::flat_runner::flat_row;
@@ -24,6 +24,14 @@ pub struct Held {
     pub flat: State,
     pub subnet: State,
     pub number: u64,
+}
+
+// No input has so many calls that the number stays.
+pub fn next_number(n: u64) -> u64 {
+    if n == u64::MAX {
+        return n;
+    }
+    n + 1
 }
 
 // A card: its refusal, or its fresh state.
@@ -59,26 +67,23 @@ fn called(card: &[u8], order: &[u16], row: &[u16], held: Held) -> Held {
     }
 }
 
-// The numbers 1 to start - 1 are the order, and those behind them, up to end, the row. A call that is not all there has no lines.
-fn split_call(card: &[u8], values: &[u16], start: usize, end: usize, held: Held) -> Held {
-    if values.len() < end {
+// The length of the order, the order, and the row. A call that is not all there has no lines.
+fn split_call(card: &[u8], numbers: &[u16], held: Held) -> Held {
+    if numbers.len() < 1 {
         return held;
     }
-    if end < start {
+    let start = 1 + wide(numbers[0]);
+    if numbers.len() < start {
         return held;
     }
-    if start < 1 {
-        return held;
-    }
-    called(card, &values[1..start], &values[start..end], held)
+    called(card, &numbers[1..start], &numbers[start..], held)
 }
 
-// A row call of both runners.
+// A row call of both runners, of 300 numbers at most.
 pub fn put_call(card: &[u8], body: &[u8], held: Held) -> Held {
-    let k = numbers_in(body);
-    let values = k.values;
-    let start = 1 + wide(number_at(body, 0));
-    split_call(card, &values, start, k.count, held)
+    let mut numbers = [0; 300];
+    let n = numbers_in(body, &mut numbers);
+    split_call(card, &numbers[..n], held)
 }
 
 // An entry of both states is set.
@@ -95,23 +100,16 @@ pub fn set_entry(body: &[u8], held: Held) -> Held {
     }
 }
 
-fn put_outcome(word: &[u8], number: u64, value: usize) {
-    io::write_all(STDOUT_FILENO, word);
-    io::print_decimal(STDOUT_FILENO, number);
-    io::write_all(STDOUT_FILENO, b" ");
-    io::print_decimal(STDOUT_FILENO, value as u64);
-    io::write_all(STDOUT_FILENO, b"\n");
-}
-
 fn put_written(card: &[u8], out: &mut [u8]) {
     let w = flatten(card, out);
     match w {
-        Written::Wrote(n) => put_outcome(b"flat ok ", 0, n),
-        Written::Refused(f, at) => put_outcome(b"flat no ", fault_number(f), at),
-        Written::Short(n) => put_outcome(b"flat no ", SHORT_BUFFER, n),
+        Written::Wrote(n) => put_pair(b"flat ok", 0, n as u64),
+        Written::Refused(f, at) => put_pair(b"flat no", fault_number(f), at as u64),
+        Written::Short(n) => put_pair(b"flat no", SHORT_BUFFER, n as u64),
     }
-    io::write_all(STDOUT_FILENO, out);
-    io::write_all(STDOUT_FILENO, b"\n");
+    put(b"\n");
+    put(out);
+    put(b"\n");
 }
 
 // The flat card, put into a buffer that is filled with other bytes.

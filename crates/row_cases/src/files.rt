@@ -1,6 +1,6 @@
 // A rows file, row by row, as the run program answers it.
+use crate::calls::next_number;
 use crate::lines::put_line;
-use crate::numbers::next_number;
 use hierarchy::Answer;
 use programs::feed::file_row;
 use programs::file::row_bytes;

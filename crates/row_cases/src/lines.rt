@@ -1,20 +1,14 @@
 // The lines of an answer: the reply's, that of a refused call's state, and that of the degrees.
-use libc::STDOUT_FILENO;
+use console::put_first;
 use programs::line::Line;
 use programs::line::reply_line;
 use runners::Reply;
 use runners::RowAnswer;
 use runners::State;
 
-fn put_bytes(bytes: &[u8], n: usize) {
-    if n <= bytes.len() {
-        io::write_all(STDOUT_FILENO, &bytes[..n]);
-    }
-}
-
 pub fn put_line(l: Line) {
     let bytes = l.bytes;
-    put_bytes(&bytes, l.length);
+    put_first(&bytes, l.length);
 }
 
 fn widened(degrees: [u16; 63]) -> [u32; 255] {

@@ -9,7 +9,6 @@
 mod calls;
 mod files;
 mod lines;
-mod numbers;
 mod states;
 
 use crate::calls::Held;
@@ -18,52 +17,12 @@ use crate::calls::put_call;
 use crate::calls::put_flat;
 use crate::calls::set_entry;
 use crate::files::put_file;
-use crate::numbers::number_at;
-use crate::numbers::wide;
-use libc::STDIN_FILENO;
+use console::cases::Lead;
+use console::cases::no_case;
+use console::cases::read_lead;
+use console::cases::read_rest;
 ghost use mathlib.Core.Path.{_≡_};
-ghost use Prim.Native.Nat.{_<_, _≤_};
 ghost use lib.ListN.{length};
-
-// A case's kind and length.
-struct Lead {
-    kind: u8,
-    length: usize,
-}
-
-// Where the input ends inside a case.
-fn ended() -> Lead
-    ensures { λ r. ⌜ r .length < 65536 ⌝ }
-{
-    Lead {
-        kind: 255,
-        length: 0,
-    }
-}
-
-fn read_lead() -> Lead
-    ensures { λ r. ⌜ r .length < 65536 ⌝ }
-{
-    let mut head = [0; 3];
-    let n = io::read_full(STDIN_FILENO, &mut head);
-    if n < 3 {
-        return ended();
-    }
-    Lead {
-        kind: head[0],
-        length: wide(number_at(&head, 1)),
-    }
-}
-
-// Whether the next n bytes are all there.
-fn read_part(buffer: &mut [u8], n: usize) -> bool
-    ensures { λ r. ⌜ length (now (buffer .exit)) ≡ length (now (buffer .entry)) ⌝ }
-{
-    if buffer.len() < n {
-        return false;
-    }
-    io::read_full(STDIN_FILENO, &mut buffer[..n]) == n
-}
 
 fn answer(kind: u8, card: &[u8], case: &[u8], held: Held) -> Held {
     if kind == 1 {
@@ -80,28 +39,6 @@ fn answer(kind: u8, card: &[u8], case: &[u8], held: Held) -> Held {
     held
 }
 
-// A call, whose bytes are the first n.
-fn answer_first(kind: u8, card: &[u8], body: &[u8], n: usize, held: Held) -> Held {
-    if body.len() < n {
-        return held;
-    }
-    answer(kind, card, &body[..n], held)
-}
-
-// The next case: of a card its lead alone, of a call its bytes too.
-fn read_case(body: &mut [u8]) -> Lead
-    ensures { λ r. ⌜ length (now (body .exit)) ≡ length (now (body .entry)) ⌝ }
-{
-    let lead = read_lead();
-    if lead.kind == 0 {
-        return lead;
-    }
-    if read_part(body, lead.length) {
-        return lead;
-    }
-    ended()
-}
-
 // The calls after a card. The case behind them is the answer.
 fn put_calls(card: &[u8], body: &mut [u8], first: Held) -> Lead
     ensures { λ r. ⌜ length (now (body .exit)) ≡ length (now (body .entry)) ⌝ }
@@ -109,38 +46,36 @@ fn put_calls(card: &[u8], body: &mut [u8], first: Held) -> Lead
     let mut held = first;
     let mut turns = u64::MAX;
     while 0 < turns {
-        let lead = read_case(body);
-        if lead.kind == 0 || 4 < lead.kind {
+        let lead = read_lead();
+        if lead.kind == 0 {
             return lead;
         }
-        held = answer_first(lead.kind, card, body, lead.length, held);
+        let call = read_rest(lead, body);
+        if 4 < call.kind {
+            return call;
+        }
+        let n = call.length;
+        held = answer(call.kind, card, &body[..n], held);
         turns -= 1;
     }
-    ended()
+    no_case()
 }
 
-// The card in the first n bytes, and the calls with it.
-fn put_first(card: &[u8], body: &mut [u8], n: usize) -> Lead
+// A card, which is still to be read, and the calls with it. The case behind them is the answer.
+fn put_case(lead: Lead, card: &mut [u8], body: &mut [u8]) -> Lead
+    ensures { λ r. ⌜ length (now (card .exit)) ≡ length (now (card .entry)) ⌝ }
     ensures { λ r. ⌜ length (now (body .exit)) ≡ length (now (body .entry)) ⌝ }
 {
-    if card.len() < n {
-        return ended();
+    let case = read_rest(lead, card);
+    if case.kind != 0 {
+        return case;
     }
+    let n = case.length;
     let held = begin(&card[..n]);
     put_calls(&card[..n], body, held)
 }
 
-// A card of n bytes, which is still to be read, and the calls with it. The case behind them is the answer.
-fn put_case(card: &mut [u8], body: &mut [u8], n: usize) -> Lead
-    ensures { λ r. ⌜ length (now (card .exit)) ≡ length (now (card .entry)) ⌝ }
-    ensures { λ r. ⌜ length (now (body .exit)) ≡ length (now (body .entry)) ⌝ }
-{
-    if !read_part(card, n) {
-        return ended();
-    }
-    put_first(card, body, n)
-}
-
+// Nothing says that an input ends, so the turns are counted, from a number that no run uses up.
 fn put_cases(card: &mut [u8], body: &mut [u8]) {
     let mut turns = u64::MAX;
     let mut lead = read_lead();
@@ -148,7 +83,7 @@ fn put_cases(card: &mut [u8], body: &mut [u8]) {
         if lead.kind != 0 {
             return;
         }
-        lead = put_case(card, body, lead.length);
+        lead = put_case(lead, card, body);
         turns -= 1;
     }
 }

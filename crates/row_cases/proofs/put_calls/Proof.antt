@@ -1,15 +1,9 @@
 -- `row_cases::put_calls` meets its contract. Assumes nothing.
-use Prim.Native.Nat.{_-_}
 use mathlib.Core.Path.{_≡_}
 use lib.ListN.{length}
 use borrow.Author.Needs.{needs}
 use Rattle.row_cases.proofs.put_calls.Statement.{statement}
 use Rattle.row_cases.proofs.put_calls.Tie as tie
-use Rattle.row_cases.proofs.put_calls.Reads as reads
-use Rattle.row_cases.proofs.put_calls.Lts as lts
-use Rattle.row_cases.proofs.answer_first.Reads as answer-first-reads
-use Rattle.row_cases.proofs.ended.Reads as ended-reads
-use Rattle.row_cases.proofs.read_case.Reads as read-case-reads
 
 abbrev Inv-loop : tie.InvT-loop
 Inv-loop card body₀ held₀ turns₀ body held turns = length body ≡ length body₀
@@ -20,8 +14,8 @@ abbrev μ-loop : tie.MeasureT-loop
 loop-holds : tie.Need-loop-holds Inv-loop μ-loop
 loop-holds c = search needs
 
-read-case-requires : tie.Need-read-case-requires Inv-loop μ-loop
-read-case-requires c κs = search needs
+read-lead-requires : tie.Need-read-lead-requires Inv-loop μ-loop
+read-lead-requires c κs = search needs
 
 same-length : tie.Need-same-length Inv-loop μ-loop
 same-length c = search needs
@@ -29,8 +23,23 @@ same-length c = search needs
 returns : tie.Need-returns Inv-loop μ-loop
 returns c = search needs
 
-answer-first-requires : tie.Need-answer-first-requires Inv-loop μ-loop
-answer-first-requires c κs = search needs
+read-rest-requires : tie.Need-read-rest-requires Inv-loop μ-loop
+read-rest-requires c κs = search needs
+
+same-length-2 : tie.Need-same-length-2 Inv-loop μ-loop
+same-length-2 c = search needs
+
+returns-2 : tie.Need-returns-2 Inv-loop μ-loop
+returns-2 c = search needs
+
+slice-reshare-prefix-answer : tie.Need-slice-reshare-prefix-answer Inv-loop μ-loop
+slice-reshare-prefix-answer c = search needs
+
+slice-aggregate-answer : tie.Need-slice-aggregate-answer Inv-loop μ-loop
+slice-aggregate-answer c = search needs
+
+answer-requires : tie.Need-answer-requires Inv-loop μ-loop
+answer-requires c κs = search needs
 
 sub-turns : tie.Need-sub-turns Inv-loop μ-loop
 sub-turns c = search needs
@@ -41,14 +50,14 @@ loop-less c = search needs
 loop-again : tie.Need-loop-again Inv-loop μ-loop
 loop-again c = search needs
 
-ended-requires : tie.Need-ended-requires Inv-loop μ-loop
-ended-requires c κs = search needs
+no-case-requires : tie.Need-no-case-requires Inv-loop μ-loop
+no-case-requires c κs = search needs
 
-same-length-2 : tie.Need-same-length-2 Inv-loop μ-loop
-same-length-2 c = search needs
+same-length-3 : tie.Need-same-length-3 Inv-loop μ-loop
+same-length-3 c = search needs
 
-returns-2 : tie.Need-returns-2 Inv-loop μ-loop
-returns-2 c = search needs
+returns-3 : tie.Need-returns-3 Inv-loop μ-loop
+returns-3 c = search needs
 
 pub put-calls-spec : {M : Type 1} → statement M
 put-calls-spec =
@@ -57,13 +66,18 @@ put-calls-spec =
     Inv-loop
     μ-loop
     loop-holds
-    read-case-requires
+    read-lead-requires
     same-length
     returns
-    answer-first-requires
+    read-rest-requires
+    same-length-2
+    returns-2
+    slice-reshare-prefix-answer
+    slice-aggregate-answer
+    answer-requires
     sub-turns
     loop-less
     loop-again
-    ended-requires
-    same-length-2
-    returns-2)
+    no-case-requires
+    same-length-3
+    returns-3)

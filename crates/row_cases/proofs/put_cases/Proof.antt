@@ -1,14 +1,9 @@
 -- `row_cases::put_cases` meets its contract. Assumes nothing.
-use Prim.Native.Nat.{_-_}
 use mathlib.Core.Path.{_≡_}
 use lib.ListN.{length}
 use borrow.Author.Needs.{needs}
 use Rattle.row_cases.proofs.put_cases.Statement.{statement}
 use Rattle.row_cases.proofs.put_cases.Tie as tie
-use Rattle.row_cases.proofs.put_cases.Reads as reads
-use Rattle.row_cases.proofs.put_cases.Lts as lts
-use Rattle.row_cases.proofs.put_case.Reads as put-case-reads
-use Rattle.row_cases.proofs.read_lead.Reads as read-lead-reads
 
 abbrev Inv-loop : tie.InvT-loop
 Inv-loop card₀ body₀ turns₀ lead₀ card body turns lead = (length card ≡ length card₀) × (length body ≡ length body₀)

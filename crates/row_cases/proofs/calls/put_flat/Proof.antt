@@ -4,11 +4,6 @@ use lib.ListN.{length-take}
 use borrow.Author.Needs.{needs}
 use Rattle.row_cases.proofs.calls.put_flat.Statement.{statement}
 use Rattle.row_cases.proofs.calls.put_flat.Tie as tie
-use Rattle.row_cases.proofs.calls.put_flat.Reads as reads
-use Rattle.row_cases.proofs.calls.put_flat.Lts as lts
-use Rattle.row_cases.proofs.calls.put_written.Reads as put-written-reads
-use Rattle.row_cases.proofs.numbers.number_at.Reads as number-at-reads
-use Rattle.row_cases.proofs.numbers.wide.Reads as wide-reads
 
 number-at-requires : tie.Need-number-at-requires
 number-at-requires c κs = search needs
