@@ -6,20 +6,11 @@ mod rows;
 use crate::rows::put_line;
 use crate::rows::put_rows_of;
 use card::INPUT_BYTES;
+use console::read_file;
 use hierarchy::Answer;
 use programs::line::card_line;
 use runners::flat_runner::flat_net;
 use runners::fresh::fresh;
-
-fn read_card(card: &mut [u8]) -> usize {
-    let fd = os::open_read(b"net.card");
-    if fd < 0 {
-        return 0;
-    }
-    let n = io::read_full(fd, card);
-    libc::close(fd);
-    n
-}
 
 fn run(card: &[u8]) {
     let f = fresh(card);
@@ -33,8 +24,6 @@ fn run(card: &[u8]) {
 
 fn main() {
     let mut card = [0; INPUT_BYTES];
-    let n = read_card(&mut card);
-    if n <= INPUT_BYTES {
-        run(&card[..n]);
-    }
+    let n = read_file(b"net.card", &mut card);
+    run(&card[..n]);
 }

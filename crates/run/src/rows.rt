@@ -1,7 +1,7 @@
 // The rows of standard input, answered one after another. A row is answered as soon as it is there, so that rows can come from a pipe that
 // stays open.
-use libc::STDIN_FILENO;
-use libc::STDOUT_FILENO;
+use console::put_first;
+use console::read_some;
 use programs::feed::file_row;
 use programs::file::row_bytes;
 use programs::line::Line;
@@ -20,15 +20,9 @@ struct Progress {
     at: usize,
 }
 
-fn put_bytes(bytes: &[u8], n: usize) {
-    if n <= bytes.len() {
-        io::write_all(STDOUT_FILENO, &bytes[..n]);
-    }
-}
-
 pub fn put_line(l: Line) {
     let bytes = l.bytes;
-    put_bytes(&bytes, l.length);
+    put_first(&bytes, l.length);
 }
 
 // No input has so many rows that the number stays.
@@ -65,14 +59,6 @@ fn put_rows(net: Net, p: Progress, bytes: &[u8], size: usize) -> Progress
     }
     q.at = at;
     q
-}
-
-// Reads what is there, and says how many bytes that is; none at the input's end.
-fn read_some(part: &mut [u8]) -> usize
-    ensures { λ r. ⌜ (length (now (part .exit)) ≡ length (now (part .entry))) × (r ≤ length (now (part .entry))) ⌝ }
-{
-    let got = libc::read(STDIN_FILENO, part);
-    io::count(got, part)
 }
 
 // Reads behind the bytes that are there, and says how many there are now.
