@@ -7,6 +7,9 @@
  *
  * A buffer is a pointer and how many entries it has; the pointer is never NULL, also where there are none. Buffers that a function writes
  * overlap no other argument of the same call. Nothing is kept between calls.
+ *
+ * A call takes no memory but stack: at most NET_STACK_BYTES, whatever the card. That the thread has so much left is the caller's part, as
+ * the pointers are. With less the call runs over the end of the stack, and no refusal tells it.
  */
 #ifndef NET_RUNNER_H
 #define NET_RUNNER_H
@@ -24,6 +27,9 @@ extern "C" {
 #define NET_SIGNALS 63
 #define NET_SUBNETS 32
 #define NET_CARD_BYTES 22770
+
+/* The stack that a call needs, at most. The most that was measured is 441928 bytes (docs/PERFORMANCE.md has each function's). */
+#define NET_STACK_BYTES 524288
 
 /* An idle transition, among transfers; a carrying one is its progress, 0 to 999. */
 #define NET_IDLE 65535

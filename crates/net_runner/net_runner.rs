@@ -1,5 +1,6 @@
 //! The library's functions for Rust: declared as net_runner.h has them, which says what they do, and wrapped into safe ones on slices. A
-//! program that takes this file as a module links libnet_runner.a.
+//! program that takes this file as a module links libnet_runner.a. A call needs up to STACK_BYTES of stack: no thread that makes calls is
+//! started with less.
 
 extern "C" {
     fn net_check(card: *const u8, card_bytes: usize, counts: *mut usize, value: *mut usize) -> u64;
@@ -61,6 +62,9 @@ extern "C" {
 
 /// The most bytes that a card has.
 pub const CARD_BYTES: usize = 22770;
+
+/// The stack that a call needs, at most.
+pub const STACK_BYTES: usize = 524288;
 
 /// An idle transition, among transfers.
 pub const IDLE: u16 = 65535;
