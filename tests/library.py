@@ -495,7 +495,8 @@ def built():
 
 def compiled_harness(archive):
     program = folder / "harness"
-    command("gcc", "-O2", "-Wall", "-Wextra", "-Werror", "-I", "crates/net_runner", "tests/library/harness.c", archive, "-o", program)
+    command("gcc", "-O2", "-Wall", "-Wextra", "-Werror", "-pthread", "-I", "crates/net_runner", "tests/library/harness.c", archive,
+            "-o", program)
     return program
 
 
@@ -529,7 +530,7 @@ def embed_tests(archive):
 
 
 def size_tests():
-    """The most bytes of a card, which the code, the definitions, the header and the functions for Rust each have once."""
+    """The most bytes of a card, which the code, the definitions, the header and the functions for Rust each have once; a call's stack."""
     def number(file, pattern):
         return re.search(pattern, (root / "crates" / file).read_text(), re.M).group(1)
 
@@ -537,6 +538,8 @@ def size_tests():
     yield "cardBytes", number("card/specs/Tables.antt", r"^cardBytes = (\d+)$"), code
     yield "NET_CARD_BYTES", number("net_runner/net_runner.h", r"^#define NET_CARD_BYTES (\d+)$"), code
     yield "CARD_BYTES for Rust", number("net_runner/net_runner.rs", r"^pub const CARD_BYTES: usize = (\d+);$"), code
+    stack = number("net_runner/net_runner.h", r"^#define NET_STACK_BYTES (\d+)$")
+    yield "STACK_BYTES for Rust", number("net_runner/net_runner.rs", r"^pub const STACK_BYTES: usize = (\d+);$"), stack
 
 
 def main():

@@ -5,12 +5,17 @@
  * that begins with 'error' stands before the line of its call. It names memory that the call may not change and did: next to a buffer, in an
  * input, or anywhere in a refused call.
  *
+ * Each call runs on a thread with just the stack that the header says a call needs. The program ends where a call touches what lies below.
+ *
  * Compiled with -DMEMCHECK and run under valgrind, a read next to a buffer is an error too.
  */
+#define _GNU_SOURCE
 #include <inttypes.h>
+#include <pthread.h>
 #include <stdio.h>
 #include <stdlib.h>
 #include <string.h>
+#include <sys/mman.h>
 
 #include "net_runner.h"
 
@@ -19,6 +24,7 @@
 #endif
 
 #define GUARD 64
+#define BELOW_STACK (16 * NET_STACK_BYTES)
 #define MOST_BUFFERS 6
 
 enum use { INPUT, WRITTEN };
@@ -148,8 +154,53 @@ static uint64_t call(int function, struct block *b, size_t *value)
     }
 }
 
+/* A call that is made on another thread, and its answer. */
+struct made {
+    int function;
+    struct block *lent;
+    size_t *value;
+    uint64_t answer;
+};
+
+static void *make(void *argument)
+{
+    struct made *m = argument;
+    m->answer = call(m->function, m->lent, m->value);
+    return NULL;
+}
+
+static void must(int fine)
+{
+    if (!fine) {
+        fputs("harness: no thread\n", stderr);
+        exit(2);
+    }
+}
+
+/* The attributes of a thread with the stack that a call needs. */
+static pthread_attr_t least_stack(void)
+{
+    pthread_attr_t attributes;
+    uint8_t *memory = mmap(NULL, BELOW_STACK + NET_STACK_BYTES, PROT_NONE, MAP_PRIVATE | MAP_ANONYMOUS | MAP_NORESERVE, -1, 0);
+    must(memory != MAP_FAILED);
+    must(mprotect(memory + BELOW_STACK, NET_STACK_BYTES, PROT_READ | PROT_WRITE) == 0);
+    must(pthread_attr_init(&attributes) == 0);
+    must(pthread_attr_setstack(&attributes, memory + BELOW_STACK, NET_STACK_BYTES) == 0);
+    return attributes;
+}
+
+static uint64_t made(const pthread_attr_t *attributes, int function, struct block *lent, size_t *value)
+{
+    struct made m = {function, lent, value, 0};
+    pthread_t thread;
+    must(pthread_create(&thread, attributes, make, &m) == 0);
+    must(pthread_join(thread, NULL) == 0);
+    return m.answer;
+}
+
 int main(void)
 {
+    const pthread_attr_t attributes = least_stack();
     int number;
     for (unsigned turn = 0; (number = getchar()) != EOF; turn++) {
         if (number >= FUNCTIONS) {
@@ -168,7 +219,7 @@ int main(void)
             count++;
         }
         lend(&value);
-        uint64_t answer = call(number, lent, (size_t *)value.bytes);
+        uint64_t answer = made(&attributes, number, lent, (size_t *)value.bytes);
         compare(&value, f->name, "value", 1);
         for (int k = 0; k < count; k++)
             compare(&lent[k], f->name, f->lent[k].name, answer == 0 && f->lent[k].use == WRITTEN);
