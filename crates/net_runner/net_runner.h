@@ -50,7 +50,8 @@ uint64_t net_write(const uint16_t header[4], const uint16_t *subnets, size_t sub
 /* A state is three buffers: markings in thousandths of a token by flat place, transfers by flat transition (NET_IDLE or a progress), and the
  * last degree of each signal. A buffer of another size than the card's number of places, transitions or signals is 25. */
 
-/* 1 to 16, 25. */
+/* 1 to 16, 25. The buffers are the fresh state then, whatever stood there. 25 is a buffer that is too short or too long; it is not 24,
+ * which is for a card's bytes. net_check tells the sizes. */
 uint64_t net_fresh(const uint8_t *card, size_t card_bytes, uint32_t *markings, size_t places, uint16_t *transfers, size_t transitions,
                    uint16_t *degrees, size_t signals, size_t *value);
 
