@@ -2,11 +2,12 @@
 """docs/ARCHITECTURE.md tells the truth: each name in its tables is declared in the file beside it, and each file is there; and no module of the
 subnet runner makes or reads a flat card."""
 
-import pathlib
 import re
-import sys
 
-root = pathlib.Path(__file__).resolve().parent.parent
+from paths import root
+
+import report
+
 GROUP = re.compile(r"((?:`[^`]+`(?:, )?)+) in (\S+)")
 FILE = re.compile(r"^tests/\S+$")
 
@@ -67,10 +68,7 @@ def main():
                 elif FILE.match(part):
                     passed += (root / part).is_file()
                     wrong += [] if (root / part).is_file() else [f"{part} is not there"]
-    for text in wrong:
-        print(text)
-    print(f"{passed} passed, {len(wrong)} failed")
-    sys.exit(1 if wrong else 0)
+    report.close(passed, wrong)
 
 
 main()

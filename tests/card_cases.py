@@ -1,10 +1,12 @@
 #!/usr/bin/env python3
-"""The files of the program card_cases are those that make_card_cases.py writes now, and they have
-each answer of readers and writers at least twice."""
+"""The files of the program card_cases are those that its generator writes now, and they have each answer of readers and writers at least
+twice."""
 
-import sys
+import paths
 
+import generated
 import make_card_cases
+import report
 
 
 def refusals(*numbers):
@@ -28,16 +30,9 @@ def rare(lines):
 
 def main():
     files = make_card_cases.files()
-    wrong = [f"crates/card_cases/{name} is not what tests/make_card_cases.py writes"
-             for name, content in files.items()
-             if (make_card_cases.folder / name).read_bytes() != content]
-    lines = files["stdout"].decode().split("\n")
-    wrong += [f"{answer} is not there twice" for answer in rare(lines)]
-    for text in wrong:
-        print(text)
-    tested = len(files) + sum(map(len, ANSWERS.values()))
-    print(f"{tested - len(wrong)} passed, {len(wrong)} failed")
-    sys.exit(1 if wrong else 0)
+    faults = generated.stale(make_card_cases.folder, files)
+    faults += [f"{answer} is not there twice" for answer in rare(files["stdout"].decode().split("\n"))]
+    report.close(len(files) + sum(map(len, ANSWERS.values())) - len(faults), faults)
 
 
 main()

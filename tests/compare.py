@@ -12,12 +12,15 @@ import random
 import sys
 from typing import NamedTuple
 
-import layer3
-import programs
+import paths
 
 import cards
 import hierarchies
 import net
+import programs
+import random_input
+import row_calls
+import samples
 
 WORKERS = 2
 CARDS = 20000
@@ -36,58 +39,11 @@ class Tally(NamedTuple):
 # Random cases
 
 
-def random_card(rng):
-    """The bytes of a card: random, of a family, bent, or large."""
-    kind = rng.randrange(100)
-    if kind < 70:
-        return cards.random_bytes(rng)
-    if kind < 98:
-        card = hierarchies.random_family(rng)
-        for _ in range(rng.choice((0, 0, 0, 1, 2))):
-            card = hierarchies.bent(rng, card)
-        return net.encode(card)
-    count = rng.randint(1, 32)
-    card = cards.random_card(rng, most_subnets=count, most_rows=min(7, 254 // count), most_signals=63)
-    return net.encode(card)
-
-
-def random_order(rng, subnets):
-    """Each subnet once; in one of four, a bad one."""
-    order = rng.sample(range(subnets), subnets)
-    kind = rng.randrange(16)
-    if kind == 0:
-        order[rng.randrange(subnets)] = rng.choice((0, subnets - 1, subnets, 31, 32, 65535))
-    elif kind == 1:
-        order.pop()
-    elif kind == 2:
-        order.insert(rng.randrange(subnets + 1), rng.randrange(subnets + 1))
-    elif kind == 3:
-        order = rng.choices(range(subnets), k=subnets)
-    return order
-
-
-def rising_row(rng, last):
-    """Some signals rise, others stay or fall: transfers go on for several rows."""
-    return tuple(min(1000, degree + rng.randrange(500)) if rng.randrange(3) else rng.choice((0, degree))
-                 for degree in last)
-
-
-def too_high(rng, row, degrees):
-    """The row with some degrees above 1000."""
-    return tuple(rng.choice(degrees) if rng.randrange(2) else degree for degree in row)
-
-
-def random_call_row(rng, signals):
-    kind = rng.randrange(12)
-    row = cards.random_row(rng, signals + (kind == 0) - (kind == 1))
-    return too_high(rng, row, (1001, 1023, 65535)) if kind == 2 else row
-
-
 def random_entry(rng, state):
     """An entry of a state, or a count, and a value that may be out of range."""
-    field = rng.choice((layer3.MARKING, layer3.TRANSFER, layer3.DEGREE, rng.randint(layer3.PLACES, layer3.SIGNALS)))
-    if field >= layer3.PLACES:
-        size = len(state[field - layer3.PLACES])
+    field = rng.choice((row_calls.MARKING, row_calls.TRANSFER, row_calls.DEGREE, rng.randint(row_calls.PLACES, row_calls.SIGNALS)))
+    if field >= row_calls.PLACES:
+        size = len(state[field - row_calls.PLACES])
         return field, 0, rng.choice((size, size + 1, max(size - 1, 0), 255, 70000))
     at = rng.randrange(len(state[field]) + 1)
     return field, at, rng.choice((0, 1, 500, 999, 1000, 1001, 2000, 65535, rng.randrange(3001)))
@@ -101,8 +57,8 @@ def call_both(rng, cases, tally):
     for turn in range(4):
         if turn == 3 and rng.randrange(3) == 0:
             cases.set(*random_entry(rng, cases.lent[0].used()))
-        row = rising_row(rng, last) if turn and rng.randrange(2) else random_call_row(rng, signals)
-        replies = cases.call(random_order(rng, subnets), row)
+        row = random_input.rising_row(rng, last) if turn and rng.randrange(2) else random_input.row(rng, signals)
+        replies = cases.call(random_input.order(rng, subnets), row)
         last = row if len(row) == signals and max(row) <= 1000 else last
         for reply in replies:
             key = "ok" if reply == ("ok",) else reply[1]
@@ -115,10 +71,10 @@ def rows_file(rng, signals):
     last = signals * (0,)
     rows = []
     for _ in range(rng.randint(1, ROWS_A_CARD)):
-        row = rising_row(rng, last) if rng.randrange(4) else cards.random_row(rng, signals)
+        row = random_input.rising_row(rng, last) if rng.randrange(4) else samples.random_row(rng, signals)
         if rng.randrange(20) == 0:
-            row = too_high(rng, row, (1001, 1023))
-        rows.append(bytearray(net.encode_row(row)))
+            row = random_input.too_high(rng, row, (1001, 1023))
+        rows.append(bytearray(cards.encode_row(row)))
         last = tuple(min(1000, degree) for degree in row)
     if rng.randrange(4) == 0:
         rows[rng.randrange(len(rows))][-1] |= 1
@@ -128,7 +84,7 @@ def rows_file(rng, signals):
 
 def random_cases(rng, answers):
     """Cases with one card, and how many rows they have."""
-    cases = layer3.Cases(random_card(rng))
+    cases = row_calls.Cases(random_input.card(rng))
     length = len(cases.data)
     cases.flatten(rng.choice((0, length, length, max(length - rng.randrange(12), 0), length + 3)))
     if cases.refused:
@@ -204,17 +160,18 @@ def work(job):
 
 def long_inputs():
     """Cards longer than the largest, and many rows: the differences."""
-    bench = net.encode(cards.bench_card())
-    longest = net.encode(hierarchies.longest_card())
+    bench = cards.encode(samples.bench_card())
+    longest = cards.encode(hierarchies.longest_card())
     wrong = 0
     for data in (b"", bench + bytes(40000), longest + bytes(40000), longest + b"\1" + bytes(40000), bytes(70000), longest):
-        wrong += compare_programs(data, net.encode_row((1000,)))
-    rows = b"".join(net.encode_row((1000 * (i % 2), 500 * (i % 3))) for i in range(30000))
+        wrong += compare_programs(data, cards.encode_row((1000,)))
+    rows = b"".join(cards.encode_row((1000 * (i % 2), 500 * (i % 3))) for i in range(30000))
     wrong += compare_programs(bench, rows + b"\0")
     return wrong
 
 
 def main():
+    programs.need("run", "flatten", "row_cases")
     words = sys.argv[1:]
     seed = int(words[0]) if words else random.SystemRandom().randrange(1 << 32)
     count = int(words[1]) if len(words) > 1 else CARDS

@@ -12,12 +12,13 @@ import subprocess
 import sys
 import tempfile
 
-root = pathlib.Path(__file__).resolve().parent.parent
-sys.path.insert(0, str(root / "tests" / "second"))
+from paths import root
 
 import cards
 import make_card_cases
 import net
+import report
+import samples
 
 SIZES = {"most_subnets": 3, "most_rows": 3, "most_signals": 3}
 # What `rt check` leaves of them: layers that have not changed since are not proved again.
@@ -91,15 +92,15 @@ def programs(data, rows):
 
 
 def telling_cases():
-    return [statement for _, card, rows in cards.telling_cards()
-            for statement in programs(net.encode(card), b"".join(map(net.encode_row, rows)))]
+    return [statement for _, card, rows in samples.telling_cards()
+            for statement in programs(cards.encode(card), cards.encode_rows(rows))]
 
 
 def card_case(rng):
-    data = cards.random_bytes(rng, **SIZES)
+    data = samples.random_bytes(rng, **SIZES)
     card = net.accept(data)
     refused = isinstance(card, net.Refusal)
-    rows = cards.random_rows(rng, 1 if refused else card.signals, 4)
+    rows = samples.random_rows(rng, 1 if refused else card.signals, 4)
     return card.number if refused else "accepted", programs(data, rows)
 
 
@@ -107,7 +108,7 @@ def reached(rng, loaded, row_count):
     """A state that a few rows reach."""
     s = net.fresh(loaded)
     for _ in range(row_count):
-        s = net.row_step(loaded, s, cards.random_row(rng, loaded.signals))[1]
+        s = net.row_step(loaded, s, samples.random_row(rng, loaded.signals))[1]
     return s
 
 
@@ -121,7 +122,7 @@ def spoiled(rng, s):
 
 def call_case(rng):
     """Both row calls: states reached and spoiled, counts right and wrong, orders and rows of all kinds."""
-    data = net.encode(cards.any_card(rng, **SIZES))
+    data = cards.encode(samples.any_card(rng, **SIZES))
     loaded, parts = net.load_flat(data), net.load_subnets(data)
     s = reached(rng, loaded, rng.randrange(4))
     if rng.randrange(3) == 0:
@@ -133,7 +134,7 @@ def call_case(rng):
     order = rng.sample(range(len(parts.parts)), len(parts.parts))
     if rng.randrange(4) == 0:
         order[rng.randrange(len(order))] = rng.randrange(len(order) + 1)
-    row = cards.random_row(rng, loaded.signals + (rng.randrange(6) == 0))
+    row = samples.random_row(rng, loaded.signals + (rng.randrange(6) == 0))
     if right and net.state_valid(loaded, s):
         flat, after = net.row_call(data, s, row)
         sub, sub_after = net.subnet_row_call(data, net.split_state(parts, s), order, row)
@@ -151,9 +152,9 @@ def call_case(rng):
 
 def write_case(rng):
     """The writer: tables that fit or not, counts right or wrong, buffers long and short."""
-    card = cards.given_tables(rng, cards.any_card(rng, **SIZES))
+    card = samples.given_tables(rng, samples.any_card(rng, **SIZES))
     if rng.randrange(6) == 0:
-        card.arcs.append(net.Arc(0, 0, 0, 1))
+        card.arcs.append(cards.Arc(0, 0, 0, 1))
     length = rng.choice((0, 20, 60, 200))
     buffer = [rng.randrange(256) for _ in range(length)]
     answer = net.write_card(card, length)
@@ -212,37 +213,39 @@ use Rattle.runners.specs.declared.Transfer.the-variants.{Idle, Carrying}""", us
     return text
 
 
+def copied(folder, statements):
+    """A copy of the layers, with what was proved of them, and the crate of the theorems over them."""
+    for layer in layers():
+        shutil.copytree(root / "crates" / layer, folder / "crates" / layer)
+    shutil.copy(root / "crates.txt", folder)
+    for part in PROVED:
+        if (root / "target" / part).is_dir():
+            shutil.copytree(root / "target" / part, folder / "target" / part)
+    with open(folder / "crates.txt", "a") as listing:
+        listing.write(f"computed: {' '.join(layers())}\n")
+    for part in ("src", "specs", "proofs"):
+        (folder / "crates/computed" / part).mkdir(parents=True)
+    (folder / "crates/computed/src/lib.rt").write_text("pub enum Computed {\n    Case,\n}\n")
+    (folder / "crates/computed/specs/Lib.antt").write_text("\n")
+    (folder / "crates/computed/proofs/Lib.antt").write_text("mod Cases\n")
+    (folder / "crates/computed/proofs/Cases.antt").write_text(theorems(statements))
+
+
 def main():
+    report.need_commands("rt")
     seed = int(sys.argv[1]) if len(sys.argv) > 1 else 1
-    print(f"seed {seed}")
+    print(f"seed {seed}", flush=True)
     rng = random.Random(seed)
     statements = telling_cases() + [s for make, wanted in ((card_case, CARDS), (call_case, CALLS), (write_case, TABLES))
-                  for s in sample(rng, make, wanted)]
+                                    for s in sample(rng, make, wanted)]
     with tempfile.TemporaryDirectory() as folder:
-        copy = pathlib.Path(folder)
-        for layer in layers():
-            shutil.copytree(root / "crates" / layer, copy / "crates" / layer)
-        shutil.copy(root / "crates.txt", copy)
-        for part in PROVED:
-            if (root / "target" / part).is_dir():
-                shutil.copytree(root / "target" / part, copy / "target" / part)
-        with open(copy / "crates.txt", "a") as listing:
-            listing.write(f"computed: {' '.join(layers())}\n")
-        for part in ("src", "specs", "proofs"):
-            (copy / "crates/computed" / part).mkdir(parents=True)
-        (copy / "crates/computed/src/lib.rt").write_text("pub enum Computed {\n    Case,\n}\n")
-        (copy / "crates/computed/specs/Lib.antt").write_text("\n")
-        (copy / "crates/computed/proofs/Lib.antt").write_text("mod Cases\n")
-        (copy / "crates/computed/proofs/Cases.antt").write_text(theorems(statements))
-        run = subprocess.run(["rt", "check", "computed"], cwd=copy, capture_output=True, text=True)
-    wrong = sorted(set(map(int, re.findall(r"`case-(\d+)`", run.stdout + run.stderr))))
-    for number in wrong:
-        print(f"case {number} does not hold:\n    {statements[number - 1]}")
+        copied(pathlib.Path(folder), statements)
+        run = subprocess.run(["rt", "check", "computed"], cwd=folder, capture_output=True, text=True)
+    output = run.stdout + run.stderr
+    wrong = sorted(set(map(int, re.findall(r"`case-(\d+)`", output))))
     if run.returncode != 0 and not wrong:
-        print((run.stdout + run.stderr)[-4000:])
-        wrong = range(len(statements))
-    print(f"{len(statements) - len(wrong)} passed, {len(wrong)} failed")
-    sys.exit(1 if wrong else 0)
+        report.close(0, [output[-4000:]])
+    report.close(len(statements) - len(wrong), [f"case {number} does not hold:\n    {statements[number - 1]}" for number in wrong])
 
 
 if __name__ == "__main__":

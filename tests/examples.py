@@ -1,21 +1,26 @@
 #!/usr/bin/env python3
-"""The examples' files are those that make_examples.py writes now, the run program prints their lines, and so does the command in README.md."""
+"""The examples' files are those that their generator writes now, and the run program and the command examples/run print their lines."""
 
 import subprocess
 
+import paths
+
+import generated
 import make_examples
 import programs
+import report
 
 
 def tests():
     """What is looked at, what is there, and what must be."""
-    for (name, file), content in make_examples.files().items():
-        yield f"examples/{name}/{file}", (make_examples.folder / name / file).read_bytes(), content
+    files = make_examples.files()
+    yield "the files of the examples", generated.stale(make_examples.folder, files), []
     for name in make_examples.EXAMPLES:
-        card, rows, expected = [(make_examples.folder / name / file).read_bytes() for file in ("net.card", "rows", "expected")]
-        yield f"run in examples/{name}", programs.run(card, rows), expected
+        expected = files[f"{name}/expected"]
+        yield f"run in examples/{name}", programs.run(files[f"{name}/net.card"], files[f"{name}/rows"]), expected
         script = subprocess.run([make_examples.folder / "run", name], capture_output=True)
         yield f"examples/run {name}", script.stdout, expected
 
 
-programs.compare(tests())
+programs.need("run")
+report.compare(tests())

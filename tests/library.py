@@ -19,18 +19,20 @@ import sys
 import tempfile
 from typing import NamedTuple
 
-import layer3
+from paths import root
 
 import cards
-import compare
 import hierarchies
 import make_card_cases
 import make_examples
 import make_row_cases
 import net
-from net import DRAW, FILL
+import random_input
+import report
+import row_calls
+import samples
+from cards import DRAW, FILL
 
-root = layer3.root
 folder = root / "target" / "library"
 CARDS = 3000
 ROWS_A_CARD = 16
@@ -53,8 +55,8 @@ REFUSALS = {
 }
 EACH = 3            # calls for each of them, at least
 
-BENCH = net.encode(cards.bench_card())
-ROBOT = net.encode(make_examples.robot())
+BENCH = cards.encode(samples.bench_card())
+ROBOT = cards.encode(make_examples.robot())
 
 
 class Call(NamedTuple):
@@ -81,10 +83,10 @@ def halves(values):
 def lent_state(state):
     """The three buffers of a state."""
     return [struct.pack(f"{len(state.markings)}I", *state.markings),
-            halves([layer3.IDLE if c is None else c for c in state.progress]), halves(state.degrees)]
+            halves([row_calls.IDLE if c is None else c for c in state.progress]), halves(state.degrees)]
 
 
-class Card(layer3.Answers):
+class Card(row_calls.Answers):
     """The calls with one card."""
 
     def __init__(self, data, rng):
@@ -170,16 +172,16 @@ def write(rng, tables):
 
 def refused_cards():
     """Cards of each number, and accepted ones."""
-    bench = cards.bench_card()
+    bench = samples.bench_card()
     yield from (BENCH[:length] for length in range(len(BENCH)))
     yield from make_card_cases.refused_cards(bench)
     yield from (cards.with_field(BENCH, 21, 5, type_) for type_ in (2, 16))
-    yield from make_card_cases.filled_cards(net.encode(net.flatten(bench)), 206)
+    yield from make_card_cases.filled_cards(cards.encode(net.flatten(bench)), 206)
     yield from make_card_cases.checked_cards(BENCH)
 
 
 def refused_tables():
-    bench = cards.bench_card()
+    bench = samples.bench_card()
     yield from make_card_cases.refused_tables(bench)
     yield make_card_cases.given(make_card_cases.changed(bench, "subnets", 0, "type", 2))
     yield from make_card_cases.edge_tables(bench)
@@ -197,7 +199,7 @@ def refusals(rng):
 
 def in_turn(rng):
     """Calls with each selection of faults: of several, the first in the paper's order counts."""
-    takers = net.encode(make_row_cases.TAKERS)
+    takers = cards.encode(make_row_cases.TAKERS)
     for data in (takers, takers[:-1], cards.with_field(takers, 0, 4, 2)):
         card = Card(data, rng)
         fresh = net.State((1000, 0, 0), (None, None), (0, 0))
@@ -241,23 +243,23 @@ def rooms(length):
 
 
 def lengths(rng):
-    full = cards.full_card((0, 0, 7), *31 * [(0, 1, 8)])
-    for tables in (cards.bench_card(), make_examples.robot(), full, hierarchies.longest_card(), hierarchies.random_family(rng)):
-        data = net.encode(tables)
+    full = samples.full_card((0, 0, 7), *31 * [(0, 1, 8)])
+    for tables in (samples.bench_card(), make_examples.robot(), full, hierarchies.longest_card(), hierarchies.random_family(rng)):
+        data = cards.encode(tables)
         card = Card(data, rng)
-        flat = net.encode(net.flatten(tables))
+        flat = cards.encode(net.flatten(tables))
         yield from (card.flatten(room) for room in rooms(len(flat)))
         yield from (Card(flat, rng).flatten(room) for room in (len(flat) - 1, len(flat)))
         yield from (write(rng, make_card_cases.given(tables, room)) for room in rooms(len(data)))
-    for tables in (cards.bench_card(), make_examples.robot(), full):
-        yield from lengths_of(Card(net.encode(tables), rng))
+    for tables in (samples.bench_card(), make_examples.robot(), full):
+        yield from lengths_of(Card(cards.encode(tables), rng))
     # Tables that have the right length in 16 bits, tables without rows, and cards that do.
     for index, row in enumerate(make_card_cases.SLICES.values()):
-        tables = make_card_cases.given(cards.bench_card(), 64)
+        tables = make_card_cases.given(samples.bench_card(), 64)
         for numbers in (tables.slices[index] + len(row._fields) * 65536 * [0], []):
             slices = [*tables.slices[:index], numbers, *tables.slices[index + 1:]]
             yield write(rng, tables._replace(slices=slices))
-    for data in (BENCH + bytes(256), BENCH + bytes(65536), bytes(70000), net.encode(full) + bytes(65536)):
+    for data in (BENCH + bytes(256), BENCH + bytes(65536), bytes(70000), cards.encode(full) + bytes(65536)):
         yield from Card(data, rng).every_function()
 
 
@@ -301,7 +303,7 @@ def orders(rng):
     for length in range(4):
         for order in itertools.product((0, 1, 2, 65535), repeat=length):
             yield bench.subnet_row(bench.state, order, (500, 500))[0]
-    card = Card(net.encode(cards.full_card((0, 0, 7), *31 * [(0, 1, 8)])), rng)
+    card = Card(cards.encode(samples.full_card((0, 0, 7), *31 * [(0, 1, 8)])), rng)
     row = 63 * (500,)
     for _ in range(10):
         yield card.subnet_row(card.state, rng.sample(card.order, 32), row)[0]
@@ -314,7 +316,7 @@ def orders(rng):
 
 
 def high_degrees(rng):
-    for card in (Card(BENCH, rng), Card(net.encode(cards.full_card((0, 0, 255))), rng)):
+    for card in (Card(BENCH, rng), Card(cards.encode(samples.full_card((0, 0, 255))), rng)):
         signals = card.flat.signals
         for signal in range(signals):
             for degree in (1001, 1024, 65535):
@@ -323,14 +325,14 @@ def high_degrees(rng):
 
 
 def conflicts(rng):
-    far = cards.one_subnet(2, 252 * [(1, 0)] + [(1, 1), (1, 0), (1, 0)],
+    far = samples.one_subnet(2, 252 * [(1, 0)] + [(1, 1), (1, 0), (1, 0)],
                            [(signal, [(DRAW, 252, 1), (FILL, 253 + signal, 1)]) for signal in (0, 1)])
     for tables in (make_row_cases.TAKERS, make_row_cases.three(2, 1), make_row_cases.three(2, 2), make_row_cases.FILLERS, far):
-        card = Card(net.encode(tables), rng)
+        card = Card(cards.encode(tables), rng)
         for row in ((500, 500), (1, 1), (1000, 1000), (500, 0), (0, 500)):
             yield from card.rows(card.state, card.order, row)
-    for _, tables, run in cards.telling_cards():
-        card = Card(net.encode(tables), rng)
+    for _, tables, run in samples.telling_cards():
+        card = Card(cards.encode(tables), rng)
         state = card.state
         for row in run:
             yield card.subnet_row(state, card.order, row)[0]
@@ -375,7 +377,7 @@ def random_marking(rng, card, state, at):
 
 
 def random_row(rng, signals, last):
-    return compare.rising_row(rng, last) if rng.randrange(2) else compare.random_call_row(rng, signals)
+    return random_input.rising_row(rng, last) if rng.randrange(2) else random_input.row(rng, signals)
 
 
 def random_rows(rng, card):
@@ -384,7 +386,7 @@ def random_rows(rng, card):
     for _ in range(ROWS_A_CARD):
         given = tampered(rng, card, state) if rng.randrange(4) == 0 else state
         row = random_row(rng, card.flat.signals, state.degrees)
-        order = compare.random_order(rng, len(card.order))
+        order = random_input.order(rng, len(card.order))
         flat, reply, after = card.flat_row(given, row)
         subnets, other, after_subnets = card.subnet_row(given, order, row)
         assert (reply, after) == (other, after_subnets) or other == ("refused", 23), "the second implementation's runners part"
@@ -396,7 +398,7 @@ def random_rows(rng, card):
 
 def random_calls(rng):
     """Calls with one card."""
-    data = compare.random_card(rng)
+    data = random_input.card(rng)
     card = Card(data, rng)
     yield card.check()
     yield write(rng, make_card_cases.random_tables(rng))
@@ -404,7 +406,7 @@ def random_calls(rng):
         yield from card.every_function()
         return
     tables = net.read_card(data)
-    needed = len(net.encode(net.flatten(tables)))
+    needed = len(cards.encode(net.flatten(tables)))
     room = rng.choice((0, needed - 1, needed, needed + 1, needed + 7))
     yield card.flatten(room)
     yield write(rng, make_card_cases.given(tables, len(data) + rng.choice((-1, 0, 1, 7))))
@@ -485,12 +487,17 @@ def command(*words, **more):
 
 
 def built():
-    """The archive."""
-    folder.mkdir(parents=True, exist_ok=True)
+    """The archive, and a folder for the programs that call it."""
+    report.need_commands("gcc", "rustc")
+    archive = root / "target" / "staticlib" / "libnet_runner.a"
     if "LIBRARY" in os.environ:
-        return pathlib.Path(os.environ["LIBRARY"]).resolve()
-    command("rt", "staticlib", "net_runner")
-    return root / "target" / "staticlib" / "libnet_runner.a"
+        archive = pathlib.Path(os.environ["LIBRARY"]).resolve()
+    else:
+        report.need_commands("rt")
+        command("rt", "staticlib", "net_runner")
+    report.need_built(archive, "rt staticlib net_runner")
+    folder.mkdir(parents=True, exist_ok=True)
+    return archive
 
 
 def compiled_harness(archive):

@@ -2,18 +2,20 @@
 """The paper's cases of bench card A and the others, starred or not, as the programs print them. Each line here is the paper's own, or worked out
 from it by hand."""
 
-import layer3
-import programs
+import paths
 
 import cards
 import net
+import programs
+import report
+import samples
+from cards import DRAW, FILL
 from make_row_cases import BENCH_LINES, BENCH_ROWS, FILLERS, LOOP, TAKERS, three
-from net import DRAW, FILL
 
-BENCH = net.encode(cards.bench_card())
+BENCH = cards.encode(samples.bench_card())
 
 # Place 0 feeds place 1 on signal 1; place 1 is drained on signal 0.
-FED = cards.one_subnet(2, [(1, 1), (1, 1), (2, 0)], [(0, [(DRAW, 1, 1), (FILL, 2, 1)]), (1, [(DRAW, 0, 1), (FILL, 1, 1)])])
+FED = samples.one_subnet(2, [(1, 1), (1, 1), (2, 0)], [(0, [(DRAW, 1, 1), (FILL, 2, 1)]), (1, [(DRAW, 0, 1), (FILL, 1, 1)])])
 
 # Bench card A's fields, and refused cards: what is wrong, the bytes, the line.
 REFUSED = [
@@ -30,7 +32,7 @@ REFUSED = [
 
 # Cards that are run: the rows, and the lines.
 RUN = [
-    ("bench card A", cards.bench_card(), BENCH_ROWS, BENCH_LINES.decode()),
+    ("bench card A", samples.bench_card(), BENCH_ROWS, BENCH_LINES.decode()),
     ("card B, both at once", TAKERS, [(500, 500)], "1 no 22 0\n"),
     ("card B, one after the other", TAKERS, [(500, 0), (500, 500)], "1 ok 500 500 0 | 500 -\n2 ok 500 500 0 | 500 -\n"),
     ("two takers of 1", three(2, 1), [(500, 500)], "1 ok 1000 500 500 | 500 500\n"),
@@ -49,22 +51,23 @@ RUN = [
 
 def tests():
     """Each case's name, what is printed, and what must be."""
-    rows = b"".join(map(net.encode_row, BENCH_ROWS))
+    rows = cards.encode_rows(BENCH_ROWS)
     for name, data, text in REFUSED:
         expected = text.encode() + b"\n"
         yield f"run, {name}", programs.run(data, rows), expected
         if data is not None:
             yield f"flatten, {name}", programs.flatten(data), expected
     for name, card, given, text in RUN:
-        yield f"run, {name}", programs.run(net.encode(card), b"".join(map(net.encode_row, given))), text.encode()
+        yield f"run, {name}", programs.run(cards.encode(card), cards.encode_rows(given)), text.encode()
     yield "run, no rows", programs.run(BENCH, b""), b""
     yield "run, a short row", programs.run(BENCH, rows[:2]), b"1 no 20\n"
     yield "run, a short last row", programs.run(BENCH, rows[:5]), b"1 ok 600 400 0 | 400 -\n2 no 20\n"
     yield "run, a fill bit", programs.run(BENCH, rows[:2] + bytes([rows[2] | 1]) + rows[:3]), b"1 no 20\n2 ok 600 400 0 | 400 -\n"
     flat = programs.flatten(BENCH)
-    yield "flatten, bench card A", flat, net.encode(net.flatten(cards.bench_card()))
+    yield "flatten, bench card A", flat, cards.encode(net.flatten(samples.bench_card()))
     yield "flatten, again", programs.flatten(flat), flat
     yield "run, the flat card", programs.run(flat, rows), BENCH_LINES
 
 
-programs.compare(tests())
+programs.need("run", "flatten")
+report.compare(tests())

@@ -1,13 +1,18 @@
 #!/usr/bin/env python3
-"""The cases of the second implementation: the paper's own, and one or more for each refusal."""
+"""The cases of the second implementation, the paper's own and one or more for each refusal; and those of tools/cards.py.
 
-import pathlib
+    unit.py [NAME...]
+
+A name is that of a module, a class or a case, as test_net or test_cards.Fields.
+"""
+
 import sys
 import unittest
 
-second = pathlib.Path(__file__).resolve().parent / "second"
-sys.path.insert(0, str(second))
-tests = unittest.defaultTestLoader.discover(str(second))
+import paths
+
+loader = unittest.defaultTestLoader
+tests = loader.loadTestsFromNames(sys.argv[1:]) if sys.argv[1:] else loader.discover(str(paths.root / "tests" / "second"))
 result = unittest.TextTestRunner(stream=sys.stdout, verbosity=0).run(tests)
 failed = len(result.failures) + len(result.errors)
 print(f"{result.testsRun - failed} passed, {failed} failed")

@@ -1,19 +1,16 @@
 """A second implementation of the bench net runner: cards, steps and two views.
 
-Comments name the paragraph of the paper that a function follows.
+Comments name the paragraph of the paper that a function follows. The layout of a card, and how one is written, are in tools/cards.py.
 """
 
-from dataclasses import dataclass, field
 from itertools import accumulate
 from typing import NamedTuple
 
-NORMAL, IN, OUT, IN_OUT = range(4)
-DRAW, FILL = 0, 1
+from cards import (DEGREE_BITS, DRAW, FILL, IN, IN_OUT, NORMAL, OUT, VERSION_BITS, Arc, Card, Place, Subnet, Transition, encode, fits,
+                   widths)
+
 THOUSAND = 1000
 MOST = 255
-
-VERSION_BITS = 4
-DEGREE_BITS = 10
 
 
 class Refusal(NamedTuple):
@@ -24,82 +21,6 @@ class Refusal(NamedTuple):
 
 class CardRefused(Exception):
     """Carries a refusal's number and bit out of pass one."""
-
-
-class Header(NamedTuple):
-    version: int
-    subnets: int
-    signals: int
-    limit: int
-    scale: int
-
-
-class Subnet(NamedTuple):
-    parent: int
-    type: int
-    places: int
-    transitions: int
-
-
-class Place(NamedTuple):
-    kind: int
-    capacity: int
-    tokens: int
-
-
-class Transition(NamedTuple):
-    signal: int
-    arcs: int
-    rank: int = 0
-
-
-class Arc(NamedTuple):
-    direction: int
-    subnet: int
-    place: int
-    weight: int
-
-
-@dataclass
-class Card:
-    """The rows of a card, each list in card order. The bits are those of the rows' first fields."""
-    signals: int
-    subnets: list
-    places: list
-    transitions: list
-    arcs: list
-    version: int = 1
-    limit: int = 0
-    scale: int = 0
-    subnet_bits: list = field(default_factory=list, compare=False)
-    transition_bits: list = field(default_factory=list, compare=False)
-    arc_bits: list = field(default_factory=list, compare=False)
-
-    def header(self):
-        return Header(self.version, len(self.subnets), self.signals, self.limit, self.scale)
-
-
-class Widths(NamedTuple):
-    """How many bits each field has, in the form of the rows themselves."""
-    header: Header
-    subnets: Subnet
-    places: Place
-    transitions: Transition
-    arcs: Arc
-
-
-def widths(version):
-    """The widths on a card of this version: a field that a later one brings has no bits."""
-    def since(first, bits):
-        return bits if version >= first else 0
-
-    return Widths(
-        header=Header(VERSION_BITS, subnets=6, signals=6, limit=since(4, 8), scale=since(5, 14)),
-        subnets=Subnet(parent=5, type=5, places=8, transitions=8),
-        places=Place(kind=2, capacity=8, tokens=8),
-        transitions=Transition(signal=6, arcs=5, rank=since(3, 8)),
-        arcs=Arc(direction=1, subnet=5, place=8, weight=8),
-    )
 
 
 def starts(counts):
@@ -347,54 +268,6 @@ def check(data):
 
 
 # The card: writing
-
-
-def fits(tables):
-    """17: each value fits its field, and the entries are as many as the counts say."""
-    bits = widths(tables.version)
-    return (rows_fit([tables.header()], bits.header)
-            and rows_fit(tables.subnets, bits.subnets)
-            and rows_fit(tables.places, bits.places)
-            and rows_fit(tables.transitions, bits.transitions)
-            and rows_fit(tables.arcs, bits.arcs)
-            and sum(row[2] for row in tables.subnets) == len(tables.places)
-            and sum(row[3] for row in tables.subnets) == len(tables.transitions)
-            and sum(row[1] for row in tables.transitions) == len(tables.arcs))
-
-
-def rows_fit(rows, bits):
-    return all(0 <= value < 1 << width for row in rows for value, width in zip(row, bits))
-
-
-def encode(tables):
-    """The bytes of tables that fit."""
-    bits = widths(tables.version)
-    digits = []
-
-    def put(row, row_bits):
-        # A field of no bits is left out: its 0 would still be printed as one digit.
-        digits.extend(format(value, f"0{width}b") for value, width in zip(row, row_bits) if width)
-
-    places = iter(tables.places)
-    transitions = iter(tables.transitions)
-    arcs = iter(tables.arcs)
-    put(tables.header(), bits.header)
-    for subnet in tables.subnets:
-        put(subnet, bits.subnets)
-        for _ in range(subnet[2]):
-            put(next(places), bits.places)
-        for _ in range(subnet[3]):
-            transition = next(transitions)
-            put(transition, bits.transitions)
-            for _ in range(transition[1]):
-                put(next(arcs), bits.arcs)
-    return pack("".join(digits))
-
-
-def pack(bits):
-    """A text of zeros and ones as bytes, zeros to the byte."""
-    length = (len(bits) + 7) // 8
-    return int(bits.ljust(8 * length, "0") or "0", 2).to_bytes(length, "big")
 
 
 def write_card(tables, buffer_length):
@@ -901,11 +774,6 @@ def read_row(chunk, signals):
     value >>= fill
     return tuple(value >> DEGREE_BITS * (signals - 1 - signal) & ((1 << DEGREE_BITS) - 1)
                  for signal in range(signals))
-
-
-def encode_row(degrees):
-    """The bytes of a row; degrees below 1024."""
-    return pack("".join(format(degree, f"0{DEGREE_BITS}b") for degree in degrees))
 
 
 def row_line(number, reply, state):

@@ -4,13 +4,15 @@ import random
 import unittest
 from dataclasses import replace
 
+import cards
 import net
-from cards import change, random_card, random_row, tables, with_field
-from net import DRAW, FILL, IN, IN_OUT, NORMAL, OUT, State, Subnet, SubnetState
+from cards import DRAW, FILL, IN, IN_OUT, NORMAL, OUT, Subnet, change, tables, with_field
+from net import State, SubnetState
+from samples import random_card, random_row
 
 
 def card_bytes(signals, *subnets):
-    return net.encode(tables(signals, *subnets))
+    return cards.encode(tables(signals, *subnets))
 
 
 TABLES_A = tables(
@@ -18,7 +20,7 @@ TABLES_A = tables(
     (0, 0, [(NORMAL, 1, 1)], [(0, [(DRAW, 0, 0, 1), (FILL, 1, 0, 1)])]),
     (0, 0, [(IN, 1, 0), (NORMAL, 2, 0)], [(1, [(DRAW, 1, 0, 1), (FILL, 1, 1, 1)])]),
 )
-CARD_A = net.encode(TABLES_A)
+CARD_A = cards.encode(TABLES_A)
 
 # The fields of bench card A: first bit and width.
 FIELDS_A = [
@@ -42,7 +44,7 @@ TABLES_B = tables(
     (0, 0, [(NORMAL, 1, 1), (NORMAL, 1, 0), (NORMAL, 1, 0)],
      [(0, [(DRAW, 0, 0, 1), (FILL, 0, 1, 1)]), (1, [(DRAW, 0, 0, 1), (FILL, 0, 2, 1)])]),
 )
-CARD_B = net.encode(TABLES_B)
+CARD_B = cards.encode(TABLES_B)
 
 
 def takers(weight):
@@ -89,7 +91,7 @@ def both_runners(data, rows, seed=1):
 
 
 def run(data, rows):
-    return net.run_program(data, b"".join(map(net.encode_row, rows))).decode()
+    return net.run_program(data, cards.encode_rows(rows)).decode()
 
 
 class Cases(unittest.TestCase):
@@ -279,10 +281,10 @@ def chain_arc(subnet):
 class PassTwo(Cases):
 
     def arc_refused(self, card, arc, number, **values):
-        self.refused(net.encode(change(card, "arcs", arc, **values)), number, chain_arc(arc))
+        self.refused(cards.encode(change(card, "arcs", arc, **values)), number, chain_arc(arc))
 
     def arc_accepted(self, card, arc, **values):
-        self.accepted(net.encode(change(card, "arcs", arc, **values)), 4, 4, 4)
+        self.accepted(cards.encode(change(card, "arcs", arc, **values)), 4, 4, 4)
 
     def test_10_not_there(self):
         self.refused(with_field(CARD_A, 94, 5, 5), 10, 93)
@@ -292,7 +294,7 @@ class PassTwo(Cases):
         self.refused(with_field(CARD_A, 94, 5, 31), 10, 93)
 
     def test_10_who_sees(self):
-        self.accepted(net.encode(chain()), 4, 4, 4)
+        self.accepted(cards.encode(chain()), 4, 4, 4)
         seen = {(0, 0), (0, 1), (0, 3), (1, 1), (1, 2), (2, 2), (3, 3)}
         for subnet in range(4):
             for owner in range(4):
@@ -348,12 +350,12 @@ class PassTwo(Cases):
         self.accepted(self.repeated((FILL, 0, 1, 1)), 1, 2, 1)
         # Both transitions of card B then lack one: the lower at 96.
         wide = change(TABLES_B, "places", 0, capacity=2)
-        self.accepted(net.encode(wide), 1, 3, 2)
+        self.accepted(cards.encode(wide), 1, 3, 2)
         wide = change(change(wide, "places", 1, capacity=2), "places", 2, capacity=2)
-        self.refused(net.encode(wide), 14, 96)
+        self.refused(cards.encode(wide), 14, 96)
         # Only transition 1 lacks one: at 96 + 55.
         wide = change(wide, "places", 1, capacity=1)
-        self.refused(net.encode(wide), 14, 151)
+        self.refused(cards.encode(wide), 14, 151)
 
     def test_14_at_a_child_place(self):
         data = card_bytes(1, (0, 0, [(NORMAL, 2, 0)], [(0, [(DRAW, 0, 0, 1), (FILL, 1, 0, 1)])]),
@@ -366,9 +368,9 @@ class PassTwo(Cases):
 
     def test_15(self):
         card = change(chain(), "places", 3, kind=NORMAL)
-        self.refused(net.encode(card), 15, 16 + 77 * 3)
+        self.refused(cards.encode(card), 15, 16 + 77 * 3)
         card = change(card, "places", 1, kind=NORMAL)
-        self.refused(net.encode(card), 15, 16 + 77)
+        self.refused(cards.encode(card), 15, 16 + 77)
 
     def test_15_after_all_arcs(self):
         card = change(chain(), "places", 1, kind=NORMAL)
@@ -407,14 +409,14 @@ class Types(Cases):
     """Refusal 16, on twins() with one thing changed."""
 
     def unlike(self, card, subnet):
-        self.refused(net.encode(card), 16, TWIN_BITS[subnet])
+        self.refused(cards.encode(card), 16, TWIN_BITS[subnet])
 
     def alike(self, card):
-        self.assertEqual(net.check(net.encode(card))[0], "accepted")
+        self.assertEqual(net.check(cards.encode(card))[0], "accepted")
 
     def test_alike(self):
-        self.accepted(net.encode(twins()), 7, 13, 9)
-        self.assertEqual(net.read_card(net.encode(twins())).subnet_bits, TWIN_BITS)
+        self.accepted(cards.encode(twins()), 7, 13, 9)
+        self.assertEqual(net.read_card(cards.encode(twins())).subnet_bits, TWIN_BITS)
 
     def test_kinds_and_capacities(self):
         self.unlike(change(twins(), "places", 3, kind=IN), 2)
@@ -492,9 +494,9 @@ class Types(Cases):
         card = change(twins(), "arcs", 5, direction=FILL)
         card = change(change(card, "places", 11, kind=NORMAL), "places", 12, kind=NORMAL)
         card = change(card, "arcs", 8, place=1, subnet=2)
-        self.refused(net.encode(card), 14, TWIN_BITS[2] + 62 + 77)
+        self.refused(cards.encode(card), 14, TWIN_BITS[2] + 62 + 77)
         card = change(card, "arcs", 8, place=0, subnet=2)
-        self.refused(net.encode(card), 15, TWIN_BITS[6])
+        self.refused(cards.encode(card), 15, TWIN_BITS[6])
 
 
 def later_field(card, name, value):
@@ -525,8 +527,8 @@ class LaterFields(Cases):
             bits = (version + "000001" "000001" + limit + scale
                     + "00000" "00000" "00000001" "00000001" "00" "00000001" "00000001"
                     "000000" "00001" + rank + "0" "00000" "00000000" "00000001")
-            self.assertTrue(net.fits(card))
-            self.assertEqual(net.encode(card), net.pack(bits))
+            self.assertTrue(cards.fits(card))
+            self.assertEqual(cards.encode(card), cards.pack(bits))
 
     def test_reading_a_field(self):
         reader = net.BitReader(bytes([0b00000001, 0b00000000, 0b00011100]))
@@ -548,7 +550,7 @@ class Writing(Cases):
     def test_writes(self):
         self.writes(TABLES_A, ("wrote", CARD_A))
         self.writes(TABLES_A, ("wrote", CARD_A), 29)
-        self.writes(twins(), ("wrote", net.encode(twins())))
+        self.writes(twins(), ("wrote", cards.encode(twins())))
 
     def test_17_values(self):
         for table, index, name, limit in [
@@ -639,7 +641,7 @@ class Flattening(Cases):
                            (1, [(DRAW, 0, 1, 1), (FILL, 0, 2, 1)])]))
         self.assertEqual(net.flatten(net.read_card(CARD_A)), flat)
         data = net.flatten_program(CARD_A)
-        self.assertEqual(data, net.encode(flat))
+        self.assertEqual(data, cards.encode(flat))
         # 16 + 26 + 3 x 18 + 2 x 55 = 206 bits.
         self.assertEqual(len(data), 26)
         self.accepted(data, 1, 3, 2)
@@ -652,7 +654,7 @@ class Flattening(Cases):
                                                             5, 7, 9, 11])
         self.assertEqual({arc.subnet for arc in card.arcs}, {0})
         self.assertEqual(card.subnets, [Subnet(0, 0, 13, 9)])
-        self.accepted(net.encode(card), 1, 13, 9)
+        self.accepted(cards.encode(card), 1, 13, 9)
 
     def test_refused(self):
         self.assertEqual(net.flatten_program(b""), b"no 1 0\n")
@@ -669,8 +671,8 @@ class Rows(unittest.TestCase):
 
     def test_encoding(self):
         # 0110010000 0000000000 0000
-        self.assertEqual(net.encode_row((400, 0)), bytes([0b01100100, 0, 0]))
-        self.assertEqual(net.encode_row((0, 1001)), bytes([0, 0b00111110, 0b10010000]))
+        self.assertEqual(cards.encode_row((400, 0)), bytes([0b01100100, 0, 0]))
+        self.assertEqual(cards.encode_row((0, 1001)), bytes([0, 0b00111110, 0b10010000]))
         self.assertEqual(net.read_row(bytes([0, 0b00111110, 0b10010000]), 2), (0, 1001))
 
     def test_lengths(self):
@@ -681,10 +683,10 @@ class Rows(unittest.TestCase):
 
     def test_no_fill(self):
         row = (1, 2, 3, 1023)
-        self.assertEqual(net.read_row(net.encode_row(row), 4), row)
+        self.assertEqual(net.read_row(cards.encode_row(row), 4), row)
 
     def test_20_fill_bit(self):
-        good = net.encode_row((400, 0))
+        good = cards.encode_row((400, 0))
         output = net.run_program(CARD_A, b"\x64\0\x01" + b"\x64\0\x08" + good)
         self.assertEqual(output, b"1 no 20\n2 no 20\n3 ok 600 400 0 | 400 -\n")
 
@@ -693,7 +695,7 @@ class Rows(unittest.TestCase):
         self.assertEqual(net.run_program(CARD_A, b"\xff\xff\xf0"), b"1 no 21 0\n")
 
     def test_20_short_last_row(self):
-        good = net.encode_row((400, 0))
+        good = cards.encode_row((400, 0))
         self.assertEqual(net.run_program(CARD_A, good + good[:2]),
                          b"1 ok 600 400 0 | 400 -\n2 no 20\n")
         self.assertEqual(net.run_program(CARD_A, b"\xff"), b"1 no 20\n")
@@ -932,10 +934,6 @@ class RandomCards(unittest.TestCase):
             loaded = net.load_flat(data)
             for _, state in results:
                 self.assertTrue(net.state_valid(loaded, state))
-            self.assertEqual(net.run_program(data, b"".join(map(net.encode_row, rows))),
+            self.assertEqual(net.run_program(data, cards.encode_rows(rows)),
                              "".join(net.row_line(number, *result) for number, result
                                      in enumerate(results, start=1)).encode())
-
-
-if __name__ == "__main__":
-    unittest.main()

@@ -1,10 +1,9 @@
 #!/usr/bin/env python3
 """The wrong programs of tests/wrong are still edits of the code: each text that one changes stands once in the file it names."""
 
-import pathlib
-import sys
+from paths import root
 
-root = pathlib.Path(__file__).resolve().parent.parent.parent
+import report
 
 
 def faults(edit):
@@ -24,12 +23,8 @@ def faults(edit):
 
 def main():
     edits = sorted((root / "tests" / "wrong").glob("*/*.edit"))
-    wrong = {edit: faults(edit) for edit in edits}
-    wrong = {edit: found for edit, found in wrong.items() if found}
-    for edit, found in wrong.items():
-        print(f"{edit.relative_to(root)}: {'; '.join(found)}")
-    print(f"{len(edits) - len(wrong)} passed, {len(wrong)} failed")
-    sys.exit(1 if wrong else 0)
+    wrong = [f"{edit.relative_to(root)}: {'; '.join(faults(edit))}" for edit in edits if faults(edit)]
+    report.close(len(edits) - len(wrong), wrong)
 
 
 main()

@@ -1,32 +1,29 @@
-#!/usr/bin/env python3
-"""Writes the input of the program card_cases and the lines that it must print for it.
+"""Makes the input of the program card_cases and the lines that it must print for it.
 
 The answers are the second implementation's. Each case is led by its kind, a byte, and its length, two bytes.
 """
 
 import dataclasses
 import itertools
-import pathlib
 import random
 import struct
-import sys
 import zlib
 from typing import NamedTuple
-
-root = pathlib.Path(__file__).resolve().parent.parent
-folder = root / "crates" / "card_cases"
-sys.path.insert(0, str(root / "tests" / "second"))
 
 import cards
 import hierarchies
 import net
+import samples
+from paths import root
+
+folder = root / "crates" / "card_cases"
 
 CARD, TABLES = 0, 1
 GUARD = b"\xa5"
 
 # The header's numbers, and the four slices with their rows.
 HEADER = ("version", "signals", "limit", "scale")
-SLICES = {"subnets": net.Subnet, "places": net.Place, "transitions": net.Transition, "arcs": net.Arc}
+SLICES = {"subnets": cards.Subnet, "places": cards.Place, "transitions": cards.Transition, "arcs": cards.Arc}
 
 # The fields that later versions bring, and versions without and with them.
 LATER = ("limit", "scale", "rank")
@@ -129,7 +126,7 @@ def misversioned(card):
 
 def sized(subnets):
     """Tables of so many rows. The arcs are zeros."""
-    return cards.tables(63, *((0, 0, places * [(net.NORMAL, 1, 0)],
+    return cards.tables(63, *((0, 0, places * [(cards.NORMAL, 1, 0)],
                                transitions * [(0, arcs * [(0, 0, 0, 0)])])
                               for places, transitions, arcs in subnets))
 
@@ -148,12 +145,12 @@ def whole(data):
 
 
 def wrong_cards(bench):
-    widths = net.widths(bench.version)
+    widths = cards.widths(bench.version)
     wrong = [(number, bit, getattr(getattr(widths, table), field), values)
              for number, bit, table, _, field, values in WRONG]
     for number, bit, width, values in wrong + WRONG_COUNTS:
         for value in values:
-            yield number, bit, cards.with_field(net.encode(bench), bit, width, value)
+            yield number, bit, cards.with_field(cards.encode(bench), bit, width, value)
 
 
 def refused_cards(bench):
@@ -161,7 +158,7 @@ def refused_cards(bench):
         assert net.read_card(data) == net.Refusal(number, bit), (number, bit)
         yield data
     # The first fault counts, and an earlier fault counts before the end of the card.
-    data = net.encode(bench)
+    data = cards.encode(bench)
     yield cards.with_field(cards.with_field(data, 177, 6, 2), 52, 8, 2)
     yield cards.with_field(data, 0, 4, 2)[:1]
 
@@ -189,7 +186,7 @@ def checked_cards(bench):
         assert net.check(data) == ("refused", number, 93), field
         yield data
     for number, card in hierarchies.numbered():
-        data = net.encode(card)
+        data = cards.encode(card)
         assert refusal_number(net.check(data)) == number, (number, net.check(data))
         yield data
 
@@ -199,23 +196,23 @@ def random_families(rng):
         card = hierarchies.random_family(rng)
         for _ in range(bends):
             card = hierarchies.bent(rng, card)
-        yield net.encode(card)
+        yield cards.encode(card)
 
 
 def card_cases(rng):
-    bench = net.encode(cards.bench_card())
-    flat = net.encode(net.flatten(cards.bench_card()))
-    largest = net.encode(cards.largest_card(rng))
+    bench = cards.encode(samples.bench_card())
+    flat = cards.encode(net.flatten(samples.bench_card()))
+    largest = cards.encode(samples.largest_card(rng))
     assert len(largest) == 22770 and whole(largest)
     return [
         bench, b"", bench[:28], bench + b"\0",
         *(bench[:length] for length in range(1, 28)),
         flat, flat[:-1], *filled_cards(flat, 206),
-        *refused_cards(cards.bench_card()),
+        *refused_cards(samples.bench_card()),
         *right_cards(bench),
         largest, cards.with_field(largest, 182159, 1, 1),
         *checked_cards(bench),
-        *(cards.random_bytes(rng) for _ in range(200)),
+        *(samples.random_bytes(rng) for _ in range(200)),
         *random_families(rng),
     ]
 
@@ -247,7 +244,7 @@ def refused_tables(bench):
 
 def fields(card):
     """The header's fields, and those of the first and the last row of each table, with their widths."""
-    widths = net.widths(card.version)
+    widths = cards.widths(card.version)
     for field in HEADER:
         yield "header", 0, field, getattr(widths.header, field)
     for name, row in SLICES.items():
@@ -303,18 +300,18 @@ def hierarchy_tables():
     """For each number of the check two cards, into a buffer that is too short, just long enough and longer."""
     for number in (0, *range(10, 17)):
         for card in [card for other, card in hierarchies.numbered() if other == number][:2]:
-            length = len(net.encode(card))
+            length = len(cards.encode(card))
             yield from (given(card, room) for room in (0, length - 1, length, length + 3))
 
 
 def random_tables(rng):
-    card = cards.any_card(rng) if rng.randrange(3) else hierarchies.random_family(rng)
-    length = len(net.encode(card))
-    return given(cards.given_tables(rng, card), length + rng.choice((-1, 0, 1, 20)))
+    card = samples.any_card(rng) if rng.randrange(3) else hierarchies.random_family(rng)
+    length = len(cards.encode(card))
+    return given(samples.given_tables(rng, card), length + rng.choice((-1, 0, 1, 20)))
 
 
 def tables_cases(rng):
-    bench = cards.bench_card()
+    bench = samples.bench_card()
     largest = sized(31 * [(8, 8, 31)] + [(7, 7, 31)])
     return [
         *(given(bench, room) for room in (29, 28, 30, 0, 64, 65)),
@@ -340,15 +337,15 @@ def rows_of(tables):
             return None
         rows.append([row(*numbers[at:at + size]) for at in range(0, len(numbers), size)])
     version, signals, limit, scale = tables.header
-    return net.Card(signals, *rows, version, limit, scale)
+    return cards.Card(signals, *rows, version, limit, scale)
 
 
 def spelt(tables):
     """Layer 1's writer: the bytes of the card that the tables make, or a Refusal."""
     card = rows_of(tables)
-    if card is None or not net.fits(card):
+    if card is None or not cards.fits(card):
         return net.Refusal(17, 0)
-    data = net.encode(card)
+    data = cards.encode(card)
     return data if whole(data) else net.read_card(data)
 
 
@@ -443,12 +440,3 @@ def files():
     stdin = b"".join(data for data, _ in made) + made[0][0][:-1]
     assert len(stdin) <= 262144, len(stdin)
     return {"stdin": stdin, "stdout": "".join(lines for _, lines in made).encode()}
-
-
-def main():
-    for name, content in files().items():
-        (folder / name).write_bytes(content)
-
-
-if __name__ == "__main__":
-    main()

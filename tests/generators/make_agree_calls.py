@@ -1,18 +1,18 @@
-#!/usr/bin/env python3
-"""Writes the files of the program agree: a card of several subnets, a file of calls, and the line that it must print.
+"""Makes the files of the program agree: a card of several subnets, a file of calls, and the line that it must print.
 
 The second implementation answers each call in both views, and the answers are asserted to be equal here too.
 """
 
 import random
 
-import layer3
-
 import cards
 import hierarchies
 import net
+import row_calls
+import samples
+from paths import root
 
-folder = layer3.root / "crates" / "agree"
+folder = root / "crates" / "agree"
 
 CALLS = 60
 SEED = 146     # 8 subnets; most rows are taken, and each refusal of a row is there
@@ -20,7 +20,7 @@ SEED = 146     # 8 subnets; most rows are taken, and each refusal of a row is th
 
 def row_bytes(rng, row):
     """A row's bytes, now and then with a nonzero fill bit."""
-    data = bytearray(net.encode_row(row))
+    data = bytearray(cards.encode_row(row))
     if rng.randrange(12) == 0:
         data[-1] |= 1
     return bytes(data)
@@ -29,13 +29,13 @@ def row_bytes(rng, row):
 def made(seed):
     """A card's bytes, its calls, and the replies to them."""
     rng = random.Random(seed)
-    data = net.encode(hierarchies.random_family(rng))
-    cases = layer3.Cases(data)
+    data = cards.encode(hierarchies.random_family(rng))
+    cases = row_calls.Cases(data)
     order = list(range(len(cases.parts.parts)))
     calls, replies = [], []
     for _ in range(CALLS):
         rng.shuffle(order)
-        chunk = row_bytes(rng, cards.random_row(rng, cases.flat.signals))
+        chunk = row_bytes(rng, samples.random_row(rng, cases.flat.signals))
         calls.append(chunk + bytes(order))
         flat, subnet = cases.call(order, net.read_row(chunk, cases.flat.signals) or ())
         assert flat == subnet and cases.lent[0].view() == cases.lent[1].view(), (order, chunk)
@@ -53,13 +53,3 @@ def files():
     data, calls, replies = made(SEED)
     assert telling(replies)
     return {"data/net.card": data, "stdin": b"".join(calls) + calls[0][:-1], "stdout": b"yes\n"}
-
-
-def main():
-    for name, content in files().items():
-        (folder / name).parent.mkdir(exist_ok=True)
-        (folder / name).write_bytes(content)
-
-
-if __name__ == "__main__":
-    main()

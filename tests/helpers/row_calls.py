@@ -1,14 +1,9 @@
-"""Cases of the program row_cases, and the second implementation's lines for them.
+"""Row calls of both runners: the second implementation's answers to them, and cases of the program row_cases with the lines for them.
 
 A case is led by its kind, a byte, and its length, two bytes.
 """
 
-import pathlib
 import struct
-import sys
-
-root = pathlib.Path(__file__).resolve().parent.parent
-sys.path.insert(0, str(root / "tests" / "second"))
 
 import net
 

@@ -1,20 +1,19 @@
-#!/usr/bin/env python3
-"""Writes the input of the program row_cases and the lines that it must print for it.
+"""Makes the input of the program row_cases and the lines that it must print for it.
 
 The answers are the second implementation's; the paper's own are asserted here.
 """
 
 import random
-import sys
-
-import layer3
 
 import cards
 import hierarchies
 import net
-from net import DRAW, FILL
+import row_calls
+import samples
+from cards import DRAW, FILL
+from paths import root
 
-folder = layer3.root / "crates" / "row_cases"
+folder = root / "crates" / "row_cases"
 
 BENCH_ROWS = [(400, 0), (300, 500), (1000, 500), (1000, 500), (1000, 900), (0, 1001)]
 BENCH_LINES = b"""1 ok 600 400 0 | 400 -
@@ -26,24 +25,24 @@ BENCH_LINES = b"""1 ok 600 400 0 | 400 -
 """
 
 # Card B and its kin: two transitions, on signals 0 and 1.
-TAKERS = cards.one_subnet(2, [(1, 1), (1, 0), (1, 0)],
+TAKERS = samples.one_subnet(2, [(1, 1), (1, 0), (1, 0)],
                           [(signal, [(DRAW, 0, 1), (FILL, signal + 1, 1)]) for signal in (0, 1)])
-LOOP = cards.one_subnet(2, [(3, 1), (1, 0), (1, 0)],
+LOOP = samples.one_subnet(2, [(3, 1), (1, 0), (1, 0)],
                         [(0, [(DRAW, 0, 1), (FILL, 0, 1), (FILL, 1, 1)]), (1, [(DRAW, 0, 1), (FILL, 2, 1)])])
 
 
 def three(tokens, weight):
     """Capacity 3, so many tokens, and two takers."""
-    return cards.one_subnet(2, [(3, tokens), (1, 0), (1, 0)],
+    return samples.one_subnet(2, [(3, tokens), (1, 0), (1, 0)],
                             [(signal, [(DRAW, 0, weight), (FILL, signal + 1, 1)]) for signal in (0, 1)])
 
 
-FILLERS = cards.one_subnet(2, [(2, 1), (1, 1), (1, 1)],
+FILLERS = samples.one_subnet(2, [(2, 1), (1, 1), (1, 1)],
                            [(signal, [(DRAW, signal + 1, 1), (FILL, 0, 1)]) for signal in (0, 1)])
 
 
 def of(card):
-    return layer3.Cases(net.encode(card))
+    return row_calls.Cases(cards.encode(card))
 
 
 def orders(cases):
@@ -64,8 +63,8 @@ def run(card, rows, replies):
 def paper():
     """The paper's cases of rows."""
     ok = ("ok",)
-    bench = run(cards.bench_card(), BENCH_ROWS, 5 * [ok] + [("refused", 21, 1)])
-    data = b"".join(map(net.encode_row, BENCH_ROWS))
+    bench = run(samples.bench_card(), BENCH_ROWS, 5 * [ok] + [("refused", 21, 1)])
+    data = cards.encode_rows(BENCH_ROWS)
     bench.rows(data)
     assert bench.lines[-1] == BENCH_LINES
     bench.rows(data[:-1])
@@ -84,27 +83,27 @@ def paper():
 
 
 def telling():
-    for _, card, rows in cards.telling_cards():
+    for _, card, rows in samples.telling_cards():
         cases = of(card)
         for row in rows:
             cases.call(orders(cases), row)
-        cases.rows(b"".join(map(net.encode_row, rows)))
+        cases.rows(cards.encode_rows(rows))
         yield cases
 
 
 def flattened():
     """The flat card of a card, and of that one again: the same bytes."""
-    bench = of(cards.bench_card())
-    length = len(net.encode(net.flatten(cards.bench_card())))
+    bench = of(samples.bench_card())
+    length = len(cards.encode(net.flatten(samples.bench_card())))
     for room in (0, length - 1, length, length + 5):
         bench.flatten(room)
     yield bench
-    flat = of(net.flatten(cards.bench_card()))
+    flat = of(net.flatten(samples.bench_card()))
     flat.flatten(length)
     assert flat.lines[-1] == bench.lines[-3], "flattened again"
     yield flat
-    for data in (b"", net.encode(cards.bench_card())[:28], net.encode(cards.bench_card()) + b"\0"):
-        refused = layer3.Cases(data)
+    for data in (b"", cards.encode(samples.bench_card())[:28], cards.encode(samples.bench_card()) + b"\0"):
+        refused = row_calls.Cases(data)
         refused.flatten(10)
         refused.call([0], (1, 2))
         refused.rows(b"\0\0\0")
@@ -113,37 +112,37 @@ def flattened():
 
 # What is set in bench card A's state after its first row (600 400 0, transition 0 at 400, degrees 400 0), and whether that is 25.
 LENT = [
-    ((layer3.MARKING, 0, 600), False),
-    ((layer3.MARKING, 0, 599), True),           # owed is 600
-    ((layer3.MARKING, 0, 601), False),
-    ((layer3.MARKING, 0, 1001), True),
-    ((layer3.MARKING, 1, 401), True),           # due is 600
-    ((layer3.MARKING, 2, 2000), False),
-    ((layer3.MARKING, 2, 2001), True),
-    ((layer3.MARKING, 2, 4294967295), True),
-    ((layer3.MARKING, 3, 4294967295), False),   # past the places
-    ((layer3.TRANSFER, 0, 399), True),
-    ((layer3.TRANSFER, 0, 999), False),
-    ((layer3.TRANSFER, 0, 1000), True),
-    ((layer3.TRANSFER, 0, layer3.IDLE), False),
-    ((layer3.TRANSFER, 1, 0), True),
-    ((layer3.TRANSFER, 2, 65534), False),       # past the transitions
-    ((layer3.DEGREE, 1, 1000), False),
-    ((layer3.DEGREE, 1, 1001), True),
-    ((layer3.DEGREE, 2, 65535), False),         # past the signals
-    ((layer3.PLACES, 0, 2), True),
-    ((layer3.PLACES, 0, 4), True),
-    ((layer3.TRANSITIONS, 0, 1), True),
-    ((layer3.TRANSITIONS, 0, 300), True),
-    ((layer3.SIGNALS, 0, 3), True),
-    ((layer3.SIGNALS, 0, 0), True),
+    ((row_calls.MARKING, 0, 600), False),
+    ((row_calls.MARKING, 0, 599), True),           # owed is 600
+    ((row_calls.MARKING, 0, 601), False),
+    ((row_calls.MARKING, 0, 1001), True),
+    ((row_calls.MARKING, 1, 401), True),           # due is 600
+    ((row_calls.MARKING, 2, 2000), False),
+    ((row_calls.MARKING, 2, 2001), True),
+    ((row_calls.MARKING, 2, 4294967295), True),
+    ((row_calls.MARKING, 3, 4294967295), False),   # past the places
+    ((row_calls.TRANSFER, 0, 399), True),
+    ((row_calls.TRANSFER, 0, 999), False),
+    ((row_calls.TRANSFER, 0, 1000), True),
+    ((row_calls.TRANSFER, 0, row_calls.IDLE), False),
+    ((row_calls.TRANSFER, 1, 0), True),
+    ((row_calls.TRANSFER, 2, 65534), False),       # past the transitions
+    ((row_calls.DEGREE, 1, 1000), False),
+    ((row_calls.DEGREE, 1, 1001), True),
+    ((row_calls.DEGREE, 2, 65535), False),         # past the signals
+    ((row_calls.PLACES, 0, 2), True),
+    ((row_calls.PLACES, 0, 4), True),
+    ((row_calls.TRANSITIONS, 0, 1), True),
+    ((row_calls.TRANSITIONS, 0, 300), True),
+    ((row_calls.SIGNALS, 0, 3), True),
+    ((row_calls.SIGNALS, 0, 0), True),
 ]
 
 
 def lent():
     """25, and states that are not: they come before the order and the row."""
     for entry, bad in LENT:
-        cases = run(cards.bench_card(), [(400, 0)], [("ok",)])
+        cases = run(samples.bench_card(), [(400, 0)], [("ok",)])
         cases.set(*entry)
         replies = cases.call([0], (1, 1, 1))
         assert replies == (2 * [("refused", 25)] if bad else [("refused", 20), ("refused", 23)]), (entry, replies)
@@ -153,12 +152,12 @@ def lent():
 
 def full():
     """25 for a count past the end of an array that the card's own signals fill."""
-    card = cards.one_subnet(63, [(1, 1), (1, 0)], [(62, [(DRAW, 0, 1), (FILL, 1, 1)])])
+    card = samples.one_subnet(63, [(1, 1), (1, 0)], [(62, [(DRAW, 0, 1), (FILL, 1, 1)])])
     for count in (64, 255, 70000):
         cases = run(card, [63 * (400,)], [("ok",)])
-        cases.set(layer3.SIGNALS, 0, count)
+        cases.set(row_calls.SIGNALS, 0, count)
         assert cases.call([0], 63 * (500,)) == 2 * [("refused", 25)], count
-        cases.set(layer3.SIGNALS, 0, 63)
+        cases.set(row_calls.SIGNALS, 0, 63)
         assert cases.call([0], 63 * (500,)) == 2 * [("ok",)], count
         yield cases
 
@@ -170,7 +169,7 @@ ORDERS = [([0, 1], False), ([1, 0], False), ([], True), ([0], True), ([1], True)
 
 def ordered():
     for order, bad in ORDERS:
-        cases = of(cards.bench_card())
+        cases = of(samples.bench_card())
         replies = cases.call(order, (500, 500))
         assert replies == [("ok",), ("refused", 23) if bad else ("ok",)], order
         # The order comes before the row.
@@ -182,7 +181,7 @@ def ordered():
 
 def rows():
     """20 and 21."""
-    cases = of(cards.bench_card())
+    cases = of(samples.bench_card())
     for row, reply in [((), 20), ((1,), 20), ((1, 2, 3), 20), ((2000, 2, 3), 20), (200 * (0,), 20), ((1001, 0), 21), ((65535, 1001), 21),
                        ((1000, 65535), 21)]:
         answers = cases.call([0, 1], row)
@@ -192,13 +191,13 @@ def rows():
 
 def random_cases(rng):
     """Cards of many subnets, in random orders."""
-    for card in [*(hierarchies.random_family(rng) for _ in range(12)), cards.full_card((0, 0, 3), *31 * [(0, 1, 2)]),
+    for card in [*(hierarchies.random_family(rng) for _ in range(12)), samples.full_card((0, 0, 3), *31 * [(0, 1, 2)]),
                  hierarchies.longest_card()]:
         cases = of(card)
         order = orders(cases)
         for _ in range(6):
             rng.shuffle(order)
-            cases.call(order, cards.random_row(rng, cases.flat.signals))
+            cases.call(order, samples.random_row(rng, cases.flat.signals))
         cases.flatten(len(cases.data))
         yield cases
 
@@ -213,12 +212,3 @@ def files():
     cases = made()
     return {"stdin": b"".join(case.stdin() for case in cases) + cases[0].stdin()[:-1],
             "stdout": b"".join(case.stdout() for case in cases) + b"".join(cases[0].lines[:-1])}
-
-
-def main():
-    for name, content in files().items():
-        (folder / name).write_bytes(content)
-
-
-if __name__ == "__main__":
-    main()

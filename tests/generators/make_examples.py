@@ -1,14 +1,13 @@
-#!/usr/bin/env python3
-"""Writes the examples: for each a card, the rows of a run and the lines that it prints. examples/README.md says what they show."""
-
-import layer3
+"""Makes the examples: for each a card, the rows of a run and the lines that it prints. examples/README.md says what they show."""
 
 import cards
 import net
+import samples
+from cards import DRAW, FILL, IN, NORMAL, OUT
 from make_row_cases import BENCH_ROWS
-from net import DRAW, FILL, IN, NORMAL, OUT
+from paths import root
 
-folder = layer3.root / "examples"
+folder = root / "examples"
 
 MAIN, ARM, GRIPPER, DRIVE = range(4)
 WHEELS, SHOULDER, FINGERS, TRAY = range(4)      # signals
@@ -56,24 +55,14 @@ ROBOT_ROWS = [
     (0, 0, 1000, 1000),
 ]
 
-EXAMPLES = {"bench": (cards.bench_card(), BENCH_ROWS), "robot": (robot(), ROBOT_ROWS)}
+EXAMPLES = {"bench": (samples.bench_card(), BENCH_ROWS), "robot": (robot(), ROBOT_ROWS)}
 
 
 def files():
-    """The contents of each file, by folder and name."""
+    """The contents of each file, by folder and name, as robot/rows."""
     made = {}
     for name, (card, rows) in EXAMPLES.items():
-        data, given = net.encode(card), b"".join(map(net.encode_row, rows))
+        data, given = cards.encode(card), cards.encode_rows(rows)
         assert net.check(data)[0] == "accepted", net.check(data)
-        made |= {(name, "net.card"): data, (name, "rows"): given, (name, "expected"): net.run_program(data, given)}
+        made |= {f"{name}/net.card": data, f"{name}/rows": given, f"{name}/expected": net.run_program(data, given)}
     return made
-
-
-def main():
-    for (name, file), content in files().items():
-        (folder / name).mkdir(parents=True, exist_ok=True)
-        (folder / name / file).write_bytes(content)
-
-
-if __name__ == "__main__":
-    main()

@@ -6,7 +6,8 @@ A change is a table, an index in it, and the fields of that row which get other 
 from typing import NamedTuple
 
 import cards
-from net import DRAW, FILL, IN, IN_OUT, NORMAL, OUT
+import samples
+from cards import DRAW, FILL, IN, IN_OUT, NORMAL, OUT
 
 
 def changed(card, *changes):
@@ -278,7 +279,7 @@ def numbered():
     yield from uneven_pairs() + larger_families()
     yield from [
         (10, no_subnet()),
-        (0, cards.twins((3, 4), (5, 6))), (16, cards.twins((3, 4), (6, 5))),
+        (0, samples.twins((3, 4), (5, 6))), (16, samples.twins((3, 4), (6, 5))),
         (0, crowd(IN_OUT)), (16, crowd(OUT)), (15, crowd(NORMAL)),
         (0, longest), (12, changed(longest, field("arcs", len(longest.arcs) - 1, "weight", 0))),
     ]
@@ -302,7 +303,7 @@ def random_drawing(rng, type_, children):
             for place, (_, capacity) in enumerate(places) for direction in (DRAW, FILL)]
     ends += [(direction, rank, place, capacity) for rank, child in enumerate(children)
              for place, (kind, capacity) in enumerate(child.places)
-             for direction in cards.PARENT_MAY[kind]]
+             for direction in samples.PARENT_MAY[kind]]
     transitions = []
     for _ in range(rng.randint(1, 2)):
         chosen = [ends[0], *rng.sample(ends[1:], rng.randint(0, min(4, len(ends) - 1)))]

@@ -1,37 +1,12 @@
-"""Random cards and rows, sound and damaged."""
+"""Cards and rows for the tests: random ones, sound and damaged, large ones, and the paper's own."""
 
 from dataclasses import replace
 
-from net import (Arc, Card, DRAW, FILL, IN_OUT, MOST, NORMAL, Place, Subnet, Transition, encode,
-                 encode_row, fits, pack, widths)
+from cards import DRAW, FILL, IN_OUT, NORMAL, change, encode, encode_row, fits, tables, widths
+from net import MOST
 
 # The directions that a parent may use at a place, by kind.
 PARENT_MAY = ((), (FILL,), (DRAW,), (DRAW, FILL))
-
-
-def tables(signals, *subnets, version=1):
-    """Tables from subnets (parent, type, places, transitions), transitions (signal, arcs)."""
-    card = Card(signals, [], [], [], [], version)
-    for parent, type_, places, transitions in subnets:
-        card.subnets.append(Subnet(parent, type_, len(places), len(transitions)))
-        card.places.extend(Place(*place) for place in places)
-        for signal, arcs in transitions:
-            card.transitions.append(Transition(signal, len(arcs)))
-            card.arcs.extend(Arc(*arc) for arc in arcs)
-    return card
-
-
-def change(card, table, index, **values):
-    """Tables with one row changed."""
-    rows = list(getattr(card, table))
-    rows[index] = rows[index]._replace(**values)
-    return replace(card, **{table: rows})
-
-
-def with_field(data, bit, width, value):
-    """The card with one field changed."""
-    bits = "".join(format(byte, "08b") for byte in data)
-    return pack(bits[:bit] + format(value, f"0{width}b") + bits[bit + width:])
 
 
 def random_transition(rng, number, ends, places, signals):
@@ -166,7 +141,6 @@ def full_card(*subnets):
     return tables(63, *rows)
 
 
-
 def busy_card(*subnets):
     """An accepted card of subnets (parent, type, places), on which many transfers are under way at any time.
 
@@ -192,6 +166,7 @@ def busy_card(*subnets):
         places = [(kind, 1, 1) if local < singles(number) else (kind, MOST, 128) for local in range(count)]
         rows.append((parent, type_, places, [transition(number, turn) for turn in range(count)]))
     return tables(63, *rows)
+
 
 def torn(rng, data):
     """Bytes with a bit turned, cut short, or with a further byte."""

@@ -3,13 +3,19 @@
 import os
 import pathlib
 import subprocess
-import sys
 import tempfile
 
-root = pathlib.Path(__file__).resolve().parent.parent
+import report
+from paths import root
 
 # Another folder of programs may be named, as for a trial.
 folder = pathlib.Path(os.environ.get("PROGRAMS", root / "target" / "bin")).resolve()
+
+
+def need(*names):
+    """Ends the script if one of these programs is not built."""
+    for name in names:
+        report.need_built(folder / name, f"rt check {name}")
 
 
 def printed(program, stdin, where="/"):
@@ -28,16 +34,3 @@ def run(card, rows):
 
 def flatten(card):
     return printed("flatten", card)
-
-
-def compare(tests):
-    """Shows each test whose bytes are not those expected, counts them all, and ends the script. A test: what is looked at, what is there,
-    and what must be."""
-    count = wrong = 0
-    for name, got, expected in tests:
-        count += 1
-        if got != expected:
-            wrong += 1
-            print(f"{name}: {got!r} is not {expected!r}")
-    print(f"{count - wrong} passed, {wrong} failed")
-    sys.exit(1 if wrong else 0)
