@@ -1,5 +1,6 @@
 pub mod LineLaws
 pub mod FileLaws
+pub mod LongCard
 pub mod FlatTextLaws
 pub mod FeedLaws
 pub mod RunLaws

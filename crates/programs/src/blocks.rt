@@ -30,6 +30,11 @@ ghost use Rattle.programs.specs.Runs.{following, rowSizeIn, answered, ke
 // The most bytes that a row has.
 const ROW_BYTES: usize = 79;
 
+// How many bytes the program run reads at most at once, and the room that their lines may take: the longest line for each.
+pub const BLOCK_BYTES: usize = 64;
+
+pub const LINES_BYTES: usize = LONGEST * BLOCK_BYTES;
+
 // The number of the next row, the state in front of it, and those of its bytes that are there. Only this crate makes one or looks into it.
 pub struct Progress {
     number: u64,
@@ -197,8 +202,8 @@ pub fn last_line(net: Net, p: Progress) -> Line
     }
     let a = left_row(net, p);
     let reply = a.reply;
-    let state = a.state;
-    reply_line(p.number, reply, state)
+    let after = a.state;
+    reply_line(p.number, reply, after)
 }
 
 // What is written before the first row.

@@ -1,61 +1,56 @@
-// A rows file, row by row, as the run program answers it.
-use crate::calls::next_number;
+// A rows file as the run program answers it, block after block.
 use crate::lines::put_line;
-use hierarchy::Answer;
-use programs::feed::file_row;
-use programs::file::row_bytes;
-use programs::line::card_line;
-use programs::line::reply_line;
+use console::put_first;
+use programs::blocks::BLOCK_BYTES;
+use programs::blocks::LINES_BYTES;
+use programs::blocks::Progress;
+use programs::blocks::answer_block;
+use programs::blocks::begin;
+use programs::blocks::last_line;
 use runners::Net;
-use runners::State;
-use runners::flat_runner::flat_net;
-use runners::fresh::fresh;
-use runners::nets::net_signals;
+ghost use mathlib.Core.Path.{_≡_};
 ghost use Prim.Native.Nat.{_<_, _≤_};
 ghost use lib.ListN.{length};
 
-// Where the row from at on ends; the last one may be short.
-fn end_of(bytes: &[u8], at: usize, size: usize) -> usize
-    requires { ⌜ (at < length (now bytes)) × (0 < size) ⌝ }
+// Where the block from at on ends; the last one may be short.
+fn end_of(bytes: &[u8], at: usize) -> usize
+    requires { ⌜ at < length (now bytes) ⌝ }
     ensures { λ r. ⌜ (at < r) × (r ≤ length (now (bytes .entry))) ⌝ }
 {
-    if bytes.len() - at < size {
+    if bytes.len() - at < BLOCK_BYTES {
         return bytes.len();
     }
-    at + size
+    at + BLOCK_BYTES
 }
 
-fn put_rows(net: Net, first: State, bytes: &[u8], size: usize)
-    requires { ⌜ 0 < size ⌝ }
+fn put_block(net: Net, p: Progress, block: &[u8], lines: &mut [u8]) -> Progress
+    ensures { λ r. ⌜ length (now (lines .exit)) ≡ length (now (lines .entry)) ⌝ }
 {
-    let mut state = first;
-    let mut n: u64 = 1;
+    let t = answer_block(net, p, block, lines);
+    let next = t.progress;
+    put_first(lines, t.length);
+    next
+}
+
+fn put_blocks(net: Net, first: Progress, bytes: &[u8], lines: &mut [u8]) {
+    let mut p = first;
     let mut at: usize = 0;
     while at < bytes.len() {
-        let end = end_of(bytes, at, size);
-        let a = file_row(net, state, &bytes[at..end]);
-        let reply = a.reply;
-        let next = a.state;
-        state = next;
-        put_line(reply_line(n, reply, next));
-        n = next_number(n);
+        let end = end_of(bytes, at);
+        p = put_block(net, p, &bytes[at..end], lines);
         at = end;
     }
-}
-
-fn put_net(net: Net, state: State, bytes: &[u8]) {
-    let size = row_bytes(net_signals(net));
-    if 0 < size {
-        put_rows(net, state, bytes, size);
-    }
+    put_line(last_line(net, p));
 }
 
 pub fn put_file(card: &[u8], bytes: &[u8]) {
-    let f = fresh(card);
-    let a = f.answer;
-    let state = f.state;
-    match a {
-        Answer::Refused(why, at) => put_line(card_line(why, at)),
-        Answer::Accepted(_s, _p, _t) => put_net(flat_net(card), state, bytes),
+    let s = begin(card);
+    let line = s.line;
+    put_line(line);
+    if s.runs {
+        let mut lines = [0; LINES_BYTES];
+        let net = s.net;
+        let progress = s.progress;
+        put_blocks(net, progress, bytes, &mut lines);
     }
 }
