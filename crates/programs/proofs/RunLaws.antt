@@ -26,7 +26,7 @@ use Rattle.programs.specs.Text.{decimal, line}
 use Rattle.programs.specs.Programs.{lines, replyWords, cardLine, runs, runProgram}
 use Rattle.programs.specs.Feeds.{fileCall}
 use Rattle.programs.specs.Lines.{longest}
-use Rattle.programs.specs.Runs.{Run, lastNumber, following, FileCall, answered, keeping, taken, feed, fedBlock, lastLine, overBlocks, rowSizeIn, firstText, firstRun, runOver}
+use Rattle.programs.specs.Runs.{Run, lastNumber, following, FileCall, answered, keeping, taken, feed, fedBlock, lastLine, overBlocks, rowSizeIn, firstText, firstRun, runFrom, Fitting}
 use Rattle.programs.proofs.FeedLaws.{fed-lines}
 
 keeping-none : (r : Run) → keeping r [] ≡ r
@@ -196,12 +196,10 @@ over-none call room r [] e = rw e refl
 over-none call room r (b ∷ blocks) e =
     ap (λ (z : List ℕ × Run). z .0 ++ overBlocks 0 call room (z .1) blocks) (block-over 0 call room r b (omega arith)) ∙ over-none call room r blocks e
 
--- OVER ANY CUTTING OF THE INPUT INTO BLOCKS THAT THE BUFFER HAS ROOM FOR, the program writes what `runProgram` says. (An input has fewer than 2^64
--- bytes, and so fewer rows.)
-pub any-cutting : (room : ℕ) (card : List ℕ) (blocks : List (List ℕ)) → All (λ b. longest * length b ≤ room) blocks → length (List.flatten blocks) < lastNumber
-    → runOver room card blocks ≡ runProgram card (List.flatten blocks)
-unfolding runOver runProgram
-any-cutting room card blocks f n = go (judge card) refl
+-- OVER ANY CUTTING OF THE INPUT INTO BLOCKS that the buffer has room for, the program writes what `runProgram` says.
+pub any-cutting : (room : ℕ) (card : List ℕ) (r : Run) (blocks : List (List ℕ)) → r ≡ firstRun card → Fitting room blocks → runFrom room card r blocks ≡ runProgram card (List.flatten blocks)
+unfolding runFrom runProgram
+any-cutting room card r blocks same fitting = ap (λ (q : Run). runFrom room card q blocks) same ∙ go (judge card) refl
   where
     go : (j : Judgement) → judge card ≡ j
         → firstText j ++ overBlocks (rowSizeIn (flatJudged j)) (fileCall (flatJudged j)) room (firstRun card) blocks ≡ runs j (List.flatten blocks)
@@ -211,5 +209,5 @@ any-cutting room card blocks f n = go (judge card) refl
         let size = rowSizeIn (accepted (flatten c)) in
         let call = fileCall (flatJudged (accepted c)) in
         let some : 0 < size = positive c ((accepted-meets card c e) .wellformed .someSignals) in
-        over-written size call room (firstRun card) blocks f some ∙ written-lines size call (firstRun card) (List.flatten blocks) some (omega (arith, n))
+        over-written size call room (firstRun card) blocks (fitting .fit) some ∙ written-lines size call (firstRun card) (List.flatten blocks) some (omega (arith, fitting .few))
         ∙ fed-lines card c e (pieces size (List.flatten blocks))

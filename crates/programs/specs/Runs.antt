@@ -1,11 +1,13 @@
 -- A run of the program `run`, as its input comes in: block by block, and the end ('Bench card A'). proofs/RunLaws.antt shows that over any
 -- cutting of the input into blocks this writes what `runProgram` says.
-use Prim.Native.Nat.{ℕ, suc, _-_, _*_, _^_, _≤_, min}
+use Prim.Native.Nat.{ℕ, suc, _-_, _*_, _^_, _≤_, _<_, min}
 use mathlib.Core.Path.{_≡_}
 use mathlib.Core.Bool.{Bool, true, false, _&&_, cond}
 use mathlib.Core.List.{List, [], _∷_, _++_}
+use mathlib.Core.List
 use lib.ListN.{length, take}
 use lib.Dec.{eqb, leb, ltb}
+use Rattle.card.specs.Finite.{All}
 use Rattle.card.specs.Bits.{bytesFor}
 use Rattle.card.specs.Spelling.{putInto}
 use Rattle.hierarchy.specs.Judgement.{Judgement, accepted, refused, judge}
@@ -15,7 +17,7 @@ use Rattle.runners.specs.Calls.{view, freshCall}
 use Rattle.runners.specs.Nets.{flatJudged, IsNet}
 use Rattle.runners.specs.declared.State.{State as Lent}
 use Rattle.programs.specs.Text.{decimal, line}
-use Rattle.programs.specs.Programs.{replyWords, cardLine}
+use Rattle.programs.specs.Programs.{replyWords, cardLine, runProgram}
 use Rattle.programs.specs.Feeds.{fileCall}
 use Rattle.programs.specs.Lines.{Puts, longest, IsLine}
 use Rattle.programs.specs.declared.blocks.Progress.{Progress}
@@ -88,11 +90,16 @@ firstText (refused n at) = cardLine n at
 abbrev pub firstRun : (card : List ℕ) → Run
 firstRun card = record { number = 1; state = (freshCall card) .1; left = [] }
 
--- ALL THAT THE PROGRAM WRITES, with a buffer of so much room for a block's lines
-unfoldable pub runOver : (room : ℕ) → (card : List ℕ) → (blocks : List (List ℕ)) → List ℕ
-runOver room card blocks =
+-- ALL THAT THE PROGRAM WRITES, with a buffer of so much room for a block's lines, from the run in front of the first row
+unfoldable pub runFrom : (room : ℕ) → (card : List ℕ) → Run → (blocks : List (List ℕ)) → List ℕ
+runFrom room card r blocks =
     let j = flatJudged (judge card) in
-    firstText (judge card) ++ overBlocks (rowSizeIn j) (fileCall j) room (firstRun card) blocks
+    firstText (judge card) ++ overBlocks (rowSizeIn j) (fileCall j) room r blocks
+
+-- The buffer has room for each block's lines, and rows can be counted: an input has fewer than 2^64 bytes.
+pub record Fitting (room : ℕ) (blocks : List (List ℕ)) : Type 0 where
+  pub fit : All (λ b. longest * length b ≤ room) blocks
+  pub few : length (List.flatten blocks) < lastNumber
 
 -- a run as the code keeps it
 abbrev pub runIn : Progress → Run
@@ -102,12 +109,13 @@ abbrev pub isAccepted : Judgement → Bool
 isAccepted (accepted c) = true
 isAccepted (refused n at) = false
 
--- what the code hands out before the first block
+-- what the code hands out before the first block; whatever blocks follow, its text and theirs are the program's
 pub record IsStart (card : List ℕ) (r : Start) : Type 0 where
   pub runs : r .runs ≡ isAccepted (judge card)
   pub net : IsNet (flatJudged (judge card)) (r .net)
   pub run : runIn (r .progress) ≡ firstRun card
   pub text : IsLine (firstText (judge card)) (r .line)
+  pub program : (room : ℕ) (blocks : List (List ℕ)) → Fitting room blocks → runFrom room card (runIn (r .progress)) blocks ≡ runProgram card (List.flatten blocks)
 
 -- what it hands out for a block: the lines stand at the buffer's front, and what stood behind them still does
 pub record IsTurn (x : List ℕ × Run) (before : List ℕ) (r : Turn) (after : List ℕ) : Type 0 where

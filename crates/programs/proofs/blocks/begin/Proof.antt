@@ -1,6 +1,7 @@
 -- `programs::blocks::begin` meets its contract. Assumes nothing.
 use mathlib.Core.Path.{_≡_, ap, _∙_}
 use mathlib.Core.List.{[]}
+use Rattle.programs.proofs.RunLaws.{any-cutting}
 use Rattle.programs.proofs.BlockLaws.{fresh-answer}
 use denote.Ref.{now}
 use Rattle.runners.specs.declared.State.{State as Lent}
@@ -30,6 +31,7 @@ returns c =
       net = c .before .before .flat-net .ensures;
       run = ap (λ (s : Lent). record { number = 1; state = s; left = [] }) (f .ensures .state);
       text = c .before .first-line .ensures (judge card) (f .ensures .answer ∙ fresh-answer card);
+      program = λ room blocks fit. any-cutting room card _ blocks (ap (λ (s : Lent). record { number = 1; state = s; left = [] }) (f .ensures .state)) fit;
     }
 
 pub begin-spec : {M : Type 1} → statement M
