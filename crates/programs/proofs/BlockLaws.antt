@@ -27,10 +27,10 @@ use Rattle.programs.specs.Text.{decimal, line}
 use Rattle.programs.specs.Programs.{replyWords, cardLine}
 use Rattle.programs.specs.Feeds.{fileCall}
 use Rattle.programs.specs.Lines.{Puts, IsLine, longest}
-use Rattle.programs.specs.Runs.{Run, FileCall, following, answered, keeping, feed, fedBlock, lastLine, rowSizeIn, firstText, isAccepted, runIn, IsRowTurn, IsPart, IsTurn}
+use Rattle.programs.specs.Runs.{Run, FileCall, following, answered, keeping, feed, fedBlock, lastLine, rowSizeIn, firstText, isAccepted, runIn, IsTurn}
+use Rattle.programs.specs.inner.Parts.{PutsLine}
 use Rattle.programs.specs.declared.blocks.Progress.{Progress}
 use Rattle.programs.specs.declared.blocks.Turn.{Turn}
-use Rattle.programs.specs.declared.blocks.Part.{Part}
 use Rattle.programs.specs.declared.line.Line.{Line}
 use Rattle.programs.proofs.LineLaws.{puts-none, puts-join, puts-end, puts-whole}
 use Rattle.programs.proofs.RunLaws.{feed-append, feed-kept, feed-row, block-fed, block-tight, block-over}
@@ -59,7 +59,7 @@ pub row-turn : (net : Net) (p : Progress) (a : RowAnswer) (l : Line) (x : List �
     → IsLine (line (decimal (p .number) ∷ replyWords (rowOutcome (a .reply)) (view (a .state)))) l
     → ((text : List ℕ) → IsLine text l → Puts x at text y n) → m ≡ following (p .number)
     → (j : Judgement) → IsNet j net
-    → IsRowTurn (answered (fileCall j) (runIn p)) x at (record { progress = record { number = m; state = a .state; left = replicate 79 0; have = 0 }; length = n }) y
+    → PutsLine (answered (fileCall j) (runIn p)) x at (record { number = m; state = a .state; left = replicate 79 0; have = 0 }) n y
 row-turn net p a l x at y n m h i q e j w =
     record {
       line = q text (subst (λ (t : List ℕ). IsLine t l) same i);
@@ -79,18 +79,18 @@ module _ (p : Progress) (long : length (p .left) ≡ 79) (size : ℕ) (l : p .ha
   left-long = length-take-le (p .have) (p .left) (omega (arith, long, l, u))
 
   pub part-kept : (q : Progress) (x : List ℕ) (at : ℕ) → p .have + length rest < size → runIn q ≡ keeping (runIn p) rest
-      → IsPart (feed size call (runIn p) (take (length rest) rest)) x at (record { progress = q; length = at; taken = length rest }) x
+      → PutsLine (feed size call (runIn p) (take (length rest) rest)) x at q at x
   part-kept q x at f e =
-      subst (λ (z : List ℕ × Run). IsPart z x at (record { progress = q; length = at; taken = length rest }) x)
+      subst (λ (z : List ℕ × Run). PutsLine z x at q at x)
       (sym (ap (feed size call (runIn p)) (take-all (length rest) rest (omega arith)) ∙ feed-kept size call (runIn p) rest (omega (arith, f, left-long))))
       (record { line = puts-none x at; short = omega arith; run = e })
 
-  pub part-row : (q : Progress) (t : Turn) (n : ℕ) (x : List ℕ) (at : ℕ) (y : List ℕ) → 0 < n → n ≤ length rest → p .have + n ≡ size → runIn q ≡ keeping (runIn p) (take n rest)
-      → IsRowTurn (answered call (runIn q)) x at t y → IsPart (feed size call (runIn p) (take n rest)) x at (record { progress = t .progress; length = t .length; taken = n }) y
-  part-row q t n x at y some few whole e w =
-      subst (λ (z : List ℕ × Run). IsPart z x at (record { progress = t .progress; length = t .length; taken = n }) y)
+  pub part-row : (q r : Progress) (n : ℕ) (x : List ℕ) (at : ℕ) (y : List ℕ) (end : ℕ) → 0 < n → n ≤ length rest → p .have + n ≡ size → runIn q ≡ keeping (runIn p) (take n rest)
+      → PutsLine (answered call (runIn q)) x at r end y → PutsLine (feed size call (runIn p) (take n rest)) x at r end y
+  part-row q r n x at y end some few whole e w =
+      subst (λ (z : List ℕ × Run). PutsLine z x at r end y)
       (sym (feed-row size call (runIn p) (take n rest) (omega (arith, some, taken)) (omega (arith, whole, left-long, taken)) ∙ ap (answered call) (sym e)))
-      (record { line = w .line; short = w .short; run = w .run })
+      w
     where
       taken : length (take n rest) ≡ n
       taken = length-take-le n rest few
@@ -114,11 +114,11 @@ module _ (size : ℕ) (call : FileCall) (first : Progress) (block before : List 
   going-start = record { lines = puts-none before 0; run = refl; few = omega arith }
 
   module _ (at : ℕ) (p : Progress) (mid : List ℕ) (n : ℕ) (g : Going size call (runIn first) block before at p mid n) where
-    pub going-more : (rest : List ℕ) (r : Part) (after : List ℕ) → rest ≡ drop at block → 0 < r .taken → IsPart (feed size call (runIn p) (take (r .taken) rest)) mid n r after
-        → Going size call (runIn first) block before (at + r .taken) (r .progress) after (r .length)
-    going-more rest r after e some i =
+    pub going-more : (rest : List ℕ) (k : ℕ) (q : Progress) (m : ℕ) (after : List ℕ) → rest ≡ drop at block → 0 < k → PutsLine (feed size call (runIn p) (take k rest)) mid n q m after
+        → Going size call (runIn first) block before (at + k) q after m
+    going-more rest k q m after e some i =
         record {
-          lines = subst (λ (t : List ℕ). Puts before 0 t after (r .length)) (sym (ap (λ (z : List ℕ × Run). z .0) both)) (puts-join before 0 (x .0) mid n (y .0) after (r .length) (g .lines) (w .line));
+          lines = subst (λ (t : List ℕ). Puts before 0 t after m) (sym (ap (λ (z : List ℕ × Run). z .0) both)) (puts-join before 0 (x .0) mid n (y .0) after m (g .lines) (w .line));
           run = w .run ∙ sym (ap (λ (z : List ℕ × Run). z .1) both);
           few = omega (arith, ap (λ (z : List ℕ × Run). length (z .0)) both, length-append (x .0) (y .0), g .few, w .short, some, more);
         }
@@ -127,17 +127,17 @@ module _ (size : ℕ) (call : FileCall) (first : Progress) (block before : List 
         x = feed size call (runIn first) (take at block)
 
         y : List ℕ × Run
-        y = feed size call (runIn p) (take (r .taken) (drop at block))
+        y = feed size call (runIn p) (take k (drop at block))
 
-        w : IsPart y mid n r after
-        w = subst (λ (xs : List ℕ). IsPart (feed size call (runIn p) (take (r .taken) xs)) mid n r after) e i
+        w : PutsLine y mid n q m after
+        w = subst (λ (xs : List ℕ). PutsLine (feed size call (runIn p) (take k xs)) mid n q m after) e i
 
-        both : feed size call (runIn first) (take (at + r .taken) block) ≡ (x .0 ++ y .0, y .1)
+        both : feed size call (runIn first) (take (at + k) block) ≡ (x .0 ++ y .0, y .1)
         both =
-            ap (feed size call (runIn first)) (take-add at (r .taken) block) ∙ feed-append size call (runIn first) (take at block) (take (r .taken) (drop at block))
-            ∙ ap (λ (k : Run). (x .0 ++ (feed size call k (take (r .taken) (drop at block))) .0, (feed size call k (take (r .taken) (drop at block))) .1)) (sym (g .run))
+            ap (feed size call (runIn first)) (take-add at k block) ∙ feed-append size call (runIn first) (take at block) (take k (drop at block))
+            ∙ ap (λ (z : Run). (x .0 ++ (feed size call z (take k (drop at block))) .0, (feed size call z (take k (drop at block))) .1)) (sym (g .run))
 
-        more : longest * (at + r .taken) ≡ longest * at + longest * r .taken
+        more : longest * (at + k) ≡ longest * at + longest * k
         more = omega arith
 
     pub going-end : length block ≤ at → at ≤ length block → longest * length block ≤ length before

@@ -6,3 +6,4 @@ pub mod Files
 pub mod Runs
 pub mod Agreeing
 pub mod Cases
+pub mod inner

@@ -19,10 +19,9 @@ use Rattle.runners.specs.declared.State.{State as Lent}
 use Rattle.programs.specs.Text.{decimal, line}
 use Rattle.programs.specs.Programs.{replyWords, cardLine, runProgram}
 use Rattle.programs.specs.Feeds.{fileCall}
-use Rattle.programs.specs.Lines.{Puts, longest, IsLine}
+use Rattle.programs.specs.Lines.{longest, IsLine}
 use Rattle.programs.specs.declared.blocks.Progress.{Progress}
 use Rattle.programs.specs.declared.blocks.Turn.{Turn}
-use Rattle.programs.specs.declared.blocks.Part.{Part}
 use Rattle.programs.specs.declared.blocks.Start.{Start}
 
 -- A run somewhere in its input: the number of the next row, the state in front of it, and those of its bytes that are there.
@@ -122,16 +121,4 @@ pub record IsTurn (x : List ℕ × Run) (before : List ℕ) (r : Turn) (after : 
   pub fits : length (x .0) ≤ length before
   pub length : r .length ≡ length (x .0)
   pub lines : after ≡ putInto (x .0) before
-  pub run : runIn (r .progress) ≡ x .1
-
--- a row's line, put behind other lines
-pub record IsRowTurn (x : List ℕ × Run) (before : List ℕ) (at : ℕ) (r : Turn) (after : List ℕ) : Type 0 where
-  pub line : Puts before at (x .0) after (r .length)
-  pub short : length (x .0) ≤ longest
-  pub run : runIn (r .progress) ≡ x .1
-
--- a part of a block: at most one line
-pub record IsPart (x : List ℕ × Run) (before : List ℕ) (at : ℕ) (r : Part) (after : List ℕ) : Type 0 where
-  pub line : Puts before at (x .0) after (r .length)
-  pub short : length (x .0) ≤ longest
   pub run : runIn (r .progress) ≡ x .1

@@ -25,7 +25,8 @@ ghost use Rattle.runners.specs.Nets.{IsNet};
 ghost use Rattle.programs.specs.Feeds.{fileCall};
 ghost use Rattle.programs.specs.Lines.{IsLine, Puts, longest};
 ghost use Rattle.runners.specs.Answers.{IsRow};
-ghost use Rattle.programs.specs.Runs.{following, rowSizeIn, answered, keeping, feed, IsRowTurn, IsPart, lastLine, fedBlock, firstText, isAccepted, runIn, IsStart, IsTurn};
+ghost use Rattle.programs.specs.Runs.{following, rowSizeIn, answered, keeping, feed, lastLine, fedBlock, firstText, isAccepted, runIn, IsStart, IsTurn};
+ghost use Rattle.programs.specs.inner.Parts.{PutsLine};
 
 // The most bytes that a row has.
 const ROW_BYTES: usize = 79;
@@ -94,7 +95,7 @@ fn left_row(net: Net, p: Progress) -> RowAnswer
 
 // Its line, and the run in front of the next row.
 fn answer_row(net: Net, p: Progress, out: &mut [u8], at: usize) -> Turn
-    ensures { λ r. ⌜ ((j : Judgement) → IsNet j net → IsRowTurn (answered (fileCall j) (runIn p)) (now (out .entry)) at r (now (out .exit))) × (r .progress .have ≡ 0) ⌝ }
+    ensures { λ r. ⌜ ((j : Judgement) → IsNet j net → PutsLine (answered (fileCall j) (runIn p)) (now (out .entry)) at (r .progress) (r .length) (now (out .exit))) × (r .progress .have ≡ 0) ⌝ }
 {
     let a = left_row(net, p);
     let reply = a.reply;
@@ -128,7 +129,8 @@ fn keep(p: Progress, bytes: &[u8]) -> Progress
 // Takes the bytes that the row lacks, and answers it, or all there are, if these are fewer.
 fn answer_part(net: Net, p: Progress, size: usize, rest: &[u8], out: &mut [u8], at: usize) -> Part
     requires { ⌜ (p .have < size) × (size ≤ 79) × (0 < length (now rest)) ⌝ }
-    ensures { λ r. ⌜ (r .progress .have < size) × (0 < r .taken) × (r .taken ≤ length (now (rest .entry))) × ((j : Judgement) → IsNet j net → IsPart (feed size (fileCall j) (runIn p) (take (r .taken) (now (rest .entry)))) (now (out .entry)) at r (now (out .exit))) ⌝ }
+    ensures { λ r. ⌜ (r .progress .have < size) × (0 < r .taken) × (r .taken ≤ length (now (rest .entry))) ⌝ }
+    ensures { λ r. ⌜ ((j : Judgement) → IsNet j net → PutsLine (feed size (fileCall j) (runIn p) (take (r .taken) (now (rest .entry)))) (now (out .entry)) at (r .progress) (r .length) (now (out .exit))) ⌝ }
 {
     let lacks = size - p.have;
     if rest.len() < lacks {

@@ -52,7 +52,7 @@ loop-again c =
     let a = b .args in
     let l = c .before .before .before .before .before .before .before .before .loop in
     let p = c .before .before .before .before .answer-part in
-    (rest-in (now (a .block)) _ (l .at) (p .result .taken) (rest-is (now (a .block)) (l .at)) (l .inv .0) (p .ensures .2), p .ensures .0, search needs, λ j h. going-more (a .size) (fileCall j) (a .first) (now (a .block)) (now (a .out)) (l .at) (l .progress) (l .out) (l .length) (l .inv .3 j h) _ (p .result) (p .last .1 .1 .1 .1 .0) (rest-is (now (a .block)) (l .at)) (p .ensures .1) (p .ensures .3 j h))
+    (rest-in (now (a .block)) _ (l .at) (p .result .taken) (rest-is (now (a .block)) (l .at)) (l .inv .0) (p .ensures .0 .2), p .ensures .0 .0, search needs, λ j h. going-more (a .size) (fileCall j) (a .first) (now (a .block)) (now (a .out)) (l .at) (l .progress) (l .out) (l .length) (l .inv .3 j h) _ (p .result .taken) (p .result .progress) (p .result .length) (p .last .1 .1 .1 .1 .0) (rest-is (now (a .block)) (l .at)) (p .ensures .0 .1) (p .ensures .1 j h))
 
 same-length : tie.Need-same-length Inv-loop μ-loop
 same-length c = search needs

@@ -20,7 +20,7 @@ returns c =
     let b = c .before .before .before .before .before in
     let a = b .args in
     let k = c .keep in
-    (omega (arith, k .ensures .1, (c .before .if1) .taken), b .pre .2, omega arith, λ j h. part-kept (a .p) (k .ensures .2) (a .size) (b .pre .0) (b .pre .1) (now (a .rest)) (fileCall j) (k .result) (now (a .out)) (a .at) (omega (arith, (c .before .if1) .taken)) (k .ensures .0))
+    ((omega (arith, k .ensures .1, (c .before .if1) .taken), b .pre .2, omega arith), λ j h. part-kept (a .p) (k .ensures .2) (a .size) (b .pre .0) (b .pre .1) (now (a .rest)) (fileCall j) (k .result) (now (a .out)) (a .at) (omega (arith, (c .before .if1) .taken)) (k .ensures .0))
 
 slice-aggregate-keep : tie.Need-slice-aggregate-keep
 slice-aggregate-keep c = simp length-take (omega arith)
@@ -41,7 +41,7 @@ returns-2 c =
     let k = c .before .before .before .before .before .keep2 in
     let t = c .before .before .before .answer-row in
     let enough = (c .before .before .before .before .before .before .before .if1) .left in
-    (omega (arith, t .ensures .1, b .pre .0), omega (arith, b .pre .0), omega (arith, enough), λ j h. part-row (a .p) (k .ensures .2) (a .size) (b .pre .0) (b .pre .1) (now (a .rest)) (fileCall j) (k .result) (t .result) (a .size - a .p .have) (now (a .out)) (a .at) (t .last .1 .1 .0) (omega (arith, b .pre .0)) (omega (arith, enough)) (omega (arith, b .pre .0)) (k .ensures .0) (t .ensures .0 j h))
+    ((omega (arith, t .ensures .1, b .pre .0), omega (arith, b .pre .0), omega (arith, enough)), λ j h. part-row (a .p) (k .ensures .2) (a .size) (b .pre .0) (b .pre .1) (now (a .rest)) (fileCall j) (k .result) (t .result .progress) (a .size - a .p .have) (now (a .out)) (a .at) (t .last .1 .1 .0) (t .result .length) (omega (arith, b .pre .0)) (omega (arith, enough)) (omega (arith, b .pre .0)) (k .ensures .0) (t .ensures .0 j h))
 
 pub answer-part-spec : {M : Type 1} → statement M
 answer-part-spec =
