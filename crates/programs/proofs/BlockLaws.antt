@@ -1,13 +1,12 @@
 -- What the functions over a block of input do with a run and a buffer. Assumes nothing.
 use Prim.Native.Nat.{ℕ, _+_, _-_, _*_, _/_, _≤_, _<_}
 use mathlib.Core.Path.{_≡_, refl, sym, ap, ap₂, subst, _∙_}
-use mathlib.Core.Bool.{Bool, true, false}
+use mathlib.Core.Bool.{true, false}
 use mathlib.Core.List.{List, [], _∷_, _++_, append-assoc}
 use native.Mathlib.Omega.{arith}
 use native.Mathlib.Nat.{zero-add}
 use lib.ListN.{length, take, drop, replicate, length-append, length-take, length-drop}
 use lib.Seq.{take-all, take-at, take-add, length-take-le}
-use lib.Dec.{leb}
 use borrow.Author.Tests.{le-leb, ne-eqb}
 use Rattle.card.specs.Bits.{bytesFor}
 use Rattle.card.specs.Spelling.{putInto}

@@ -4,7 +4,7 @@ use mathlib.Core.Path.{_≡_, refl, sym, ap, ap₂, subst, _∙_}
 use mathlib.Core.Bool.{true}
 use mathlib.Core.List.{List, _++_}
 use native.Mathlib.Omega.{arith}
-use lib.ListN.{length, drop, replicate, length-replicate}
+use lib.ListN.{length, replicate, length-replicate}
 use lib.Dec.{leb}
 use borrow.Author.Tests.{le-leb}
 use Rattle.card.specs.Card.{Card}
@@ -12,12 +12,11 @@ use Rattle.card.specs.Tables.{cardBytes}
 use Rattle.card.specs.Spelling.{putInto}
 use Rattle.card.specs.Writing.{encode}
 use Rattle.card.proofs.Length.{bytes-few}
-use Rattle.hierarchy.specs.Numbers.{number, WriteOutcome, writeOutcome}
+use Rattle.hierarchy.specs.Numbers.{WriteOutcome, writeOutcome}
 use Rattle.hierarchy.specs.Judgement.{Judgement, accepted, refused, judge}
-use Rattle.hierarchy.specs.Output.{fitted, delivered, IsWritten}
-use Rattle.hierarchy.specs.declared.CardFault.{CardFault}
+use Rattle.hierarchy.specs.Output.{delivered, IsWritten}
 use Rattle.hierarchy.specs.declared.Written.{Written}
-use Rattle.hierarchy.specs.declared.Written.the-variants.{Wrote, Refused, Short}
+use Rattle.hierarchy.specs.declared.Written.the-variants.{Wrote}
 use Rattle.hierarchy.proofs.Accepted.{accepted-meets}
 use Rattle.flattening.specs.Flattening.{flatten, flattenCall}
 use Rattle.flattening.proofs.FlatLaws.{flat-meets}

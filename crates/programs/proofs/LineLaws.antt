@@ -6,7 +6,7 @@ use mathlib.Core.Option.{none, some}
 use mathlib.Core.Bool.{Bool, true, false, cond}
 use mathlib.Core.List.{List, [], _∷_, _++_, map, append-assoc}
 use native.Mathlib.Omega.{arith}
-use native.Mathlib.Numerals.{unary-clauses, add-one}
+use native.Mathlib.Numerals.{add-one}
 use native.Mathlib.Nat.{pow-suc, zero-add}
 use lib.ListN.{length, getD, set, take, drop, replicate, length-set, length-append, length-replicate, take-append-drop, replicate-append-replicate}
 use lib.Seq.{take-suc, take-all, take-append-seam, take-suc-set, drop-set-lt, drop-at}

@@ -1,6 +1,6 @@
 -- A run block by block: what is written over any cutting of the input is what `runProgram` says. Assumes nothing.
-use Prim.Native.Nat.{ℕ, zero, suc, _+_, _-_, _*_, _^_, _≤_, _<_, min}
-use mathlib.Core.Path.{_≡_, refl, sym, ap, ap₂, subst, _∙_}
+use Prim.Native.Nat.{ℕ, suc, _+_, _-_, _*_, _≤_, _<_}
+use mathlib.Core.Path.{_≡_, refl, sym, ap, ap₂, _∙_}
 use mathlib.Core.Bool.{Bool, true, false, cond, _&&_}
 use mathlib.Core.List.{List, [], _∷_, _++_, map, append-assoc, append-nil}
 use mathlib.Core.List
@@ -8,14 +8,13 @@ use native.Mathlib.Omega.{arith}
 use lib.ListN.{length, length-append, drop-of-length-le}
 use lib.Arith.{lt-of-le-ne}
 use lib.Seq.{take-all, take-at, drop-at}
-use lib.Dec.{eqb, leb, ltb}
+use lib.Dec.{eqb, leb}
 use borrow.Author.Tests.{eq-eqb, ne-eqb, lt-ltb, le-ltb, le-leb, lt-leb, eqb-true, eqb-false}
 use Rattle.card.specs.Finite.{All}
 use Rattle.card.specs.Card.{Card}
 use Rattle.hierarchy.specs.Judgement.{Judgement, accepted, refused, judge}
 use Rattle.hierarchy.proofs.Accepted.{accepted-meets}
 use Rattle.flattening.specs.Flattening.{flatten}
-use Rattle.runners.specs.Numbers.{RowOutcome}
 use Rattle.runners.specs.Rows.{pieces}
 use Rattle.runners.specs.Calls.{view}
 use Rattle.runners.specs.Nets.{flatJudged}

@@ -95,7 +95,7 @@ runFrom room card r blocks =
     let j = flatJudged (judge card) in
     firstText (judge card) ++ overBlocks (rowSizeIn j) (fileCall j) room r blocks
 
--- The buffer has room for each block's lines, and rows can be counted: an input has fewer than 2^64 bytes.
+-- The buffer has room for each block's lines, and rows can be counted: an input has fewer than 2^64 - 1 bytes.
 pub record Fitting (room : ℕ) (blocks : List (List ℕ)) : Type 0 where
   pub fit : All (λ b. longest * length b ≤ room) blocks
   pub few : length (List.flatten blocks) < lastNumber

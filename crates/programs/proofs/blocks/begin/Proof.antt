@@ -1,5 +1,5 @@
 -- `programs::blocks::begin` meets its contract. Assumes nothing.
-use mathlib.Core.Path.{_≡_, ap, _∙_}
+use mathlib.Core.Path.{ap, _∙_}
 use mathlib.Core.List.{[]}
 use Rattle.programs.proofs.RunLaws.{any-cutting}
 use Rattle.programs.proofs.BlockLaws.{fresh-answer}

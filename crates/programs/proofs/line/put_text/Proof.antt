@@ -1,7 +1,6 @@
 -- `programs::line::put_text` meets its contract. Assumes nothing.
 use Prim.Native.Nat.{_-_, _≤_}
 use lib.ListN.{length, take}
-use denote.Ref.{now}
 use native.Mathlib.Omega.{arith}
 use borrow.Author.Needs.{needs}
 use Rattle.programs.specs.Lines.{Puts}
