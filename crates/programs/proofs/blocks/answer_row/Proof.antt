@@ -1,5 +1,6 @@
 -- `programs::blocks::answer_row` meets its contract. Assumes nothing.
 use mathlib.Core.Path.{refl}
+use denote.Ref.{now}
 use Rattle.programs.proofs.BlockLaws.{row-turn}
 use borrow.Author.Needs.{needs}
 use Rattle.programs.proofs.blocks.answer_row.Statement.{statement}
@@ -21,7 +22,12 @@ same-length : tie.Need-same-length
 same-length c = search needs
 
 returns : tie.Need-returns
-returns c = (search (row-turn, needs), refl)
+returns c =
+    let a = c .before .before .before .before .before .before .before .before .before .args in
+    let r = c .before .before .before .before .before .before .before .left-row in
+    let l = c .before .before .before .before .reply-line in
+    let w = c .before .before .before .put-line in
+    (row-turn (a .net) (a .p) (r .result) (l .result) (now (a .out)) (a .at) (w .last .0) (w .result) (c .next-number .result) (r .ensures .0) (l .ensures) (w .ensures) (c .next-number .ensures), refl)
 
 pub answer-row-spec : {M : Type 1} → statement M
 answer-row-spec =

@@ -17,7 +17,11 @@ put-byte-requires : tie.Need-put-byte-requires
 put-byte-requires c κs = search needs
 
 returns : tie.Need-returns
-returns c = search (card-done, needs)
+returns c =
+    let a = c .before .before .before .before .before .before .args in
+    let w = c .before .before .before .before .put-refusal-at in
+    let b = c .before .put-byte in
+    card-done (a .number) (a .value) (w .last .0) (w .result) (b .last .0) (b .result) (w .ensures .0) (w .ensures .1) (b .ensures)
 
 pub refusal-line-spec : {M : Type 1} → statement M
 refusal-line-spec =
