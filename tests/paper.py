@@ -63,6 +63,11 @@ def tests():
     yield "run, a short row", programs.run(BENCH, rows[:2]), b"1 no 20\n"
     yield "run, a short last row", programs.run(BENCH, rows[:5]), b"1 ok 600 400 0 | 400 -\n2 no 20\n"
     yield "run, a fill bit", programs.run(BENCH, rows[:2] + bytes([rows[2] | 1]) + rows[:3]), b"1 no 20\n2 ok 600 400 0 | 400 -\n"
+    lines = BENCH_LINES.splitlines(keepends=True)
+    pieces = [(rows[:2], 0), (rows[2:4], 1), (rows[4:9], 2), (rows[9:10], 0), (rows[10:17], 2)]
+    yield ("run, rows in pieces while the input stays open", programs.run_in_pieces(BENCH, pieces),
+           [b"", lines[0], lines[1] + lines[2], b"", lines[3] + lines[4], b"6 no 20\n"])
+    yield "run, a row behind those", programs.run_in_pieces(BENCH, [*pieces, (rows[17:], 1)])[-2:], [lines[5], b""]
     flat = programs.flatten(BENCH)
     yield "flatten, bench card A", flat, cards.encode(net.flatten(samples.bench_card()))
     yield "flatten, again", programs.flatten(flat), flat

@@ -4,6 +4,7 @@ import os
 import pathlib
 import subprocess
 import tempfile
+import threading
 
 import report
 from paths import root
@@ -30,6 +31,24 @@ def run(card, rows):
         if card is not None:
             (pathlib.Path(where) / "net.card").write_bytes(card)
         return printed("run", rows, where)
+
+
+def run_in_pieces(card, pieces):
+    """What the run program writes while its input stays open: a piece is some bytes and how many lines they complete. The last answer is
+    what comes once the input ends. A program that keeps a line back is ended after 30 seconds."""
+    with tempfile.TemporaryDirectory() as where:
+        (pathlib.Path(where) / "net.card").write_bytes(card)
+        with subprocess.Popen([folder / "run"], stdin=subprocess.PIPE, stdout=subprocess.PIPE, cwd=where) as program:
+            timer = threading.Timer(30, program.kill)
+            timer.start()
+            answers = []
+            for data, lines in pieces:
+                program.stdin.write(data)
+                program.stdin.flush()
+                answers.append(b"".join(program.stdout.readline() for _ in range(lines)))
+            rest, _ = program.communicate()
+            timer.cancel()
+            return [*answers, rest]
 
 
 def flatten(card):
