@@ -1,5 +1,6 @@
 """The proved programs, as rt built them."""
 
+import contextlib
 import os
 import pathlib
 import subprocess
@@ -35,20 +36,23 @@ def run(card, rows):
 
 def run_in_pieces(card, pieces):
     """What the run program writes while its input stays open: a piece is some bytes and how many lines they complete. The last answer is
-    what comes once the input ends. A program that keeps a line back is ended after 30 seconds."""
+    what comes once the input ends. A program that keeps a line back is ended after 10 seconds, and its further answers are empty."""
     with tempfile.TemporaryDirectory() as where:
         (pathlib.Path(where) / "net.card").write_bytes(card)
-        with subprocess.Popen([folder / "run"], stdin=subprocess.PIPE, stdout=subprocess.PIPE, cwd=where) as program:
-            timer = threading.Timer(30, program.kill)
-            timer.start()
-            answers = []
-            for data, lines in pieces:
+        program = subprocess.Popen([folder / "run"], bufsize=0, stdin=subprocess.PIPE, stdout=subprocess.PIPE, cwd=where)
+        timer = threading.Timer(10, program.kill)
+        timer.start()
+        answers = []
+        for data, lines in pieces:
+            with contextlib.suppress(BrokenPipeError):
                 program.stdin.write(data)
-                program.stdin.flush()
-                answers.append(b"".join(program.stdout.readline() for _ in range(lines)))
-            rest, _ = program.communicate()
-            timer.cancel()
-            return [*answers, rest]
+            answers.append(b"".join(program.stdout.readline() for _ in range(lines)))
+        program.stdin.close()
+        answers.append(program.stdout.read())
+        program.stdout.close()
+        program.wait()
+        timer.cancel()
+        return answers
 
 
 def flatten(card):

@@ -17,17 +17,22 @@ use runners::Net;
 ghost use mathlib.Core.Path.{_≡_};
 ghost use Prim.Native.Nat.{_*_, _≤_};
 ghost use lib.ListN.{length};
+ghost use Rattle.hierarchy.specs.Judgement.{Judgement};
+ghost use Rattle.runners.specs.Nets.{IsNet};
+ghost use Rattle.programs.specs.Feeds.{fileCall};
 ghost use Rattle.programs.specs.Lines.{longest};
+ghost use Rattle.programs.specs.Runs.{rowSizeIn, fedBlock, runIn};
 
 fn put_line(l: Line) {
     let bytes = l.bytes;
     put_first(&bytes, l.length);
 }
 
-// Asks for the room without which `answer_block` takes nothing.
+// Writes the lines of a block, and gives the run behind it. It asks for the room without which `answer_block` takes nothing.
 fn put_block(net: Net, p: Progress, block: &[u8], lines: &mut [u8]) -> Progress
     requires { ⌜ longest * length (now block) ≤ length (now lines) ⌝ }
     ensures { λ r. ⌜ length (now (lines .exit)) ≡ length (now (lines .entry)) ⌝ }
+    ensures { λ r. ⌜ ((j : Judgement) → IsNet j net → runIn r ≡ (fedBlock (rowSizeIn j) (fileCall j) (length (now (lines .entry))) (runIn p) (now (block .entry))) .1) ⌝ }
 {
     let t = answer_block(net, p, block, lines);
     let next = t.progress;
