@@ -25,13 +25,13 @@ use Rattle.runners.specs.declared.RowAnswer.{RowAnswer}
 use Rattle.programs.specs.Text.{decimal, line}
 use Rattle.programs.specs.Programs.{replyWords, cardLine}
 use Rattle.programs.specs.Feeds.{fileCall}
-use Rattle.programs.specs.Lines.{Puts, IsLine, longest}
+use Rattle.programs.specs.Lines.{Puts, IsLine, firstBytes, longest}
 use Rattle.programs.specs.Runs.{Run, FileCall, following, answered, keeping, feed, fedBlock, lastLine, rowSizeIn, firstText, isAccepted, runIn, IsTurn}
 use Rattle.programs.specs.inner.Parts.{PutsLine}
 use Rattle.programs.specs.declared.blocks.Progress.{Progress}
 use Rattle.programs.specs.declared.blocks.Turn.{Turn}
 use Rattle.programs.specs.declared.line.Line.{Line}
-use Rattle.programs.proofs.LineLaws.{puts-none, puts-join, puts-end, puts-whole}
+use Rattle.programs.proofs.LineLaws.{puts-none, puts-join, puts-end, puts-whole, line-put}
 use Rattle.programs.proofs.RunLaws.{feed-append, feed-kept, feed-row, block-fed, block-tight, block-over}
 
 -- all the bytes that are there
@@ -56,12 +56,12 @@ module _ (p : Progress) (bytes y : List ℕ) (r : ℕ) (long : length (p .left) 
 pub row-turn : (net : Net) (p : Progress) (a : RowAnswer) (l : Line) (x : List ℕ) (at : ℕ) (y : List ℕ) (n m : ℕ)
     → ((j : Judgement) → IsNet j net → IsRow (fileCall j (p .state) (take (p .have) (p .left))) a)
     → IsLine (line (decimal (p .number) ∷ replyWords (rowOutcome (a .reply)) (view (a .state)))) l
-    → ((text : List ℕ) → IsLine text l → Puts x at text y n) → m ≡ following (p .number)
+    → Puts x at (firstBytes (l .length) (l .bytes)) y n → m ≡ following (p .number)
     → (j : Judgement) → IsNet j net
     → PutsLine (answered (fileCall j) (runIn p)) x at (record { number = m; state = a .state; left = replicate 79 0; have = 0 }) n y
 row-turn net p a l x at y n m h i q e j w =
     record {
-      line = q text (subst (λ (t : List ℕ). IsLine t l) same i);
+      line = line-put text l x at y n (subst (λ (t : List ℕ). IsLine t l) same i) q;
       short = (subst (λ (t : List ℕ). IsLine t l) same i) .fits;
       run = ap₂ (λ (k : ℕ) (s : Lent). record { number = k; state = s; left = [] }) e (h j w .state);
     }

@@ -1,12 +1,14 @@
 -- The rows of a file on the net of a card's flat card: what they are answered, and that the lines of a run are those of the definition.
 -- Assumes nothing.
-use Prim.Native.Nat.{ℕ, _≤_}
+use Prim.Native.Nat.{ℕ, _≤_, _<_}
 use mathlib.Core.Path.{_≡_, sym, ap, ap₂, subst, _∙_}
-use mathlib.Core.Bool.{Bool, true, false}
+use mathlib.Core.Logic.{_⊎_, inl, inr}
+use mathlib.Core.Bool.{Bool, true, false, false≢true}
 use mathlib.Core.List.{List, [], _∷_, map}
 use native.Mathlib.Omega.{arith}
 use lib.ListN.{take, replicate}
 use Rattle.card.specs.Card.{Card}
+use Rattle.card.proofs.BitLaws.{lt-or-ge}
 use Rattle.hierarchy.specs.Judgement.{Judgement, accepted, refused, judge}
 use Rattle.flattening.specs.Flattening.{flatten}
 use Rattle.flattening.proofs.FlatLaws.{flatten-again}
@@ -33,6 +35,14 @@ use Rattle.programs.proofs.FileLaws.{row-long, row-hollow, row-found, t
 pub few-signals : (net : Net) (j : Judgement) → IsNet j net → (n : ℕ) → n ≡ signalsIn j → n ≤ 63
 few-signals net (accepted c) h n e = omega (arith, e, h .tables .tables .meets .wellformed .fewSignals)
 few-signals net (refused k at) h n e = omega (arith, e)
+
+-- nor has a row that was read
+pub whole-few : (n : ℕ) (r : FileRow) → (63 < n → r ≡ fileRow noRow) → r .whole ≡ true → n ≤ 63
+whole-few n r h w = go (lt-or-ge 63 n)
+  where
+    go : (63 < n) ⊎ (n ≤ 63) → n ≤ 63
+    go (inl l) = absurd (false≢true (sym (ap (λ (k : FileRow). k .whole) (h l)) ∙ w))
+    go (inr l) = l
 
 module _ (net : Net) (l : Lent) (x : RowAnswer) where
   few : (j : Judgement) → IsNet j net → (c : Card) → j ≡ accepted c → c .signals ≤ 63

@@ -21,13 +21,13 @@ use Rattle.hierarchy.proofs.Accepted.{accepted-meets}
 use Rattle.flattening.specs.Flattening.{flatten, flattenCall}
 use Rattle.flattening.proofs.FlatLaws.{flat-meets}
 use Rattle.programs.specs.Programs.{cardLine, flattens, flattenProgram}
-use Rattle.programs.specs.Lines.{Puts, IsPadded, IsLine}
+use Rattle.programs.specs.Lines.{Puts, IsPadded, IsLine, firstBytes}
 use Rattle.programs.specs.declared.line.Line.{Line}
-use Rattle.programs.proofs.LineLaws.{zeros, zeros-under, padded}
+use Rattle.programs.proofs.LineLaws.{zeros, zeros-under, padded, line-put}
 
 -- a refusal's line in the longer buffer
-pub refusal-padded : (text y : List ℕ) (n : ℕ) (l : Line) → IsLine text l → ((t : List ℕ) → IsLine t l → Puts (zeros cardBytes) 0 t y n) → IsPadded cardBytes text y n
-refusal-padded text y n l h p = padded cardBytes text y n (omega (arith, h .fits)) (p text h)
+pub refusal-padded : (text y : List ℕ) (n : ℕ) (l : Line) → IsLine text l → Puts (zeros cardBytes) 0 (firstBytes (l .length) (l .bytes)) y n → IsPadded cardBytes text y n
+refusal-padded text y n l h p = padded cardBytes text y n (omega (arith, h .fits)) (line-put text l (zeros cardBytes) 0 y n h p)
 
 module _ (card : List ℕ) (r : Written) (after : List ℕ) (w : IsWritten (flattenCall card (zeros cardBytes)) r after) where
   abbrev call : Judgement → WriteOutcome × List ℕ

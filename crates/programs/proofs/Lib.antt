@@ -4,6 +4,7 @@ pub mod LongCard
 pub mod FlatTextLaws
 pub mod FeedLaws
 pub mod RunLaws
+pub mod StoryLaws
 pub mod BlockLaws
 pub mod AgreeLaws
 pub mod Starred

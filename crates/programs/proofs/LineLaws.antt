@@ -11,7 +11,7 @@ use native.Mathlib.Nat.{pow-suc, zero-add}
 use lib.ListN.{length, getD, set, take, drop, replicate, length-set, length-append, length-replicate, take-append-drop, replicate-append-replicate}
 use lib.Seq.{take-suc, take-all, take-append-seam, take-suc-set, drop-set-lt, drop-at}
 use lib.Dec.{ltb}
-use borrow.Author.Tests.{lt-ltb, le-ltb, ltb-false, eq-eqb, ne-eqb}
+use borrow.Author.Tests.{lt-ltb, le-ltb, ltb-false, le-leb, lt-leb, eq-eqb, ne-eqb}
 use Rattle.card.proofs.BitLaws.{lt-or-ge}
 use Rattle.runners.specs.Numbers.{RowOutcome, ok, refused, replyCode}
 use Rattle.runners.specs.State.{NetState}
@@ -19,7 +19,7 @@ use Rattle.runners.specs.declared.replies.Code.{Code}
 use Rattle.runners.proofs.ReplyLaws.{outcomeIn, outcome-of}
 use Rattle.programs.specs.Programs.{stateWords, refusalWords, valueWords, replyWords, cardLine}
 use Rattle.programs.specs.Text.{ascii, digit, digits, decimal, line}
-use Rattle.programs.specs.Lines.{Cursor, putByte, putAll, Puts, spaced, joined, transferWord, IsPadded, IsLine, longest}
+use Rattle.programs.specs.Lines.{Cursor, putByte, putAll, Puts, spaced, joined, transferWord, IsPadded, IsLine, firstBytes, longest}
 use Rattle.programs.specs.declared.line.Line.{Line}
 
 -- one byte
@@ -330,12 +330,21 @@ card-done n at y m z r a l d = line-done (joined (refusalWords n (some at))) y m
 pub numbered : (room n k at : ℕ) (bytes : List ℕ) (r : ℕ) → n ≡ k → IsPadded room (cardLine n at) bytes r → IsPadded room (cardLine k at) bytes r
 numbered room n k at bytes r e h = subst (λ (m : ℕ). IsPadded room (cardLine m at) bytes r) e h
 
+-- the first bytes of a buffer, as they are put
+pub first-none : (n : ℕ) (text x : List ℕ) (at : ℕ) → length text < n → Puts x at (firstBytes n text) x at
+first-none n text x at l = subst (λ (t : Bool). Puts x at (cond t (take n text) []) x at) (sym (lt-leb n (length text) l)) (puts-none x at)
+
+pub first-put : (n : ℕ) (text x : List ℕ) (at : ℕ) (y : List ℕ) (r : ℕ) → n ≤ length text → Puts x at (take n text) y r → Puts x at (firstBytes n text) y r
+first-put n text x at y r l p = subst (λ (t : Bool). Puts x at (cond t (take n text) []) y r) (sym (le-leb n (length text) l)) p
+
 -- a line's text is its first bytes
-line-text : (text : List ℕ) (l : Line) → IsLine text l → take (l .length) (l .bytes) ≡ text
+pub line-text : (text : List ℕ) (l : Line) → IsLine text l → take (l .length) (l .bytes) ≡ text
 line-text text l h = ap₂ (λ (n : ℕ) (xs : List ℕ). take n xs) (h .length) (h .bytes) ∙ take-append-seam text (replicate (longest - length text) 0)
 
-pub line-put : (l : Line) (x : List ℕ) (at : ℕ) (y : List ℕ) (r : ℕ) → (l .length ≤ length (l .bytes) → Puts x at (take (l .length) (l .bytes)) y r)
-    → (text : List ℕ) → IsLine text l → Puts x at text y r
-line-put l x at y r p text h =
-    subst (λ (w : List ℕ). Puts x at w y r) (line-text text l h)
-    (p (omega (arith, h .length, h .fits, ap length (h .bytes), length-append text (replicate (longest - length text) 0))))
+pub line-put : (text : List ℕ) (l : Line) (x : List ℕ) (at : ℕ) (y : List ℕ) (r : ℕ) → IsLine text l → Puts x at (firstBytes (l .length) (l .bytes)) y r → Puts x at text y r
+line-put text l x at y r h p =
+    subst (λ (w : List ℕ). Puts x at w y r)
+    (ap (λ (t : Bool). cond t (take (l .length) (l .bytes)) [])
+    (le-leb (l .length) (length (l .bytes)) (omega (arith, h .length, h .fits, ap length (h .bytes), length-append text (replicate (longest - length text) 0))))
+    ∙ line-text text l h)
+    p

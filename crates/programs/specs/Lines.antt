@@ -3,8 +3,8 @@ use Prim.Native.Nat.{ℕ, _+_, _-_, _≤_}
 use mathlib.Core.Path.{_≡_}
 use mathlib.Core.Bool.{cond}
 use mathlib.Core.List.{List, [], _∷_, _++_}
-use lib.ListN.{length, set, replicate}
-use lib.Dec.{ltb}
+use lib.ListN.{length, set, take, replicate}
+use lib.Dec.{leb, ltb}
 use Rattle.card.specs.Tables.{cardBytes}
 use Rattle.runners.specs.Numbers.{progress}
 use Rattle.programs.specs.Text.{ascii}
@@ -30,6 +30,10 @@ putAll c (b ∷ bytes) = putAll (putByte c b) bytes
 -- what a function that puts bytes leaves
 pub record Puts (before : List ℕ) (at : ℕ) (bytes after : List ℕ) (end : ℕ) : Type 0 where
   pub is : record { buffer = after; at = end } ≡ putAll (record { buffer = before; at = at }) bytes
+
+-- the first n bytes; none, if there are fewer
+abbrev pub firstBytes : (n : ℕ) → (bytes : List ℕ) → List ℕ
+firstBytes n bytes = cond (leb n (length bytes)) (take n bytes) []
 
 -- words with a space before each
 unfoldable pub spaced : List (List ℕ) → List ℕ

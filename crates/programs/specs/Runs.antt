@@ -3,7 +3,7 @@
 use Prim.Native.Nat.{ℕ, suc, _-_, _*_, _^_, _≤_, _<_, min}
 use mathlib.Core.Path.{_≡_}
 use mathlib.Core.Bool.{Bool, true, false, _&&_, cond}
-use mathlib.Core.List.{List, [], _∷_, _++_}
+use mathlib.Core.List.{List, [], _∷_, _++_, map}
 use mathlib.Core.List
 use lib.ListN.{length, take}
 use lib.Dec.{eqb, leb, ltb}
@@ -20,6 +20,7 @@ use Rattle.programs.specs.Text.{decimal, line}
 use Rattle.programs.specs.Programs.{replyWords, cardLine, runProgram}
 use Rattle.programs.specs.Feeds.{fileCall}
 use Rattle.programs.specs.Lines.{longest, IsLine}
+use Rattle.programs.specs.declared.line.Line.{Line}
 use Rattle.programs.specs.declared.blocks.Progress.{Progress}
 use Rattle.programs.specs.declared.blocks.Turn.{Turn}
 use Rattle.programs.specs.declared.blocks.Start.{Start}
@@ -108,17 +109,44 @@ abbrev pub isAccepted : Judgement → Bool
 isAccepted (accepted c) = true
 isAccepted (refused n at) = false
 
--- what the code hands out before the first block; whatever blocks follow, its text and theirs are the program's
-pub record IsStart (card : List ℕ) (r : Start) : Type 0 where
-  pub runs : r .runs ≡ isAccepted (judge card)
-  pub net : IsNet (flatJudged (judge card)) (r .net)
-  pub run : runIn (r .progress) ≡ firstRun card
-  pub text : IsLine (firstText (judge card)) (r .line)
-  pub program : (room : ℕ) (blocks : List (List ℕ)) → Fitting room blocks → runFrom room card (runIn (r .progress)) blocks ≡ runProgram card (List.flatten blocks)
-
--- what it hands out for a block: the lines stand at the buffer's front, and what stood behind them still does
+-- what the code hands out for a block: the lines stand at the buffer's front, and what stood behind them still does
 pub record IsTurn (x : List ℕ × Run) (before : List ℕ) (r : Turn) (after : List ℕ) : Type 0 where
   pub fits : length (x .0) ≤ length before
   pub length : r .length ≡ length (x .0)
   pub lines : after ≡ putInto (x .0) before
   pub run : runIn (r .progress) ≡ x .1
+
+-- A call of `answer_block`: the block, the lent buffer before and after it, and what it returned.
+pub record BlockCall : Type 0 where
+  pub block : List ℕ
+  pub before : List ℕ
+  pub turn : Turn
+  pub after : List ℕ
+
+-- calls one after another: each is lent the run that the one before returned, and a buffer of one length
+abbrev pub Follow : Judgement → (room : ℕ) → Progress → List BlockCall → Type 0
+Follow j room p [] = Unit {0}
+Follow j room p (k ∷ calls) =
+    (length (k .before) ≡ room)
+    × IsTurn (fedBlock (rowSizeIn j) (fileCall j) (length (k .before)) (runIn p) (k .block)) (k .before) (k .turn) (k .after)
+    × Follow j room (k .turn .progress) calls
+
+-- the run behind them, and the bytes that they hand out
+unfoldable pub behind : Progress → List BlockCall → Progress
+behind p [] = p
+behind p (k ∷ calls) = behind (k .turn .progress) calls
+
+unfoldable pub handedOut : List BlockCall → List ℕ
+handedOut [] = []
+handedOut (k ∷ calls) = take (k .turn .length) (k .after) ++ handedOut calls
+
+-- What the code hands out before the first block. Whatever calls follow, over any cutting of the input into blocks, with the line that the end
+-- gets: all the bytes that are handed out are the program's.
+pub record IsStart (card : List ℕ) (r : Start) : Type 0 where
+  pub runs : r .runs ≡ isAccepted (judge card)
+  pub net : IsNet (flatJudged (judge card)) (r .net)
+  pub run : runIn (r .progress) ≡ firstRun card
+  pub text : IsLine (firstText (judge card)) (r .line)
+  pub program : (room : ℕ) (calls : List BlockCall) (last : Line) → Follow (flatJudged (judge card)) room (r .progress) calls
+      → IsLine (lastLine (fileCall (flatJudged (judge card))) (runIn (behind (r .progress) calls))) last → Fitting room (map (λ k. k .block) calls)
+      → take (r .line .length) (r .line .bytes) ++ (handedOut calls ++ take (last .length) (last .bytes)) ≡ runProgram card (List.flatten (map (λ k. k .block) calls))

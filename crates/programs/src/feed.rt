@@ -25,12 +25,10 @@ fn without_row(net: Net, state: State) -> RowAnswer
 
 // The call with the first degrees.
 fn with_row(net: Net, state: State, degrees: [u16; MOST_SIGNALS], signals: u16) -> RowAnswer
-    ensures { λ r. ⌜ ((j : Judgement) → IsNet j net → signals ≤ 63 → IsRow (readCall j state (λ c. RowRead.degrees (take signals degrees))) r) ⌝ }
+    requires { ⌜ signals ≤ 63 ⌝ }
+    ensures { λ r. ⌜ ((j : Judgement) → IsNet j net → IsRow (readCall j state (λ c. RowRead.degrees (take signals degrees))) r) ⌝ }
 {
     let n = signals as usize;
-    if MOST_SIGNALS < n {
-        return without_row(net, state);
-    }
     let order = [0];
     net_row(net, &order, state, &degrees[..n])
 }

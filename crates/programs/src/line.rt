@@ -7,16 +7,15 @@ use runners::Reply;
 use runners::State;
 use runners::Transfer;
 use runners::replies::reply_code;
-ghost use Prim.Native.Nat.{ℕ, _+_, _≤_};
-ghost use mathlib.Core.List.{List, [], _∷_, map};
+ghost use Prim.Native.Nat.{_+_, _≤_};
+ghost use mathlib.Core.List.{[], _∷_, map};
 ghost use mathlib.Core.Option.{none, some};
-ghost use lib.ListN.{length, take};
 ghost use Rattle.hierarchy.specs.Numbers.{number};
 ghost use Rattle.runners.specs.Numbers.{rowOutcome};
 ghost use Rattle.runners.specs.Calls.{view};
 ghost use Rattle.programs.specs.Text.{digit, decimal, line};
 ghost use Rattle.programs.specs.Programs.{replyWords, stateWords, refusalWords, cardLine};
-ghost use Rattle.programs.specs.Lines.{Puts, IsLine, spaced, joined, transferWord};
+ghost use Rattle.programs.specs.Lines.{Puts, IsLine, firstBytes, spaced, joined, transferWord};
 
 // The bytes of the longest line: a row number of 20 digits, 255 markings of 10 digits, 255 progresses of 5, a space before each, ok, bar and
 // newline.
@@ -179,7 +178,7 @@ pub fn put_text(out: &mut [u8], at: usize, text: &[u8]) -> usize
 
 // The first n bytes of a text; nothing, if it has fewer.
 fn put_first(out: &mut [u8], at: usize, text: &[u8], n: usize) -> usize
-    ensures { λ r. ⌜ (n ≤ length (now (text .entry)) → Puts (now (out .entry)) at (take n (now (text .entry))) (now (out .exit)) r) ⌝ }
+    ensures { λ r. ⌜ Puts (now (out .entry)) at (firstBytes n (now (text .entry))) (now (out .exit)) r ⌝ }
 {
     if text.len() < n {
         return at;
@@ -189,7 +188,7 @@ fn put_first(out: &mut [u8], at: usize, text: &[u8], n: usize) -> usize
 
 // A line in a longer text. Two wrong ones that this rules out: one that puts the zeros behind the line too, and one that leaves the newline out.
 pub fn put_line(out: &mut [u8], at: usize, l: Line) -> usize
-    ensures { λ r. ⌜ ((text : List ℕ) → IsLine text l → Puts (now (out .entry)) at text (now (out .exit)) r) ⌝ }
+    ensures { λ r. ⌜ Puts (now (out .entry)) at (firstBytes (l .length) (l .bytes)) (now (out .exit)) r ⌝ }
 {
     let bytes = l.bytes;
     put_first(out, at, &bytes, l.length)

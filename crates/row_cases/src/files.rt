@@ -9,13 +9,14 @@ use programs::blocks::begin;
 use programs::blocks::last_line;
 use runners::Net;
 ghost use mathlib.Core.Path.{_≡_};
-ghost use Prim.Native.Nat.{_<_, _≤_};
+ghost use Prim.Native.Nat.{_+_, _*_, _<_, _≤_};
 ghost use lib.ListN.{length};
+ghost use Rattle.programs.specs.Lines.{longest};
 
 // Where the block from at on ends; the last one may be short.
 fn end_of(bytes: &[u8], at: usize) -> usize
     requires { ⌜ at < length (now bytes) ⌝ }
-    ensures { λ r. ⌜ (at < r) × (r ≤ length (now (bytes .entry))) ⌝ }
+    ensures { λ r. ⌜ (at < r) × (r ≤ length (now (bytes .entry))) × (r ≤ at + 64) ⌝ }
 {
     if bytes.len() - at < BLOCK_BYTES {
         return bytes.len();
@@ -23,7 +24,9 @@ fn end_of(bytes: &[u8], at: usize) -> usize
     at + BLOCK_BYTES
 }
 
+// Asks for the room without which `answer_block` takes nothing.
 fn put_block(net: Net, p: Progress, block: &[u8], lines: &mut [u8]) -> Progress
+    requires { ⌜ longest * length (now block) ≤ length (now lines) ⌝ }
     ensures { λ r. ⌜ length (now (lines .exit)) ≡ length (now (lines .entry)) ⌝ }
 {
     let t = answer_block(net, p, block, lines);
@@ -32,7 +35,9 @@ fn put_block(net: Net, p: Progress, block: &[u8], lines: &mut [u8]) -> Progress
     next
 }
 
-fn put_blocks(net: Net, first: Progress, bytes: &[u8], lines: &mut [u8]) {
+fn put_blocks(net: Net, first: Progress, bytes: &[u8], lines: &mut [u8])
+    requires { ⌜ longest * 64 ≤ length (now lines) ⌝ }
+{
     let mut p = first;
     let mut at: usize = 0;
     while at < bytes.len() {

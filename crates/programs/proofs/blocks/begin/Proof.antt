@@ -1,7 +1,8 @@
 -- `programs::blocks::begin` meets its contract. Assumes nothing.
 use mathlib.Core.Path.{ap, _∙_}
 use mathlib.Core.List.{[]}
-use Rattle.programs.proofs.RunLaws.{any-cutting}
+use Rattle.programs.specs.Runs.{Run}
+use Rattle.programs.proofs.StoryLaws.{story}
 use Rattle.programs.proofs.BlockLaws.{fresh-answer}
 use denote.Ref.{now}
 use Rattle.runners.specs.declared.State.{State as Lent}
@@ -26,12 +27,14 @@ returns : tie.Need-returns
 returns c =
     let card = now (c .before .before .before .before .before .before .args .card) in
     let f = c .before .before .before .before .fresh in
+    let run = ap {B = Run} (λ (s : Lent). record { number = 1; state = s; left = [] }) (f .ensures .state) in
+    let text = c .before .first-line .ensures (judge card) (f .ensures .answer ∙ fresh-answer card) in
     record {
       runs = c .is-accepted .ensures (judge card) (f .ensures .answer ∙ fresh-answer card);
       net = c .before .before .flat-net .ensures;
-      run = ap (λ (s : Lent). record { number = 1; state = s; left = [] }) (f .ensures .state);
-      text = c .before .first-line .ensures (judge card) (f .ensures .answer ∙ fresh-answer card);
-      program = λ room blocks fit. any-cutting room card _ blocks (ap (λ (s : Lent). record { number = 1; state = s; left = [] }) (f .ensures .state)) fit;
+      run = run;
+      text = text;
+      program = λ room calls last h e fit. story card (c .before .first-line .result) last _ room calls run text h e fit;
     }
 
 pub begin-spec : {M : Type 1} → statement M

@@ -1,5 +1,4 @@
 -- `programs::line::put_line` meets its contract. Assumes nothing.
-use Rattle.programs.proofs.LineLaws.{line-put}
 use borrow.Author.Needs.{needs}
 use Rattle.programs.proofs.line.put_line.Statement.{statement}
 use Rattle.programs.proofs.line.put_line.Tie as tie
@@ -14,7 +13,7 @@ same-length : tie.Need-same-length
 same-length c = search needs
 
 returns : tie.Need-returns
-returns c = search (line-put, needs)
+returns c = search needs
 
 pub put-line-spec : {M : Type 1} → statement M
 put-line-spec =

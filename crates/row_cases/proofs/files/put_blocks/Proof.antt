@@ -1,7 +1,8 @@
 -- `row_cases::files::put_blocks` meets its contract. Assumes nothing.
 use Prim.Native.Nat.{_-_, _≤_}
 use mathlib.Core.Path.{_≡_}
-use lib.ListN.{length}
+use lib.ListN.{length, length-take, length-drop}
+use native.Mathlib.Omega.{arith}
 use borrow.Author.Needs.{needs}
 use Rattle.row_cases.proofs.files.put_blocks.Statement.{statement}
 use Rattle.row_cases.proofs.files.put_blocks.Tie as tie
@@ -28,7 +29,7 @@ part-put-block-end : tie.Need-part-put-block-end Inv-loop μ-loop
 part-put-block-end c = search needs
 
 put-block-requires : tie.Need-put-block-requires Inv-loop μ-loop
-put-block-requires c κs = search needs
+put-block-requires c κs = simp (length-take, length-drop) (omega arith)
 
 loop-less : tie.Need-loop-less Inv-loop μ-loop
 loop-less c = search needs
