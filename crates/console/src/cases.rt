@@ -84,6 +84,16 @@ pub fn no_case() -> Lead
     }
 }
 
+// The kind and the length in a lead's three bytes.
+fn lead_of(head: &[u8]) -> Lead
+    ensures { λ r. ⌜ (r .kind ≡ getD (now (head .entry)) 0 0) × (r .length ≡ numberAt (now (head .entry)) 1) × (r .length < 65536) ⌝ }
+{
+    Lead {
+        kind: byte_at(head, 0),
+        length: wide(number_at(head, 1)),
+    }
+}
+
 // The next case's kind and length. Ruled out: a length of three bytes; the length with those of the lead, which for the longest case is too
 // much.
 pub fn read_lead() -> Lead
@@ -94,10 +104,7 @@ pub fn read_lead() -> Lead
     if n < 3 {
         return no_case();
     }
-    Lead {
-        kind: head[0],
-        length: wide(number_at(&head, 1)),
-    }
+    lead_of(&head)
 }
 
 // The bytes of the case that is led so, at the buffer's start; no case if they are not all there, or do not fit. Ruled out: a length that
