@@ -32,7 +32,7 @@ use Rattle.runners.specs.Calls.{view, freshLent, freshCall, inState, eachOnce, 
 use Rattle.runners.specs.Traces.{Call, trace, observed}
 use Rattle.runners.specs.Answers.{IsRow, IsFresh}
 use Rattle.programs.specs.Files.{fileRow}
-use Rattle.programs.proofs.FileLaws.{row-long, row-hollow, row-found, too-many}
+use Rattle.programs.proofs.FileLaws.{row-hollow, row-found, too-many}
 use Rattle.runners.specs.inner.Storing.{slotAt}
 use Rattle.programs.specs.Agreeing.{progressCode, rowSize, callSize, callOf, callAt, callsOf, Agrees, IsBoth, IsAgreed}
 use Rattle.runners.specs.declared.Transfer.{Transfer}
@@ -203,13 +203,13 @@ module _ (card bytes : List ℕ) (n : ℕ) (x y : Lent) (c : Card) (en : rowSize
       (subst (λ (k : Call). IsBoth card k x y b)
       (ap₂ (λ (r : RowRead) (z : List ℕ). record { ask = row r; order = z }) (sym e) (order-bytes bytes n o l eo)) h)
 
-  module _ (g : ℕ) (eg : c .signals ≡ g) (r : FileRow) (er : r ≡ fileRow (rowOf c (take n bytes))) where
+  module _ (r : FileRow) (er : r ≡ fileRow (rowOf c (take n bytes))) where
     pub call-unread : r .whole ≡ false → IsBoth card (record { ask = row noRow; order = take (length bytes - n) o }) x y b → IsBoth card (callOf c bytes) x y b
     call-unread w h = read-call noRow (row-hollow r (rowOf c (take n bytes)) er w) h
 
-    pub call-read : r .whole ≡ true → IsBoth card (record { ask = row (degrees (take g (r .degrees))); order = take (length bytes - n) o }) x y b → IsBoth card (callOf c bytes) x y b
+    pub call-read : r .whole ≡ true → IsBoth card (record { ask = row (degrees (take (r .count) (r .degrees))); order = take (length bytes - n) o }) x y b → IsBoth card (callOf c bytes) x y b
     call-read w h =
-        read-call (degrees (take g (r .degrees))) (row-found r (rowOf c (take n bytes)) g (λ xs e. row-long c (take n bytes) xs e ∙ eg) er w) h
+        read-call (degrees (take (r .count) (r .degrees))) (row-found r (rowOf c (take n bytes)) er w) h
 
 -- the pieces of a file
 pub piece-in : (long size k : ℕ) → 0 < size → k < long / size → size * k + size ≤ long

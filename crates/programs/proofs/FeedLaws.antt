@@ -29,20 +29,12 @@ use Rattle.programs.specs.Programs.{lines, fileTrace}
 use Rattle.programs.specs.Files.{fileRow}
 use Rattle.programs.specs.Feeds.{readCall, fileCall, fedLines}
 use Rattle.programs.specs.declared.file.FileRow.{FileRow}
-use Rattle.programs.proofs.FileLaws.{row-long, row-hollow, row-found, too-many}
+use Rattle.programs.proofs.FileLaws.{row-hollow, row-found, too-many}
 
 -- no card has more than 63 signals
 pub few-signals : (net : Net) (j : Judgement) → IsNet j net → (n : ℕ) → n ≡ signalsIn j → n ≤ 63
 few-signals net (accepted c) h n e = omega (arith, e, h .tables .tables .meets .wellformed .fewSignals)
 few-signals net (refused k at) h n e = omega (arith, e)
-
--- nor has a row that was read
-pub whole-few : (n : ℕ) (r : FileRow) → (63 < n → r ≡ fileRow noRow) → r .whole ≡ true → n ≤ 63
-whole-few n r h w = go (lt-or-ge 63 n)
-  where
-    go : (63 < n) ⊎ (n ≤ 63) → n ≤ 63
-    go (inl l) = absurd (false≢true (sym (ap (λ (k : FileRow). k .whole) (h l)) ∙ w))
-    go (inr l) = l
 
 module _ (net : Net) (l : Lent) (x : RowAnswer) where
   few : (j : Judgement) → IsNet j net → (c : Card) → j ≡ accepted c → c .signals ≤ 63
@@ -58,9 +50,9 @@ module _ (net : Net) (l : Lent) (x : RowAnswer) where
         subst (λ (o : RowRead). IsRow (readCall (accepted c) l (λ d. o)) x) (sym q) w
     file-missing (refused k at) h e b w = w
 
-    pub file-present : (j : Judgement) → IsNet j net → n ≡ signalsIn j → r .whole ≡ true → IsRow (readCall j l (λ c. degrees (take n (r .degrees)))) x → IsRow (fileCall j l bytes) x
+    pub file-present : (j : Judgement) → IsNet j net → n ≡ signalsIn j → r .whole ≡ true → IsRow (readCall j l (λ c. degrees (take (r .count) (r .degrees)))) x → IsRow (fileCall j l bytes) x
     file-present (accepted c) h e b w =
-        let q = row-found r (rowOf c bytes) n (λ xs s. row-long c bytes xs s ∙ sym e) (er c (sym e) (omega (arith, e, h .tables .tables .meets .wellformed .fewSignals))) b in
+        let q = row-found r (rowOf c bytes) (er c (sym e) (omega (arith, e, h .tables .tables .meets .wellformed .fewSignals))) b in
         subst (λ (o : RowRead). IsRow (readCall (accepted c) l (λ d. o)) x) (sym q) w
     file-present (refused k at) h e b w = w
 

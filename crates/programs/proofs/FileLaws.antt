@@ -1,16 +1,16 @@
 -- A row of a file: its degrees one after another, what the tests of its bytes decide, and a call where there is none. Assumes nothing.
 use Prim.Native.Nat.{ℕ, zero, suc, _+_, _-_, _*_, _≤_, _<_}
-use mathlib.Core.Path.{_≡_, refl, sym, ap, _∙_}
+use mathlib.Core.Path.{_≡_, refl, sym, ap, ap₂, _∙_}
 use mathlib.Core.Bool.{Bool, true, false, cond}
 use mathlib.Core.List.{List, [], _∷_, _++_, append-assoc}
-use mathlib.Core.Option.{Option, none, some}
+use mathlib.Core.Option.{Option, none, some, Option·map}
 use native.Mathlib.Omega.{arith}
 use native.Mathlib.Nat.{mul-le-mul-left}
-use lib.ListN.{length, set, take, replicate, length-replicate}
+use lib.ListN.{length, set, take, replicate, length-append, length-replicate, List·getD-append}
 use lib.Seq.{set-at, take-at}
 use lib.Dec.{eqb}
 use borrow.Author.Tests.{eq-eqb, ne-eqb}
-use Rattle.card.specs.Finite.{table, someIf, someUnless, _otherwise_}
+use Rattle.card.specs.Finite.{every, table, someIf, someUnless, _otherwise_}
 use Rattle.card.specs.Bits.{bit, bitField, bytesFor}
 use Rattle.card.specs.Fields.{fieldAt}
 use Rattle.card.specs.Card.{Card}
@@ -18,13 +18,13 @@ use Rattle.card.proofs.Sums.{table-length}
 use Rattle.card.proofs.FieldLaws.{field-in, field-zero}
 use Rattle.hierarchy.specs.Judgement.{Judgement, accepted, refused}
 use Rattle.flattening.specs.Flattening.{flatten}
-use Rattle.runners.specs.State.{NetState}
-use Rattle.runners.specs.Step.{next}
-use Rattle.runners.specs.Rows.{settle, rowFault, rowRefusal, RowRead, degrees, noRow, row, filled, cells, orNoRow, rowOf}
+use Rattle.runners.specs.State.{NetState, entry}
+use Rattle.runners.specs.Rows.{settle, rowFault, rowRefusal, rowNext, RowRead, degrees, noRow, row, filled, cells, orNoRow, unmarked, rowOf}
 use Rattle.runners.specs.Calls.{view, store, inState, valid, callOn, called}
 use Rattle.runners.specs.declared.State.{State as Lent}
 use Rattle.runners.specs.declared.Refusal.{Refusal}
 use Rattle.runners.specs.declared.Refusal.the-variants.{BadState, BadOrder, BadRow}
+use Rattle.runners.proofs.VisitLaws.{every-same}
 use Rattle.programs.specs.Files.{fileRow}
 use Rattle.programs.specs.declared.file.FileRow.{FileRow}
 
@@ -60,7 +60,7 @@ table-same from (suc n) f h e = rw (e from (omega arith)) (ap (λ (xs : List ℕ
 pub cells-few : (cell g : ℕ) → cell ≤ 16 → g ≤ 63 → cell * g ≤ 1008
 cells-few cell g h k = omega (arith, mul-le-mul-left cell k)
 
-some-is : (b : Bool) (xs r : List ℕ) → orNoRow (someIf b xs) ≡ degrees r → xs ≡ r
+some-is : (b : Bool) (xs r : List ℕ) → someIf b xs ≡ some r → xs ≡ r
 some-is true xs r e = cc
 some-is false xs r e = absurd (let z : _≡_ {A = ℕ} 0 1 = cc in omega arith)
 
@@ -68,7 +68,7 @@ module _ (lead cell g : ℕ) (bytes : List ℕ) where
   abbrev width : ℕ
   width = lead + cell * g
 
-  cells-long : (r : List ℕ) → orNoRow (cells lead cell g bytes) ≡ degrees r → length r ≡ g
+  cells-long : (r : List ℕ) → cells lead cell g bytes ≡ some r → length r ≡ g
   unfolding cells
   cells-long r e =
       sym (ap (λ (ys : List ℕ). length ys) (some-is (filled width bytes) (table 0 g (λ k. bitField (bit bytes) (lead + cell * k) cell)) r e))
@@ -102,14 +102,12 @@ module _ (lead cell g : ℕ) (bytes : List ℕ) where
         (ap (λ (xs : List ℕ). some xs) (table-same 0 g (λ k. bitField (bit bytes) (lead + cell * k) cell) (λ k. fieldAt bytes (lead + cell * k) cell) (λ k m. sym (field-in bytes (lead + cell * k) cell few (in-bytes k (omega arith))))))
 
     pub cells-handed : cell ≤ 16 → v ≡ 0 → (xs : List ℕ) → xs ≡ stored (λ k. fieldAt bytes (lead + cell * k) cell) g
-        → _≡_ {A = FileRow} (record { whole = true; degrees = xs }) (fileRow (orNoRow (cells lead cell g bytes)))
+        → _≡_ {A = FileRow} (record { whole = true; count = g; degrees = xs }) (fileRow (orNoRow (cells lead cell g bytes)))
     cells-handed few n xs d =
+        let long = table-length 0 g (λ k. fieldAt bytes (lead + cell * k) cell) in
         rw (cells-whole few n)
-        (ap (λ (ys : List ℕ). record { whole = true; degrees = ys }) (d ∙ ap (λ (k : ℕ). table 0 g (λ k. fieldAt bytes (lead + cell * k) cell) ++ replicate (63 - k) 0) (sym (table-length 0 g (λ k. fieldAt bytes (lead + cell * k) cell)))))
-
--- a row has as many degrees as the card has signals
-pub row-long : (f : Card) (bytes r : List ℕ) → rowOf f bytes ≡ degrees r → length r ≡ f .signals
-row-long f bytes r e = cells-long 0 10 (f .signals) bytes r e
+        (ap₂ (λ (k : ℕ) (ys : List ℕ). record { whole = true; count = k; degrees = ys }) (sym long)
+        (d ∙ ap (λ (k : ℕ). table 0 g (λ k. fieldAt bytes (lead + cell * k) cell) ++ replicate (63 - k) 0) (sym long)))
 
 -- what the reader of a row found
 differs : true ≡ false → ⊥
@@ -119,9 +117,54 @@ pub row-hollow : (w : FileRow) (o : RowRead) → w ≡ fileRow o → w .whole �
 row-hollow w noRow e b = refl
 row-hollow w (degrees r) e b = absurd (differs (sym (ap (λ (y : FileRow). y .whole) e) ∙ b))
 
-pub row-found : (w : FileRow) (o : RowRead) (n : ℕ) → ((r : List ℕ) → o ≡ degrees r → length r ≡ n) → w ≡ fileRow o → w .whole ≡ true → o ≡ degrees (take n (w .degrees))
-row-found w noRow n long e b = absurd (differs (sym b ∙ ap (λ (y : FileRow). y .whole) e))
-row-found w (degrees r) n long e b = ap degrees (sym (ap (λ (y : FileRow). take n (y .degrees)) e ∙ take-at r (replicate (63 - length r) 0) n (long r refl)))
+pub row-found : (w : FileRow) (o : RowRead) → w ≡ fileRow o → w .whole ≡ true → o ≡ degrees (take (w .count) (w .degrees))
+row-found w noRow e b = absurd (differs (sym b ∙ ap (λ (y : FileRow). y .whole) e))
+row-found w (degrees r) e b = ap degrees (sym (ap (λ (y : FileRow). take (y .count) (y .degrees)) e ∙ take-at r (replicate (63 - length r) 0) (length r) refl))
+
+-- it has no more degrees than there is room for
+pub count-few : (w : FileRow) (o : RowRead) → w ≡ fileRow o → length (w .degrees) ≡ 63 → w .count ≤ 63
+count-few w noRow e l = omega (arith, ap (λ (y : FileRow). y .count) e)
+count-few w (degrees r) e l =
+    omega (arith, l, ap (λ (y : FileRow). y .count) e, ap (λ (y : FileRow). length (y .degrees)) e, length-append r (replicate {A = ℕ} (63 - length r) 0))
+
+-- A row of a file is empty where each degree is the empty mark.
+module _ (f : Card) (bytes : List ℕ) (g : ℕ) (eg : f .signals ≡ g) (w : FileRow) (ew : w ≡ fileRow (orNoRow (cells 0 10 g bytes))) where
+  read-is : (o : Option (List ℕ)) → cells 0 10 g bytes ≡ o → rowOf f bytes ≡ orNoRow (Option·map (unmarked f) o)
+  read-is o e = ap (λ (n : ℕ). orNoRow (Option·map (unmarked f) (cells 0 10 n bytes))) eg ∙ ap (λ (x : Option (List ℕ)). orNoRow (Option·map (unmarked f) x)) e
+
+  pub row-unread : w .whole ≡ false → w ≡ fileRow (rowOf f bytes)
+  row-unread b = go (cells 0 10 g bytes) refl ew
+    where
+      go : (o : Option (List ℕ)) → cells 0 10 g bytes ≡ o → w ≡ fileRow (orNoRow o) → w ≡ fileRow (rowOf f bytes)
+      go none e q = q ∙ ap fileRow (sym (read-is none e))
+      go (some r) e q = absurd (differs (sym (ap (λ (y : FileRow). y .whole) q) ∙ b))
+
+  module _ (m : Bool) (em : m ≡ every g (λ k. eqb (entry (w .degrees) k) 1023)) where
+    marks-is : (r : List ℕ) → cells 0 10 g bytes ≡ some r → w ≡ fileRow (degrees r) → every (f .signals) (λ k. eqb (entry r k) 1023) ≡ m
+    marks-is r e q =
+        ap (λ (n : ℕ). every n (λ k. eqb (entry r k) 1023)) eg
+        ∙ every-same g (λ k. eqb (entry r k) 1023) (λ k. eqb (entry (w .degrees) k) 1023) (λ k l. ap (λ (v : ℕ). eqb v 1023) (sym (ap (λ (y : FileRow). entry (y .degrees) k) q ∙ List·getD-append r (replicate (63 - length r) 0) 0 k (omega (arith, cells-long 0 10 g bytes r e)))))
+        ∙ sym em
+
+    pub row-marked : w .whole ≡ true → m ≡ true → (x : FileRow) → x ≡ fileRow (degrees []) → x ≡ fileRow (rowOf f bytes)
+    unfolding unmarked
+    row-marked b t x ex = go (cells 0 10 g bytes) refl ew
+      where
+        go : (o : Option (List ℕ)) → cells 0 10 g bytes ≡ o → w ≡ fileRow (orNoRow o) → x ≡ fileRow (rowOf f bytes)
+        go none e q = absurd (differs (sym b ∙ ap (λ (y : FileRow). y .whole) q))
+        go (some r) e q =
+            let z : rowOf f bytes ≡ degrees [] = read-is (some r) e ∙ rw (marks-is r e q, t) refl in
+            ex ∙ ap fileRow (sym z)
+
+    pub row-unmarked : w .whole ≡ true → m ≡ false → w ≡ fileRow (rowOf f bytes)
+    unfolding unmarked
+    row-unmarked b t = go (cells 0 10 g bytes) refl ew
+      where
+        go : (o : Option (List ℕ)) → cells 0 10 g bytes ≡ o → w ≡ fileRow (orNoRow o) → w ≡ fileRow (rowOf f bytes)
+        go none e q = absurd (differs (sym b ∙ ap (λ (y : FileRow). y .whole) q))
+        go (some r) e q =
+            let z : rowOf f bytes ≡ degrees r = read-is (some r) e ∙ rw (marks-is r e q, t) refl in
+            q ∙ ap fileRow (sym z)
 
 -- Where bytes hold no row, a row of more degrees than any card has signals stands for it: both are refused with 20.
 long-row : (c : Card) (s : NetState) → c .signals ≤ 63 → rowRefusal (flatten c) s (replicate 64 0) ≡ some BadRow
@@ -137,5 +180,5 @@ pub too-many : (ordered : Card → Bool) (j : Judgement) (l : Lent) → ((c : Ca
     → called ordered j l (replicate 64 0) ≡ callOn inState j (λ c. record { ask = row noRow; ordered = ordered c }) l
 too-many ordered (accepted c) l few =
     rw (long-row c (view l) (few c refl))
-    (refused-alike (someUnless (valid (flatten c) l) BadState) (someUnless (ordered c) BadOrder) BadRow l (store l (next (flatten c) (view l) (replicate 64 0))) (store l (view l)))
+    (refused-alike (someUnless (valid (flatten c) l) BadState) (someUnless (ordered c) BadOrder) BadRow l (store l (rowNext (flatten c) (view l) (replicate 64 0))) (store l (view l)))
 too-many ordered (refused n at) l few = refl

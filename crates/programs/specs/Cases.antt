@@ -1,34 +1,50 @@
--- The starred cases ('Bench card A' and the list after it), and bench card A's bytes (29, beginning hexadecimal 10 82): a table of inputs and
--- outcomes. proofs/Starred.antt shows that all of them hold.
+-- The starred cases ('Bench card A' and the list after it), bench card A's bytes (29, beginning hexadecimal 10 82), and cases of the requests: a
+-- table of inputs and outcomes. proofs/Starred.antt shows that all of them hold.
 use Prim.Native.Nat.{ℕ}
 use mathlib.Core.List.{List, [], _∷_, flatMap}
-use lib.ListN.{take}
+use mathlib.Core.Option.{some}
+use lib.ListN.{length, take}
 use Rattle.card.specs.Bits.{bitsOf, pack}
 use Rattle.card.specs.Card.{Card, Subnet, Place, Transition, Arc, normal, input, draws, fills}
 use Rattle.card.specs.Writing.{encode}
 use Rattle.hierarchy.specs.Numbers.{CheckOutcome, accepted, refused}
 use Rattle.hierarchy.specs.Judgement.{answer}
+use Rattle.runners.specs.Numbers.{RowOutcome}
+use Rattle.runners.specs.State.{NetState}
+use Rattle.runners.specs.Calls.{store, blank, flatCall, subnetCall}
+use Rattle.runners.specs.Traces.{observed}
+use Rattle.runners.specs.declared.Transfer.{Transfer}
+use Rattle.runners.specs.declared.Transfer.the-variants.{Idle, Carrying}
+use Rattle.runners.specs.declared.State.{State as Lent}
 use Rattle.programs.specs.Text.{ascii}
 use Rattle.programs.specs.Programs.{runProgram}
 
--- tables, given to the writer; a card's bytes, given to the check; a card's bytes and the degrees of rows, given to the run program
+-- tables, given to the writer; a card's bytes, given to the check; a card's bytes and the degrees of rows, given to the run program; a card's
+-- bytes, a visiting order, a state and a row, lent to a call of each runner
 pub data Input : Type 0 where
   bytes-of : (tables : Card) → Input
   check-of : (card : List ℕ) → Input
   run-of : (card : List ℕ) → (rows : List (List ℕ)) → Input
+  call-of : (card order : List ℕ) → NetState → (row : List ℕ) → Input
 
 pub data Result : Type 0 where
   spells : (bytes : List ℕ) → Result
   answers : CheckOutcome → Result
   prints : (text : List ℕ) → Result
+  replies : (flat subnets : RowOutcome × NetState) → Result
 
 abbrev pub rowsFile : List (List ℕ) → List ℕ
 rowsFile = flatMap (λ row. pack (flatMap (bitsOf 10) row))
+
+-- a state as a call is lent it
+abbrev pub lent : NetState → Lent
+lent s = store (blank (length (s .markings)) (length (s .transfers)) (length (s .degrees))) s
 
 abbrev pub result : Input → Result
 result (bytes-of tables) = spells (encode tables)
 result (check-of card) = answers (answer card)
 result (run-of card rows) = prints (runProgram card (rowsFile rows))
+result (call-of card order s r) = replies (observed (flatCall card (lent s) r)) (observed (subnetCall card order (lent s) r))
 
 pub record Case : Type 0 where
   pub given : Input
@@ -108,6 +124,21 @@ fillers =
 abbrev pub row : (a b : ℕ) → List ℕ
 row a b = a ∷ b ∷ []
 
+-- CR 1: an empty row as a rows file of two signals has it, and as a call is given it
+abbrev pub marks : List ℕ
+marks = row 1023 1023
+
+abbrev pub empty : List ℕ
+empty = []
+
+-- three places and two transitions on two signals, as cards A and B have them
+abbrev pub state : (m₀ m₁ m₂ : ℕ) → (x y : Transfer) → (a b : ℕ) → NetState
+state m₀ m₁ m₂ x y a b = record { markings = m₀ ∷ m₁ ∷ m₂ ∷ []; transfers = x ∷ y ∷ []; degrees = a ∷ b ∷ [] }
+
+-- both runners give this reply and leave this state
+abbrev pub both : RowOutcome → NetState → Result
+both o s = replies (o, s) (o, s)
+
 abbrev pub cases : List Case
 cases =
     bytes-of (tablesA 0 input (to 1 0 1)) gives spells (0x10 ∷ 0x82 ∷ 0x00 ∷ 0x00 ∷ 0x40 ∷ 0x40 ∷ 0x10 ∷ 0x10 ∷ 0x04 ∷ 0x00 ∷ 0x00 ∷ 0x0c ∷ 0x20
@@ -127,4 +158,9 @@ cases =
     ∷ run-of (takers 3 2 1) (row 500 500 ∷ []) gives prints (ascii "1 ok 1000 500 500 | 500 500\n")
     ∷ run-of (takers 3 2 2) (row 500 500 ∷ []) gives prints (ascii "1 no 22 0\n")
     ∷ run-of fillers (row 500 500 ∷ []) gives prints (ascii "1 no 22 0\n")
+    ∷ run-of A (marks ∷ row 1000 500 ∷ marks ∷ marks ∷ row 1000 900 ∷ row 400 1023 ∷ row 1023 900 ∷ []) gives prints (ascii
+    "1 ok 1000 0 0 | - -\n2 ok 0 1000 0 | - -\n3 ok 0 1000 0 | - 0\n4 ok 0 1000 0 | - 0\n5 ok 0 600 400 | - 400\n6 no 21 1\n7 no 21 0\n")
+    ∷ call-of A (1 ∷ 0 ∷ []) (state 0 1000 0 Idle Idle 1000 500) empty gives both RowOutcome.ok (state 0 1000 0 Idle (Carrying 0) 1000 500)
+    ∷ call-of A (1 ∷ 0 ∷ []) (state 0 1000 0 Idle Idle 1000 500) marks gives both (RowOutcome.refused 21 (some 0)) (state 0 1000 0 Idle Idle 1000 500)
+    ∷ call-of B (0 ∷ []) (state 1000 0 0 Idle Idle 500 500) empty gives both (RowOutcome.refused 22 (some 0)) (state 1000 0 0 Idle Idle 500 500)
     ∷ []

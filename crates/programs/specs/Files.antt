@@ -6,7 +6,7 @@ use lib.ListN.{length, replicate}
 use Rattle.runners.specs.Rows.{RowRead, degrees, noRow}
 use Rattle.programs.specs.declared.file.FileRow.{FileRow}
 
--- the degrees of a row, with zeros behind them; only zeros where there is no row
+-- how many degrees a row has, and the degrees, with zeros behind them; none, and only zeros, where there is no row
 abbrev pub fileRow : RowRead → FileRow
-fileRow noRow = record { whole = false; degrees = replicate 63 0 }
-fileRow (degrees r) = record { whole = true; degrees = r ++ replicate (63 - length r) 0 }
+fileRow noRow = record { whole = false; count = 0; degrees = replicate 63 0 }
+fileRow (degrees r) = record { whole = true; count = length r; degrees = r ++ replicate (63 - length r) 0 }

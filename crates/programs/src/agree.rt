@@ -66,7 +66,8 @@ fn order_of(bytes: &[u8]) -> [u16; MOST_SUBNETS]
     order
 }
 
-// Where bytes hold no row. No card has as many signals as this row has degrees, so that both runners refuse it.
+// Where bytes hold no row. No card has as many signals as this row has degrees, so that both runners refuse it; a row of none would be an empty
+// row, which they take.
 fn both_without_row(card: &[u8], order: &[u16], flat: State, subnet: State) -> Both
     ensures { λ r. ⌜ IsBoth (now (card .entry)) (record { ask = Ask.row noRow; order = now (order .entry) }) flat subnet r ⌝ }
 {
@@ -86,7 +87,7 @@ fn both_calls(card: &[u8], bytes: &[u8], n: usize, signals: u16, flat: State, su
         return both_without_row(card, &order[..s], flat, subnet);
     }
     let degrees = row.degrees;
-    let g = signals as usize;
+    let g = row.count;
     both_rows(card, &order[..s], &degrees[..g], flat, subnet)
 }
 

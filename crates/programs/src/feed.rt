@@ -14,7 +14,8 @@ ghost use Rattle.runners.specs.Answers.{IsRow};
 ghost use Rattle.runners.specs.Nets.{IsNet};
 ghost use Rattle.programs.specs.Feeds.{readCall, fileCall};
 
-// The call where bytes hold no row. No card has as many signals as this row has degrees, so that the row is refused.
+// The call where bytes hold no row. No card has as many signals as this row has degrees, so that the row is refused; one of none would be an
+// empty row, which is taken.
 fn without_row(net: Net, state: State) -> RowAnswer
     ensures { λ r. ⌜ ((j : Judgement) → IsNet j net → IsRow (readCall j state (λ c. noRow)) r) ⌝ }
 {
@@ -24,13 +25,12 @@ fn without_row(net: Net, state: State) -> RowAnswer
 }
 
 // The call with the first degrees.
-fn with_row(net: Net, state: State, degrees: [u16; MOST_SIGNALS], signals: u16) -> RowAnswer
-    requires { ⌜ signals ≤ 63 ⌝ }
-    ensures { λ r. ⌜ ((j : Judgement) → IsNet j net → IsRow (readCall j state (λ c. RowRead.degrees (take signals degrees))) r) ⌝ }
+fn with_row(net: Net, state: State, degrees: [u16; MOST_SIGNALS], count: usize) -> RowAnswer
+    requires { ⌜ count ≤ 63 ⌝ }
+    ensures { λ r. ⌜ ((j : Judgement) → IsNet j net → IsRow (readCall j state (λ c. RowRead.degrees (take count degrees))) r) ⌝ }
 {
-    let n = signals as usize;
     let order = [0];
-    net_row(net, &order, state, &degrees[..n])
+    net_row(net, &order, state, &degrees[..count])
 }
 
 // A row of a file, in the order that names subnet 0 alone: the card's own refusal, 25, 23 (of a card with more subnets), 20, 21, 22. Two wrong
@@ -45,5 +45,6 @@ pub fn file_row(net: Net, state: State, bytes: &[u8]) -> RowAnswer
         return without_row(net, state);
     }
     let degrees = row.degrees;
-    with_row(net, state, degrees, signals)
+    let count = row.count;
+    with_row(net, state, degrees, count)
 }

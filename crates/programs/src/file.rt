@@ -3,21 +3,27 @@ use card::MOST_SIGNALS;
 use card::fields::field_at;
 ghost use mathlib.Core.Path.{_≡_};
 ghost use Prim.Native.Nat.{_+_, _-_, _*_, _≤_, _<_};
-ghost use mathlib.Core.List.{_++_};
+ghost use mathlib.Core.List.{[], _++_};
 ghost use lib.ListN.{replicate};
-ghost use Rattle.card.specs.Finite.{table};
+ghost use lib.Dec.{eqb};
+ghost use Rattle.card.specs.Finite.{every, table};
 ghost use Rattle.card.specs.Bits.{bytesFor};
 ghost use Rattle.card.specs.Fields.{fieldAt};
 ghost use Rattle.card.specs.Card.{Card};
-ghost use Rattle.runners.specs.Rows.{noRow, orNoRow, cells, rowOf};
+ghost use Rattle.runners.specs.State.{entry};
+ghost use Rattle.runners.specs.Rows.{degrees as degreesOf, noRow, orNoRow, cells, rowOf};
 ghost use Rattle.programs.specs.Files.{fileRow};
 
 // Bits a degree.
 const DEGREE_BITS: usize = 10;
 
-// A row, where the bytes hold one: its degrees, and zeros behind them.
+// What each degree of an empty row is written as.
+const EMPTY_MARK: u16 = 1023;
+
+// A row, where the bytes hold one: how many degrees it has, the degrees, and zeros behind them. An empty row has none.
 pub struct FileRow {
     pub whole: bool,
+    pub count: usize,
     pub degrees: [u16; MOST_SIGNALS],
 }
 
@@ -33,6 +39,17 @@ fn no_row() -> FileRow
 {
     FileRow {
         whole: false,
+        count: 0,
+        degrees: [0; MOST_SIGNALS],
+    }
+}
+
+fn empty_row() -> FileRow
+    ensures { λ r. ⌜ r ≡ fileRow (degreesOf []) ⌝ }
+{
+    FileRow {
+        whole: true,
+        count: 0,
         degrees: [0; MOST_SIGNALS],
     }
 }
@@ -65,17 +82,41 @@ fn cells_of(bytes: &[u8], lead: usize, cell: usize, signals: u16) -> FileRow
     }
     FileRow {
         whole: true,
+        count: signals as usize,
         degrees: cells_in(bytes, lead, cell, signals),
     }
 }
 
+// Whether each of the first degrees is the empty mark.
+fn all_marked(degrees: [u16; MOST_SIGNALS], signals: u16) -> bool
+    requires { ⌜ signals ≤ 63 ⌝ }
+    ensures { λ r. ⌜ r ≡ every signals (λ g. eqb (entry degrees g) 1023) ⌝ }
+{
+    let mut g = 0;
+    while g < signals {
+        if degrees[g as usize] != EMPTY_MARK {
+            return false;
+        }
+        g += 1;
+    }
+    true
+}
+
 // The row that bytes hold; no card has more than 63 signals. Two wrong readers that this rules out: one that lets a fill bit be 1, and one
-// that takes missing bytes for zeros.
+// that takes a row with one degree of 1023 for an empty one.
 pub fn row_of(bytes: &[u8], signals: u16) -> FileRow
-    ensures { λ r. ⌜ ((f : Card) → f .signals ≡ signals → signals ≤ 63 → r ≡ fileRow (rowOf f (now (bytes .entry)))) × (63 < signals → r ≡ fileRow noRow) ⌝ }
+    ensures { λ r. ⌜ ((f : Card) → f .signals ≡ signals → signals ≤ 63 → r ≡ fileRow (rowOf f (now (bytes .entry)))) × (63 < signals → r ≡ fileRow noRow) × (r .count ≤ 63) ⌝ }
 {
     if 63 < signals {
         return no_row();
     }
-    cells_of(bytes, 0, DEGREE_BITS, signals)
+    let row = cells_of(bytes, 0, DEGREE_BITS, signals);
+    if !row.whole {
+        return row;
+    }
+    let degrees = row.degrees;
+    if all_marked(degrees, signals) {
+        return empty_row();
+    }
+    row
 }

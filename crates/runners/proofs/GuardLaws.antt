@@ -2,8 +2,8 @@
 use Prim.Native.Nat.{ℕ, _-_, _≤_, _<_}
 use mathlib.Core.Path.{_≡_, refl, sym, ap, ap₂, subst, _∙_}
 use mathlib.Core.Logic.{_⊎_, inl, inr}
-use mathlib.Core.Bool.{Bool, true, false, not, _&&_, false≢true}
-use mathlib.Core.List.{List, map}
+use mathlib.Core.Bool.{Bool, true, false, not, _&&_, _||_, or-true, false≢true}
+use mathlib.Core.List.{List, [], _∷_, map}
 use mathlib.Core.Option.{Option, none, some, Option·map}
 use native.Mathlib.Omega.{arith}
 use lib.ListN.{length, List·getD-eq-default}
@@ -35,6 +35,7 @@ use Rattle.runners.specs.declared.Refusal.the-variants.{BadRow, BadDegre
 use Rattle.runners.specs.declared.Reply.the-variants.{Ok, No}
 use Rattle.runners.proofs.ScaleLaws.{scale-flat}
 use Rattle.runners.proofs.VisitLaws.{every-same}
+use Rattle.runners.proofs.EffectiveLaws.{empty-passes}
 use Rattle.runners.proofs.VerdictLaws.{lowest-below, verdict-is}
 use Rattle.runners.proofs.FewLaws.{remaining-few}
 use Rattle.runners.proofs.MovedLaws.{moved-same}
@@ -51,10 +52,17 @@ high-past u row g n h l k b = go (lt-or-ge k g)
     go (inl d) = h k d
     go (inr d) = le-ltb u (entry row k) (omega (arith, List·getD-eq-default row 0 {n = k} (omega arith)))
 
+none-left : (row : List ℕ) → length row ≡ 0 → row ≡ []
+none-left [] e = refl
+none-left (d ∷ ds) e = absurd (omega (arith, e))
+
 module _ (c : Card) (row : List ℕ) (n u : ℕ) (en : n ≡ c .signals) (eu : u ≡ scale c) where
-  pub row-long : ¬ (length row ≡ n) → No BadRow ≡ replyOf (rowFault c row)
+  pub row-empty : length row ≡ 0 → Ok ≡ replyOf (rowFault c row)
+  row-empty e = rw (none-left row e, empty-passes c)
+
+  pub row-long : ¬ (length row ≡ 0) → ¬ (length row ≡ n) → No BadRow ≡ replyOf (rowFault c row)
   unfolding rowFault
-  row-long d = rw (← en, ne-eqb (length row) n d)
+  row-long z d = rw (← en, ne-eqb (length row) 0 z, ne-eqb (length row) n d)
 
   abbrev firstHigh : Option ℕ
   firstHigh = lowest 0 (c .signals) (high (scale c) row)
@@ -62,9 +70,12 @@ module _ (c : Card) (row : List ℕ) (n u : ℕ) (en : n ≡ c .signals) (eu : u
   told : (g : ℕ) → g ≡ orPast n (lowest 0 n (high u row)) → g ≡ orPast (c .signals) firstHigh
   told g e = e ∙ ap₂ (λ (m k : ℕ). orPast m (lowest 0 m (high k row))) en eu
 
+  counted : length row ≡ n → (eqb (length row) 0 || eqb (length row) (c .signals)) ≡ true
+  counted e = rw (eq-eqb (length row) (c .signals) (e ∙ en)) (or-true (eqb (length row) 0))
+
   pub row-high : (g : ℕ) → length row ≡ n → g ≡ orPast n (lowest 0 n (high u row)) → g < n → No (BadDegree g) ≡ replyOf (rowFault c row)
   unfolding rowFault
-  row-high g e eg l = rw (eq-eqb (length row) (c .signals) (e ∙ en)) (go firstHigh (told g eg))
+  row-high g e eg l = rw (counted e) (go firstHigh (told g eg))
     where
       go : (o : Option ℕ) → g ≡ orPast (c .signals) o → No (BadDegree g) ≡ replyOf (Option·map BadDegree o)
       go none q = absurd (omega (arith, en))
@@ -72,7 +83,7 @@ module _ (c : Card) (row : List ℕ) (n u : ℕ) (en : n ≡ c .signals) (eu : u
 
   pub row-fits : (g : ℕ) → length row ≡ n → g ≡ orPast n (lowest 0 n (high u row)) → n ≤ g → Ok ≡ replyOf (rowFault c row)
   unfolding rowFault
-  row-fits g e eg l = rw (eq-eqb (length row) (c .signals) (e ∙ en)) (go firstHigh refl (told g eg))
+  row-fits g e eg l = rw (counted e) (go firstHigh refl (told g eg))
     where
       go : (o : Option ℕ) → firstHigh ≡ o → g ≡ orPast (c .signals) o → Ok ≡ replyOf (Option·map BadDegree o)
       go none w q = refl

@@ -1,6 +1,7 @@
 pub mod ScaleLaws
 pub mod StepLaws
 pub mod StateLaws
+pub mod EffectiveLaws
 pub mod TransferLaws
 pub mod MovedLaws
 pub mod OwnerLaws

@@ -4,7 +4,7 @@ use mathlib.Core.Path.{_≡_, refl, sym, ap, ap₂, subst, _∙_}
 use mathlib.Core.Bool.{true, false}
 use mathlib.Core.List.{List, [], _∷_}
 use native.Mathlib.Omega.{arith}
-use lib.ListN.{length, getD, take, drop, length-drop, drop-of-length-le}
+use lib.ListN.{length, getD, take, drop, length-take, length-drop, drop-of-length-le}
 use Rattle.card.specs.Card.{Card}
 use Rattle.card.specs.Parsing.{readCard}
 use Rattle.card.specs.Tables.{IsTable}
@@ -22,8 +22,7 @@ use Rattle.flattening.specs.declared.FlatCard.{FlatCard}
 use Rattle.flattening.proofs.FlatLaws.{flat-meets}
 use Rattle.flattening.proofs.FlatCardLaws.{flat-loaded}
 use Rattle.runners.specs.Numbers.{RowOutcome}
-use Rattle.runners.specs.Step.{next}
-use Rattle.runners.specs.Rows.{settle, rowRefusal, pieces}
+use Rattle.runners.specs.Rows.{settle, rowRefusal, rowNext, pieces}
 use Rattle.runners.specs.Calls.{view, store, valid, eachOnce, called, inOrder, flatCall, subnetCall}
 use Rattle.runners.specs.Answers.{IsRow}
 use Rattle.runners.specs.Nets.{flatJudged, IsNetIn, IsNet, leaves, rowsIn}
@@ -178,15 +177,15 @@ module _ (c : Card) (order : List ℕ) where
     going-end h = sym (g .left ∙ rw (drop-of-length-le rows h, pieces-none (c .signals) (omega (arith, is))) refl)
 
     pub going-more : (end : ℕ) (x : RowAnswer) → at < length rows → end ≡ at + min size (length rows - at) → eachOnce (length (c .subnets)) order ≡ true
-        → IsRow (settle (rowRefusal (flatten c) (view l) (take (end - at) (drop at rows))) l (store l (next (flatten c) (view l) (take (end - at) (drop at rows))))) x → Going first rows (x .state) end
+        → IsRow (settle (rowRefusal (flatten c) (view l) (take (end - at) (drop at rows))) l (store l (rowNext (flatten c) (view l) (take (end - at) (drop at rows))))) x → Going first rows (x .state) end
     unfolding leaves
     going-more end x b e o h =
         let row = take size (drop at rows) in
-        let q : settle (rowRefusal (flatten c) (view l) (take (end - at) (drop at rows))) l (store l (next (flatten c) (view l) (take (end - at) (drop at rows)))) ≡ call l row =
+        let q : settle (rowRefusal (flatten c) (view l) (take (end - at) (drop at rows))) l (store l (rowNext (flatten c) (view l) (take (end - at) (drop at rows)))) ≡ call l row =
         rw (piece-is rows at size end (omega arith) e, g .valid, o) refl in
         let s : x .state ≡ (call l row) .1 = h .state ∙ ap (λ (z : RowOutcome × Lent). z .1) q in
         record {
-          valid = valid-is (flatten c) (x .state) .1 (rw s (rw (g .valid, o) (kept (flatten c) l row true (valid-is (flatten c) l .0 (g .valid)))));
+          valid = valid-is (flatten c) (x .state) .1 (rw s (rw (g .valid, o) (kept (flatten c) l row true (omega (arith, length-take size (drop at rows), length-drop at rows)) (valid-is (flatten c) l .0 (g .valid)))));
           left =
               g .left ∙ ap (leaves call l) (ap (λ (n : ℕ). pieces n (drop at rows)) (sym is) ∙ pieces-more size (drop at rows) some (omega (arith, length-drop at rows)))
               ∙ ap₂ (λ (k : Lent) (ps : List (List ℕ)). leaves call k ps) (sym s) (ap (pieces size) (rest-is rows at size end (omega arith) e) ∙ ap (λ (n : ℕ). pieces n (drop end rows)) is);

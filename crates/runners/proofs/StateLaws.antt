@@ -2,7 +2,7 @@
 -- below 1000, every degree at most 1000. Assumes nothing.
 use Prim.Native.Nat.{ℕ, _+_, _*_, _≤_, _<_}
 use mathlib.Core.Path.{_≡_, refl}
-use mathlib.Core.Logic.{Iff·trans}
+use mathlib.Core.Logic.{_⊎_, Iff·trans}
 use mathlib.Core.Bool.{Bool, true, false, cond}
 use mathlib.Core.List.{List}
 use mathlib.Core.Option.{none, map-eq-none-iff}
@@ -14,10 +14,10 @@ use borrow.Author.Tests.{eqb-false}
 use Rattle.card.specs.Finite.{lowest}
 use Rattle.card.specs.Card.{Card, draws, fills, placeAt}
 use Rattle.card.proofs.Sums.{sum-zero, table-at, table-length}
-use Rattle.card.proofs.Decides.{Decides, Clears, lt-is, le-is, eq-is, and-is, every-is, someUnless-is, otherwise-is, someIf-is, firstOf-is}
+use Rattle.card.proofs.Decides.{Decides, Clears, lt-is, le-is, eq-is, and-is, or-is, every-is, someUnless-is, otherwise-is, someIf-is, firstOf-is}
 use Rattle.runners.specs.State.{NetState, scale, entry, transfer, fresh, remaining, flow, owed, due}
 use Rattle.runners.specs.Step.{candidate, startedOn, advanced, arrivesBy, nextBy, started, conflict, rise, movesOn, arrivesOn, moves, next}
-use Rattle.runners.specs.Rows.{rowFault, rowRefusal}
+use Rattle.runners.specs.Rows.{effective, rowFault, rowRefusal}
 use Rattle.runners.specs.Calls.{inRange, consistent}
 use Rattle.runners.specs.declared.Transfer.{Transfer}
 use Rattle.runners.specs.declared.Transfer.the-variants.{Idle, Carrying}
@@ -99,22 +99,27 @@ module _ (f : Card) (tokens : (p : ℕ) → p < length (f .places) → (placeAt 
         degrees = λ g l. omega (arith, fresh-degree g l);
       }
 
--- a row that is not refused has a degree for each signal, each at most 1000, and makes no conflict
+-- a row that is not refused has no degrees, or one for each signal, each at most 1000, and makes no conflict
 pub record Fits (f : Card) (s : NetState) (row : List ℕ) : Type 0 where
-  pub long : length row ≡ f .signals
+  pub long : (length row ≡ 0) ⊎ (length row ≡ f .signals)
   pub degrees : (g : ℕ) → g < f .signals → entry row g ≤ scale f
-  pub free : conflict f s row ≡ none
+  pub free : conflict f s (effective (s .degrees) row) ≡ none
 
 low-degrees : (f : Card) (row : List ℕ) → Clears (lowest 0 (f .signals) (λ g. ltb (scale f) (entry row g))) ((g : ℕ) → g < f .signals → entry row g ≤ scale f)
 low-degrees f row =
     Iff·trans (firstOf-is 0 (f .signals) _ _ (λ g. someIf-is _ _ _ (lt-is (scale f) (entry row g))))
     (λ h g l. omega (arith, h g (omega arith) (omega arith)), λ h g a b. omega (arith, h g (omega arith)))
 
+pub fault-is : (f : Card) (row : List ℕ) → Clears (rowFault f row) (((length row ≡ 0) ⊎ (length row ≡ f .signals)) × ((g : ℕ) → g < f .signals → entry row g ≤ scale f))
+unfolding rowFault
+fault-is f row =
+    otherwise-is _ _ _ _ (someUnless-is _ _ _ (or-is _ _ _ _ (eq-is (length row) 0) (eq-is (length row) (f .signals))))
+    (Iff·trans (map-eq-none-iff BadDegree _) (low-degrees f row))
+
 pub fits-is : (f : Card) (s : NetState) (row : List ℕ) → Clears (rowRefusal f s row) (Fits f s row)
-unfolding rowRefusal rowFault
+unfolding rowRefusal
 fits-is f s row =
-    Iff·trans (otherwise-is _ _ _ _ (otherwise-is _ _ _ _ (someUnless-is _ _ _ (eq-is (length row) (f .signals))) (Iff·trans (map-eq-none-iff BadDegree _) (low-degrees f row)))
-    (map-eq-none-iff Conflict _))
+    Iff·trans (otherwise-is _ _ _ _ (fault-is f row) (map-eq-none-iff Conflict _))
     (λ h. record { long = h .0 .0; degrees = h .0 .1; free = h .1 }, λ h. ((h .long, h .degrees), h .free))
 
 -- an accepted row keeps the progress below 1000
@@ -152,8 +157,8 @@ module _ (f : Card) (s : NetState) (row : List ℕ) (h : Consistent f s) where
   pub arrived-range : (t : ℕ) → t < length (f .transitions) → InRange f (arrivesOn f (candidate f s row) s row t)
   arrived-range t l = range-by f (candidate f s row) (movesOn f (candidate f s row) s row) s h (within-by f (candidate f s row) (rise f (s .degrees) row) s) t l
 
-  -- AN ACCEPTED ROW KEEPS A CONSISTENT STATE CONSISTENT
-  pub next-consistent : Fits f s row → Consistent f (next f s row)
+  -- A ROW WITHOUT A CONFLICT KEEPS A CONSISTENT STATE CONSISTENT
+  pub next-consistent : conflict f s row ≡ none → ((g : ℕ) → g < f .signals → entry row g ≤ scale f) → Consistent f (next f s row)
   unfolding next started
-  next-consistent k =
-      consistent-by f (candidate f s row) (moves f s row) s h row (λ t l. moves-few f s row t) (conflict-is f s row .0 (k .free)) (k .degrees)
+  next-consistent free low =
+      consistent-by f (candidate f s row) (moves f s row) s h row (λ t l. moves-few f s row t) (conflict-is f s row .0 free) low

@@ -23,7 +23,7 @@ use Rattle.flattening.proofs.FlatLaws.{flat-below, flat-place}
 use Rattle.runners.specs.Numbers.{rowOutcome}
 use Rattle.runners.specs.State.{NetState, scale, entry, transfer, remaining, flow, owed, due, fullMarking, covered}
 use Rattle.runners.specs.Step.{idle, candidateOn, candidate, started, conflict, moves, arrivesOn, next}
-use Rattle.runners.specs.Rows.{settle, rowFault}
+use Rattle.runners.specs.Rows.{settle}
 use Rattle.runners.specs.Calls.{view, slot, store, valid}
 use Rattle.runners.specs.Answers.{IsRow}
 use Rattle.runners.specs.Columns.{transferOf, noted, Columns, columns}
@@ -88,20 +88,12 @@ candidate-idle : (f : Card) (s : NetState) (row : List ℕ) (t : ℕ) → candid
 unfolding candidate candidateOn
 candidate-idle f s row t e = first-of _ _ _ e
 
--- a valid state has the card's counts, and a row that passes 20 has a degree for each signal
+-- a valid state has the card's counts
 pub valid-counts : (c : Card) (l : Lent) → valid (flatten c) l ≡ true → Counts c l
 unfolding flatten
 valid-counts c l e =
     let v = valid-is (flatten c) l .0 e in
     record { places = v .counts .places ∙ map-length flatPlaceRow (c .places); transitions = v .counts .transitions; signals = v .counts .signals }
-
-pub fault-long : (c : Card) (row : List ℕ) → rowFault (flatten c) row ≡ none → length row ≡ c .signals
-unfolding rowFault flatten
-fault-long c row e = go (eqb (length row) (c .signals)) refl e
-  where
-    go : (b : Bool) → eqb (length row) (c .signals) ≡ b → (someUnless b BadRow otherwise Option·map BadDegree (lowest 0 (c .signals) (λ g. ltb (scale (flatten c)) (entry row g)))) ≡ none → length row ≡ c .signals
-    go true q w = eqb-true (length row) (c .signals) q
-    go false q w = absurd (Option·some-ne-none BadRow w)
 
 same-places : (c : Card) → length ((flatten c) .places) ≡ length (c .places)
 unfolding flatten
@@ -288,7 +280,7 @@ module _ (c : Card) (m : Meets c) (l : Lent) (v : valid (flatten c) l ≡ true) 
         }
 
     module _ (ms′ xs′ : List ℕ) (after r : Lent) (p3 : AllMove (stepTurn c was row) (columns (l .markings) xs (l .degrees) row o d x y cs) (columns ms′ xs′ (l .degrees) row o d x y cs))
-        (st : Stored after ms′ xs′ r) (ea : after ≡ withDegrees l row) (rf : rowFault (flatten c) row ≡ none) (free : conflict (flatten c) was row ≡ none)
+        (st : Stored after ms′ xs′ r) (ea : after ≡ withDegrees l row) (rl : length row ≡ c .signals) (free : conflict (flatten c) was row ≡ none)
         (ml : length (l .markings) ≡ 255) (sl : length (l .slots) ≡ 255) where
       few-p : (p : ℕ) → p < length (c .places) → p < 255
       few-p p b = omega (arith, m .wellformed .rows .fewPlaces)
@@ -344,7 +336,7 @@ module _ (c : Card) (m : Meets c) (l : Lent) (v : valid (flatten c) l ≡ true) 
       stored-is : r ≡ store l (next (flatten c) was row)
       unfolding next
       stored-is =
-          let g : length row ≡ l .signals = fault-long c row rf ∙ sym (counts .signals) in
+          let g : length row ≡ l .signals = rl ∙ sym (counts .signals) in
           rebuilt r ∙ rw (st .markings, markings-is, slots-is, st .degrees, st .places, st .transitions, st .signals, ea, g) refl
 
       pub row-moved : IsRow (settle (Option·map Conflict (conflict (flatten c) was row)) l (store l (next (flatten c) was row))) (record { reply = Ok; state = r })

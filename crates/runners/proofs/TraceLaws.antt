@@ -1,9 +1,9 @@
 -- Lists of calls of any kind: where each call keeps what makes a state good, the two runners' traces are one, that of the net's own run, every
 -- state is good, and none earns 25. And a row keeps a state consistent. Assumes nothing.
-use Prim.Native.Nat.{ℕ}
+use Prim.Native.Nat.{ℕ, _<_}
 use mathlib.Core.Path.{_≡_, refl, sym, ap, _∙_}
-use mathlib.Core.Logic.{_≢_, Iff·trans}
-use mathlib.Core.Bool.{Bool, true, false}
+use mathlib.Core.Logic.{_≢_, inl, inr, Iff·trans}
+use mathlib.Core.Bool.{Bool, true, false, _||_}
 use mathlib.Core.List.{List, [], _∷_, _++_, map}
 use mathlib.Core.Option.{Option, none, some, Option·map, Option·some-ne-none}
 use native.Mathlib.Omega.{arith}
@@ -15,8 +15,8 @@ use Rattle.card.specs.Card.{Card}
 use Rattle.card.proofs.Decides.{Decides, eq-is, and-is}
 use Rattle.runners.specs.Numbers.{RowOutcome, refusal}
 use Rattle.runners.specs.State.{NetState, scale, entry}
-use Rattle.runners.specs.Step.{conflict, next}
-use Rattle.runners.specs.Rows.{settle, rowFault, rowRefusal, degrees, noRow, Ask, row, Act, actOf, perform}
+use Rattle.runners.specs.Step.{conflict}
+use Rattle.runners.specs.Rows.{settle, effective, rowFault, rowRefusal, rowNext, degrees, noRow, Ask, row, Act, actOf, perform}
 use Rattle.runners.specs.Calls.{view, slot, store, validIn, inState, valid, lentCall}
 use Rattle.runners.specs.inner.Storing.{Counts}
 use Rattle.runners.specs.Traces.{trace, observed, Bounded}
@@ -24,7 +24,8 @@ use Rattle.runners.specs.declared.Transfer.{Transfer}
 use Rattle.runners.specs.declared.State.{State as Lent}
 use Rattle.runners.specs.declared.Refusal.{Refusal}
 use Rattle.runners.specs.declared.Refusal.the-variants.{BadCard, BadState, BadOrder, BadRow, BadDegree, Conflict}
-use Rattle.runners.proofs.StateLaws.{Consistent, consistent-is, Sized, fits-is, next-sized, next-consistent}
+use Rattle.runners.proofs.StateLaws.{Consistent, consistent-is, Sized, fits-is}
+use Rattle.runners.proofs.EffectiveLaws.{row-consistent, row-sized}
 
 -- a state stored in a lent one is what the lent one holds
 map-append : {A B : Type 0} (f : A → B) (xs ys : List A) → map f (xs ++ ys) ≡ map f xs ++ map f ys
@@ -206,34 +207,36 @@ none-some e = absurd (Option·some-ne-none _ e)
 pub ask-keeps : (f : Card) (k : Ask) → Keeps f (actOf f k)
 ask-keeps f (row (degrees r)) s h e =
     let k = fits-is f s r .0 e in
-    record { consistent = next-consistent f s r (h .consistent) k; sized = next-sized f s r (k .long) }
+    record { consistent = row-consistent f s r (h .consistent) k; sized = row-sized f s r (h .consistent) k (inr (h .sized .degrees)) }
 ask-keeps f (row noRow) s h e = none-some e
 
 row-clear : (f : Card) (s : NetState) (r : List ℕ) → Clear (rowRefusal f s r)
 unfolding rowRefusal rowFault
 row-clear f s r =
-    clear-otherwise _ _ (clear-otherwise _ _ (clear-unless (eqb (length r) (f .signals)) BadRow tt)
+    clear-otherwise _ _ (clear-otherwise _ _ (clear-unless (eqb (length r) 0 || eqb (length r) (f .signals)) BadRow tt)
     (clear-map BadDegree (λ n. tt) (lowest 0 (f .signals) (λ g. ltb (scale f) (entry r g)))))
-    (clear-map Conflict (λ n. tt) (conflict f s r))
+    (clear-map Conflict (λ n. tt) (conflict f s (effective (s .degrees) r)))
 
 pub ask-mild : (f : Card) (k : Ask) → Mild (actOf f k)
 unfolding Clear
 ask-mild f (row (degrees r)) s = row-clear f s r
 ask-mild f (row noRow) s = tt
 
--- What a row leaves of a valid lent state is valid, whatever the lengths of its arrays.
-pub kept : (f : Card) (l : Lent) (r : List ℕ) (ordered : Bool) → Valid f l
-    → Valid f ((settle (someUnless ordered BadOrder otherwise rowRefusal f (view l) r) l (store l (next f (view l) r))) .1)
-kept f l r false v = v
-kept f l r true v = go (rowRefusal f (view l) r) refl
+-- What a row that is not empty leaves of a valid lent state is valid, whatever the lengths of its arrays.
+pub kept : (f : Card) (l : Lent) (r : List ℕ) (ordered : Bool) → 0 < length r → Valid f l
+    → Valid f ((settle (someUnless ordered BadOrder otherwise rowRefusal f (view l) r) l (store l (rowNext f (view l) r))) .1)
+kept f l r false b v = v
+kept f l r true b v = go (rowRefusal f (view l) r) refl
   where
-    go : (x : Option Refusal) → rowRefusal f (view l) r ≡ x → Valid f ((settle x l (store l (next f (view l) r))) .1)
+    go : (x : Option Refusal) → rowRefusal f (view l) r ≡ x → Valid f ((settle x l (store l (rowNext f (view l) r))) .1)
     go (some why) e = v
     go none e =
         let k = fits-is f (view l) r .0 e in
         record {
           counts = record { places = v .counts .places; transitions = v .counts .transitions; signals = v .counts .signals };
-          consistent = rw (view-store f l (next f (view l) r) (v .counts) (next-sized f (view l) r (k .long))) (next-consistent f (view l) r (v .consistent) k);
+          consistent =
+              rw (view-store f l (rowNext f (view l) r) (v .counts) (row-sized f (view l) r (v .consistent) k (inl b)))
+              (row-consistent f (view l) r (v .consistent) k);
         }
 
 -- a consistent state has every marking in range

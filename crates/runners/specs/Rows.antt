@@ -1,7 +1,7 @@
 -- A row on the flat net: tests 20, 21 and 22, the reply and the next state; and a row of a file ('Why a call is turned back').
 use Prim.Native.Nat.{ℕ, suc, _+_, _-_, _*_, _/_}
-use mathlib.Core.Bool.{Bool, _&&_}
-use mathlib.Core.List.{List}
+use mathlib.Core.Bool.{Bool, _&&_, _||_, cond}
+use mathlib.Core.List.{List, [], _∷_}
 use mathlib.Core.Option.{Option, none, some, Option·map}
 use lib.ListN.{length}
 use lib.Seq.{slice}
@@ -21,14 +21,25 @@ abbrev pub settle : {S : Type 0} → Option Refusal → (before after : S) → R
 settle none before after = (rowOutcome Ok, after)
 settle (some why) before after = (rowOutcome (No why), before)
 
--- 20 row not of G degrees; 21 degree above 1000, with the lowest such signal
+-- CR 1: a row of no degrees (the requests call it an empty row) means that every signal stands at its last degree. The effective row, which the
+-- step takes: of an empty row the last degrees, of any other the row.
+abbrev pub effective : (last row : List ℕ) → List ℕ
+effective last [] = last
+effective last (d ∷ ds) = d ∷ ds
+
+-- 20 row not of G degrees (CR 1: refusal 20 no longer covers the empty list); 21 degree above 1000, with the lowest such signal. Both are tests
+-- of the row as it is lent.
 unfoldable pub rowFault : Card → (row : List ℕ) → Option Refusal
 rowFault f row =
-    someUnless (eqb (length row) (f .signals)) BadRow otherwise Option·map BadDegree (lowest 0 (f .signals) (λ g. ltb (scale f) (entry row g)))
+    someUnless (eqb (length row) 0 || eqb (length row) (f .signals)) BadRow
+    otherwise Option·map BadDegree (lowest 0 (f .signals) (λ g. ltb (scale f) (entry row g)))
 
--- then 22 conflict, with its place
+-- then 22 conflict, with its place: the step runs as usual, on the effective row
 unfoldable pub rowRefusal : Card → NetState → (row : List ℕ) → Option Refusal
-rowRefusal f s row = rowFault f row otherwise Option·map Conflict (conflict f s row)
+rowRefusal f s row = rowFault f row otherwise Option·map Conflict (conflict f s (effective (s .degrees) row))
+
+abbrev pub rowNext : Card → NetState → (row : List ℕ) → NetState
+rowNext f s row = next f s (effective (s .degrees) row)
 
 -- What is read of a row: its degrees, or why it has none. (20, in a file: bytes missing or a nonzero fill bit.)
 pub data RowRead : Type 0 where
@@ -46,7 +57,7 @@ pub record Act : Type 0 where
 
 -- of a row, tests 20, 21 and 22, and the step
 abbrev pub rowAct : Card → RowRead → Act
-rowAct f (degrees r) = record { refusal = λ s. rowRefusal f s r; next = λ s. next f s r }
+rowAct f (degrees r) = record { refusal = λ s. rowRefusal f s r; next = λ s. rowNext f s r }
 rowAct f noRow = record { refusal = λ s. some BadRow; next = λ s. s }
 
 abbrev pub actOf : Card → Ask → Act
@@ -78,8 +89,16 @@ abbrev pub orNoRow : Option (List ℕ) → RowRead
 orNoRow none = noRow
 orNoRow (some r) = degrees r
 
+-- CR 1: in a row file an empty row is written with every degree 1023, the empty mark. (A row of a file in which some are 1023 and some are not
+-- is 21, and so is a call given 1023.)
+abbrev pub emptyMark : Card → ℕ
+emptyMark f = 1023
+
+unfoldable pub unmarked : Card → (cells : List ℕ) → List ℕ
+unmarked f ds = cond (every (f .signals) (λ g. eqb (entry ds g) (emptyMark f))) [] ds
+
 abbrev pub rowOf : Card → (bytes : List ℕ) → RowRead
-rowOf f bytes = orNoRow (cells 0 (degreeWidth f) (f .signals) bytes)
+rowOf f bytes = orNoRow (Option·map (unmarked f) (cells 0 (degreeWidth f) (f .signals) bytes))
 
 -- a file in pieces of n bytes; the last may be shorter
 unfoldable pub pieces : (n : ℕ) → (file : List ℕ) → List (List ℕ)

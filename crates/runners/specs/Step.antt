@@ -1,4 +1,4 @@
--- The step of a flat net ('State and step', 1 to 4). f is a flat card.
+-- The step of a flat net ('State and step', 1 to 4). f is a flat card, and a row has a degree for each signal: it is the effective row (Rows).
 use Prim.Native.Nat.{ℕ, _+_, _-_, _*_, min}
 use mathlib.Core.Bool.{Bool, true, false, not, _&&_, cond}
 use mathlib.Core.List.{List}

@@ -52,8 +52,8 @@ pub record Agreement (card : List ℕ) (c : Card) (calls : List Call) : Type 0 w
   pub net : map observed (flatTrace card ((freshCall card) .1) calls) ≡ netTrace (flatten c) (fresh (flatten c)) calls
   pub bounded : All (Bounded (flatten c)) (fresh (flatten c) ∷ map (λ x. x .1) (netTrace (flatten c) (fresh (flatten c)) calls))
 
--- Demand 3: for every accepted card and every list of row calls, refused rows among them, whatever the valid visiting orders, the runners
--- agree; and no visit's outcome hangs on a place that its subnet cannot see.
+-- Demand 3: for every accepted card and every list of row calls, refused and empty rows among them, whatever the valid visiting orders, the
+-- runners agree; and no visit's outcome hangs on a place that its subnet cannot see.
 pub record Demand3 : Type 0 where
   pub agree : (card : List ℕ) (c : Card) (calls : List Call) → judge card ≡ accepted c
       → All (λ k. eachOnce (length (c .subnets)) (k .order) ≡ true) calls → Agreement card c calls

@@ -25,8 +25,8 @@ pub record OwnsTransition (c : Card) (s t : ℕ) : Type 0 where
 pub data Round : Type 0 where
   posting finding moving : Round
 
--- All that there is in a visit's turn of a row: the card, the state, the row, the standing claims on the board, and the candidates that were
--- found. (The verdict is no part of it: it decides whether third visits are made.)
+-- All that there is in a visit's turn of a row: the card, the state, the effective row, the standing claims on the board, and the candidates
+-- that were found. (The verdict is no part of it: it decides whether third visits are made.)
 pub record Turn : Type 0 where
   pub card : Card
   pub state : NetState

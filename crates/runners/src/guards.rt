@@ -46,11 +46,14 @@ fn high_degree(row: &[u16], signals: u16, scale: u16) -> u16
     signals
 }
 
-// 20 and 21: a degree for each signal, none above 1000. Two wrong tests that this rules out: one that names the highest such signal, and one
-// that passes a row of too many degrees.
+// 20 and 21: no degrees, or one for each signal and none above 1000. Two wrong tests that this rules out: one that names the highest such
+// signal, and one that refuses the empty row.
 pub fn row_test(row: &[u16], signals: u16, scale: u16) -> Reply
     ensures { λ r. ⌜ ((c : Card) → signals ≡ c .signals → scale ≡ scaleOf c → r ≡ replyOf (rowFault c (now (row .entry)))) ⌝ }
 {
+    if row.len() == 0 {
+        return Reply::Ok;
+    }
     if row.len() != signals as usize {
         return Reply::No(Refusal::BadRow);
     }

@@ -28,7 +28,7 @@ ghost use Rattle.runners.specs.Calls.{called, inOrder};
 ghost use Rattle.runners.specs.Answers.{IsRow};
 ghost use Rattle.runners.specs.Nets.{IsNetIn};
 ghost use Rattle.runners.specs.inner.Finding.{IsFound};
-ghost use Rattle.runners.specs.inner.Steps.{withDegrees, IsStep, IsLoadedRow, IsTestedRow};
+ghost use Rattle.runners.specs.inner.Steps.{withDegrees, IsStep, IsRowStep, IsLoadedRow, IsTestedRow};
 ghost use Rattle.runners.specs.declared.Reply.the-variants.{No};
 
 pub fn refuse(why: Refusal, state: State) -> RowAnswer
@@ -140,6 +140,29 @@ fn step(
     }
 }
 
+// The step on the effective row: that of an empty row is the last degrees.
+fn row_step(
+    numbers: &[u16],
+    starts: &[u32],
+    full: &[u32],
+    sizes: Sizes,
+    order: &[u16],
+    state: State,
+    row: &[u16],
+) -> RowAnswer
+    ensures { λ r. ⌜ IsRowStep (now (numbers .entry)) (now (starts .entry)) (now (full .entry)) sizes (now (order .entry)) state (now (row .entry)) r ⌝ }
+{
+    if row.len() != 0 {
+        return step(numbers, starts, full, sizes, order, state, row);
+    }
+    let last = state.degrees;
+    let n = sizes.signals as usize;
+    if MOST_SIGNALS < n {
+        return refuse(Refusal::BadState, state);
+    }
+    step(numbers, starts, full, sizes, order, state, &last[..n])
+}
+
 // Tests 20 and 21, then the step.
 pub fn loaded_row(
     numbers: &[u16],
@@ -155,7 +178,7 @@ pub fn loaded_row(
     let fault = row_test(row, sizes.signals, rules::scale(numbers));
     match fault {
         Reply::No(why) => refuse(why, state),
-        Reply::Ok => step(numbers, starts, full, sizes, order, state, row),
+        Reply::Ok => row_step(numbers, starts, full, sizes, order, state, row),
     }
 }
 

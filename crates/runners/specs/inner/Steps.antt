@@ -12,7 +12,7 @@ use Rattle.hierarchy.specs.Judgement.{Judgement, accepted, outcomeOf}
 use Rattle.hierarchy.specs.declared.Answer.{Answer}
 use Rattle.flattening.specs.Flattening.{flatten}
 use Rattle.runners.specs.Step.{conflict, next}
-use Rattle.runners.specs.Rows.{settle, rowFault, rowRefusal}
+use Rattle.runners.specs.Rows.{settle, effective, rowFault, rowRefusal, rowNext}
 use Rattle.runners.specs.Calls.{view, store, valid, eachOnce}
 use Rattle.runners.specs.Answers.{IsRow}
 use Rattle.runners.specs.Visits.{InTables}
@@ -54,21 +54,27 @@ pub record IsLoaded (j : Judgement) (a : Answer) (numbers starts : List ℕ) : T
   pub answer : checkOutcome a ≡ outcomeOf j
   pub tables : (c : Card) → j ≡ accepted c → InTables c numbers starts
 
--- from a valid state, in a valid order, on a row that passes 20 and 21: a conflict, or the next state
+-- from a valid state, in a valid order, on a row with a degree for each signal: a conflict, or the next state
 abbrev pub IsStep : (numbers starts full : List ℕ) → Sizes → (order : List ℕ) → Lent → (row : List ℕ) → RowAnswer → Type 0
 IsStep numbers starts full n order l row r =
-    (c : Card) → HoldsNet c numbers starts full n → valid (flatten c) l ≡ true → eachOnce (length (c .subnets)) order ≡ true → rowFault (flatten c) row ≡ none
+    (c : Card) → HoldsNet c numbers starts full n → valid (flatten c) l ≡ true → eachOnce (length (c .subnets)) order ≡ true → length row ≡ c .signals
     → IsRow (settle (Option·map Conflict (conflict (flatten c) (view l) row)) l (store l (next (flatten c) (view l) row))) r
+
+-- on a row that passes 20 and 21, empty or not: the same on the effective row
+abbrev pub IsRowStep : (numbers starts full : List ℕ) → Sizes → (order : List ℕ) → Lent → (row : List ℕ) → RowAnswer → Type 0
+IsRowStep numbers starts full n order l row r =
+    (c : Card) → HoldsNet c numbers starts full n → valid (flatten c) l ≡ true → eachOnce (length (c .subnets)) order ≡ true → rowFault (flatten c) row ≡ none
+    → IsRow (settle (Option·map Conflict (conflict (flatten c) (view l) (effective ((view l) .degrees) row))) l (store l (rowNext (flatten c) (view l) row))) r
 
 -- on any row: 20, 21, and then the step
 abbrev pub IsLoadedRow : (numbers starts full : List ℕ) → Sizes → (order : List ℕ) → Lent → (row : List ℕ) → RowAnswer → Type 0
 IsLoadedRow numbers starts full n order l row r =
     (c : Card) → HoldsNet c numbers starts full n → valid (flatten c) l ≡ true → eachOnce (length (c .subnets)) order ≡ true
-    → IsRow (settle (rowRefusal (flatten c) (view l) row) l (store l (next (flatten c) (view l) row))) r
+    → IsRow (settle (rowRefusal (flatten c) (view l) row) l (store l (rowNext (flatten c) (view l) row))) r
 
 -- from any state, in any order: 25 and 23 first
 abbrev pub IsTestedRow : (numbers starts full : List ℕ) → Sizes → (order : List ℕ) → Lent → (row : List ℕ) → RowAnswer → Type 0
 IsTestedRow numbers starts full n order l row r =
     (c : Card) → HoldsNet c numbers starts full n
     → IsRow (settle (someUnless (valid (flatten c) l) BadState otherwise someUnless (eachOnce (length (c .subnets)) order) BadOrder otherwise rowRefusal (flatten c) (view l) row) l
-    (store l (next (flatten c) (view l) row))) r
+    (store l (rowNext (flatten c) (view l) row))) r

@@ -48,7 +48,7 @@ returns c =
     let a = c .before .before .before .before .before .before .before .before .before .before in
     let r = c .before .before .before .before .row-of in
     let o = c .before .before .before .before .before .before .order-of in
-    λ k eg en. call-unread (now (a .args .card)) (now (a .args .bytes)) (a .args .n) (a .args .flat) (a .args .subnet) k en (a .pre .1) (o .result) (o .ensures) (c .both-without-row .result) (a .args .signals) eg (r .result)
+    λ k eg en. call-unread (now (a .args .card)) (now (a .args .bytes)) (a .args .n) (a .args .flat) (a .args .subnet) k en (a .pre .1) (o .result) (o .ensures) (c .both-without-row .result) (r .result)
     (r .ensures .0 k eg (a .pre .2)) (test-fails (r .result .whole) (r .result .whole) refl (c .before .before .if1 .taken)) (c .both-without-row .ensures)
 
 array-share-prefix-order-2 : tie.Need-array-share-prefix-order-2
@@ -79,7 +79,7 @@ returns-2 c =
     let a = c .before .before .before .before .before .before .before .before .before .before .before .before in
     let r = c .before .before .before .before .before .before .row-of in
     let o = c .before .before .before .before .before .before .before .before .order-of in
-    λ k eg en. call-read (now (a .args .card)) (now (a .args .bytes)) (a .args .n) (a .args .flat) (a .args .subnet) k en (a .pre .1) (o .result) (o .ensures) (c .both-rows .result) (a .args .signals) eg (r .result)
+    λ k eg en. call-read (now (a .args .card)) (now (a .args .bytes)) (a .args .n) (a .args .flat) (a .args .subnet) k en (a .pre .1) (o .result) (o .ensures) (c .both-rows .result) (r .result)
     (r .ensures .0 k eg (a .pre .2)) (test-holds (r .result .whole) (r .result .whole) refl (c .before .before .before .before .if1 .left)) (c .both-rows .ensures)
 
 pub both-calls-spec : {M : Type 1} → statement M

@@ -2,7 +2,7 @@
 use mathlib.Core.Path.{refl}
 use denote.Ref.{now}
 use Rattle.hierarchy.proofs.WalkLaws.{test-fails, test-holds}
-use Rattle.programs.proofs.FeedLaws.{whole-few, file-missing, file-present}
+use Rattle.programs.proofs.FeedLaws.{file-missing, file-present}
 use borrow.Author.Needs.{needs}
 use Rattle.programs.proofs.feed.file_row.Statement.{statement}
 use Rattle.programs.proofs.feed.file_row.Tie as tie
@@ -20,9 +20,7 @@ returns : tie.Need-returns
 returns c = λ j h. file-missing ((c .before .before .before .before .before .before .args) .net) ((c .before .before .before .before .before .before .args) .state) ((c .without-row) .result) (now ((c .before .before .before .before .before .before .args) .bytes)) ((c .before .before .before .before .net-signals) .result) ((c .before .before .before .row-of) .result) ((c .before .before .before .row-of) .ensures .0) j h ((c .before .before .before .before .net-signals) .ensures _ h) (test-fails ((c .before .before .before .row-of) .result .whole) ((c .before .before .before .row-of) .result .whole) refl ((c .before .if1) .taken)) ((c .without-row) .ensures j h)
 
 with-row-requires : tie.Need-with-row-requires
-with-row-requires c κs =
-    let r = c .before .before .before .row-of in
-    whole-few (c .before .before .before .before .net-signals .result) (r .result) (r .ensures .1) (test-holds (r .result .whole) (r .result .whole) refl (c .before .if1 .left))
+with-row-requires c κs = search needs
 
 returns-2 : tie.Need-returns-2
 returns-2 c =

@@ -14,7 +14,7 @@ array-share-prefix-degrees c = search needs
 slice-aggregate-net-row-2 : tie.Need-slice-aggregate-net-row-2
 slice-aggregate-net-row-2 c =
     let b = c .before .before in
-    cut-is (b .args .signals) (b .args .t3) (omega (arith, b .pre, b .good .1 .1 .0 .1))
+    cut-is (b .args .count) (b .args .t3) (omega (arith, b .pre, b .good .1 .1 .0 .1))
 
 net-row-requires : tie.Need-net-row-requires
 net-row-requires c κs = search needs

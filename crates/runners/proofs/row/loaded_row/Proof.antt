@@ -21,8 +21,8 @@ refuse-requires c κs = search needs
 enum-told : tie.Need-enum-told
 enum-told c = search needs
 
-step-requires : tie.Need-step-requires
-step-requires c κs = search needs
+row-step-requires : tie.Need-row-step-requires
+row-step-requires c κs = search needs
 
 returns : tie.Need-returns
 returns c = λ k n v o. row-refused k ((c .before .before .before .before .before .before .before .before .before .before .before .args) .state) _ (now ((c .before .before .before .before .before .before .before .before .before .before .before .args) .row)) ((c .before .before .before .before .row-test) .result) ((c .before .before .before .before .row-test) .ensures (flatten k) (flat-signals k _ (n .sizes .signals)) ((c .before .before .before .before .before .scale) .ensures k _ (n .tables))) _ ((c .refuse) .result) ((c .refuse) .ensures) ((c .before .before .fault) .given .1)
@@ -32,7 +32,7 @@ returns-2 c =
     let a = (c .before .before .before .before .before .before .before .before .before .before .args) in
     λ k n v o.
     let e = (c .before .before .before .row-test) .ensures (flatten k) (flat-signals k _ (n .sizes .signals)) ((c .before .before .before .before .scale) .ensures k _ (n .tables)) in
-    row-stepped k (a .state) _ (now (a .row)) ((c .before .before .before .row-test) .result) e ((c .step) .result) ((c .before .enum-told) .given .1) ((c .step) .ensures k n v o (fault-none k (a .state) (a .state) (now (a .row)) ((c .before .before .before .row-test) .result) e ((c .before .enum-told) .given .1)))
+    row-stepped k (a .state) _ (now (a .row)) ((c .before .before .before .row-test) .result) e ((c .row-step) .result) ((c .before .enum-told) .given .1) ((c .row-step) .ensures k n v o (fault-none k (a .state) (a .state) (now (a .row)) ((c .before .before .before .row-test) .result) e ((c .before .enum-told) .given .1)))
 
 pub loaded-row-spec : {M : Type 1} → statement M
 loaded-row-spec =
@@ -43,6 +43,6 @@ loaded-row-spec =
     enum-known-fault
     refuse-requires
     enum-told
-    step-requires
+    row-step-requires
     returns
     returns-2)

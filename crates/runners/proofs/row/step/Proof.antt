@@ -6,7 +6,7 @@ use denote.Ref.{now}
 use lib.ListN.{length-replicate}
 use Rattle.runners.specs.Calls.{view}
 use Rattle.runners.proofs.TransferLaws.{unmapped}
-use Rattle.runners.proofs.StepRow.{begins, row-conflict, free-of, turn-move, row-moved, fault-long}
+use Rattle.runners.proofs.StepRow.{begins, row-conflict, free-of, turn-move, row-moved}
 use borrow.Author.Needs.{needs}
 use Rattle.runners.proofs.row.step.Statement.{statement}
 use Rattle.runners.proofs.row.step.Tie as tie
@@ -38,7 +38,7 @@ refuse-requires c κs = search needs
 returns : tie.Need-returns
 returns c =
     let a = (c .before .before .before .before .before .before .before .before .before .before .before .before .before .before .before .args) in
-    λ k n v o rf.
+    λ k n v o rl.
     let g = (c .before .before .before .find-conflict) .ensures .1 k (view (a .state)) (n .tables) (n .full) (n .sizes .places) o (begins k (n .tables .meets) (a .state) v (now (a .row)) ((c .before .before .before .before .before .before .before .codes) .result) ((c .before .before .before .before .before .before .before .codes) .ensures)) (length-replicate {A = Bool} 255 false) in
     row-conflict k (view (a .state)) (now (a .row)) ((c .before .before .before .find-conflict) .result) (a .sizes .places) (n .sizes .places) (g .conflicts) (a .state) _ ((c .refuse) .result) ((c .refuse) .ensures) ((c .before .if1) .taken)
 
@@ -65,12 +65,12 @@ returns-2 c =
     let a = (c .before .before .before .before .before .before .before .before .before .before .before .before .before .before .before .before .before .before .before .before .before .before .before .args) in
     let x = (c .before .before .before .before .before .before .before .before .before .before .before .before .before .before .before .codes) in
     let f = (c .before .before .before .before .before .before .before .before .before .before .before .find-conflict) in
-    λ k n v o rf.
+    λ k n v o rl.
     let g = f .ensures .1 k (view (a .state)) (n .tables) (n .full) (n .sizes .places) o (begins k (n .tables .meets) (a .state) v (now (a .row)) (x .result) (x .ensures)) (length-replicate {A = Bool} 255 false) in
     let cs = f .last .1 .1 .1 .1 .1 .1 .1 .1 .0 in
     let p3 = (c .before .before .before .move-all) .ensures .1 .1 [] [] [] [] k (view (a .state)) (n .tables) o (turn-move k (n .tables .meets) (a .state) v (now (a .row)) (x .result) (x .ensures) [] [] [] [] cs (g .candidates)) in
     row-moved k (n .tables .meets) (a .state) v (now (a .row)) (x .result) (x .ensures) [] [] [] [] cs (g .candidates) _ _ ((c .before .before .before .before .before .before .before .before .before .before .before .before .before .before .before .before .before .record-degrees) .result) ((c .stored) .result) p3 ((c .stored) .ensures)
-    ((c .before .before .before .before .before .before .before .before .before .before .before .before .before .before .before .before .before .record-degrees) .ensures (omega (arith, fault-long k (now (a .row)) rf, n .tables .meets .wellformed .fewSignals))) rf
+    ((c .before .before .before .before .before .before .before .before .before .before .before .before .before .before .before .before .before .record-degrees) .ensures (omega (arith, rl, n .tables .meets .wellformed .fewSignals))) rl
     (free-of k (view (a .state)) (now (a .row)) (f .result) (a .sizes .places) (n .sizes .places) (g .conflicts) ((c .before .before .before .before .before .before .before .before .before .if1) .left))
     (search (needs, (c .before .before .before .before .before .before .before .before .before .before .before .before .before .before .before .before .before .before .before .before .before .before .before .good) .1 .1 .1 .1 .1 .0)) (unmapped _ (a .state .slots) 255 ((c .before .before .before .before .before .before .before .before .before .before .before .before .before .before .before .before .before .before .before .before .before .before .before .good) .1 .1 .1 .1 .1 .0 .1 .1 .1 .0 .1 .0 .1))
 
