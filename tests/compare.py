@@ -7,6 +7,7 @@ Each worker has a seed of its own, which is printed, and prints each
 difference with the card in hexadecimal; where a batch differs, its cards are run again one by one, so that every difference is shown.
 """
 
+import collections
 import multiprocessing
 import random
 import sys
@@ -27,13 +28,17 @@ CARDS = 20000
 BATCH = 250
 ROWS_A_CARD = 40    # rows of a file, at most
 
+# What must come up among as many cards as CARDS: answers to calls of both runners, and empty rows of files.
+IN_FILE = "empty in a file"
+ANSWERS = ("ok", "empty ok", "empty start", "empty 22", IN_FILE, 20, 21, 22, 23, 25)
+
 
 class Tally(NamedTuple):
     """What was compared: cards, rows, differences; and how often each answer of a row was given."""
     cards: int
     rows: int
     wrong: int
-    answers: dict
+    answers: collections.Counter
 
 
 # Random cases
@@ -49,37 +54,34 @@ def random_entry(rng, state):
     return field, at, rng.choice((0, 1, 500, 999, 1000, 1001, 2000, 65535, rng.randrange(3001)))
 
 
-def call_both(rng, cases, tally):
+def call_both(rng, cases, answers):
     """Row calls of both runners, from the fresh state on; towards the end some with states that were tampered with."""
-    signals = cases.flat.signals
-    subnets = len(cases.parts.parts)
-    last = signals * (0,)
+    if rng.randrange(4) == 0:
+        for signal, degree in enumerate(samples.some_up(rng, cases.flat.signals)):
+            cases.set(row_calls.DEGREE, signal, degree)
     for turn in range(4):
+        last = cases.lent[0].view().degrees
         if turn == 3 and rng.randrange(3) == 0:
             cases.set(*random_entry(rng, cases.lent[0].used()))
-        row = random_input.rising_row(rng, last) if turn and rng.randrange(2) else random_input.row(rng, signals)
-        replies = cases.call(random_input.order(rng, subnets), row)
-        last = row if len(row) == signals and max(row) <= 1000 else last
-        for reply in replies:
-            key = "ok" if reply == ("ok",) else reply[1]
-            tally[key] = tally.get(key, 0) + 1
+        row = random_input.next_row(rng, last)
+        before = [lent.view() for lent in cases.lent]
+        replies = cases.call(random_input.order(rng, len(cases.parts.parts)), row)
+        answers.update(row_calls.named(row, reply, old, lent.view()) for reply, old, lent in zip(replies, before, cases.lent))
     return 4
 
 
 def rows_file(rng, signals):
-    """Rows that rise and fall, now and then with a degree above 1000 or a fill bit; the last may be short."""
+    """Rows that rise and fall, now and then empty or with a degree above 1000 or a fill bit; the last may be short."""
     last = signals * (0,)
     rows = []
     for _ in range(rng.randint(1, ROWS_A_CARD)):
         row = random_input.rising_row(rng, last) if rng.randrange(4) else samples.random_row(rng, signals)
         if rng.randrange(20) == 0:
             row = random_input.too_high(rng, row, (1001, 1023))
-        rows.append(bytearray(cards.encode_row(row)))
-        last = tuple(min(1000, degree) for degree in row)
-    if rng.randrange(4) == 0:
-        rows[rng.randrange(len(rows))][-1] |= 1
-    data = b"".join(rows)
-    return data[:-1] if rng.randrange(6) == 0 else data
+        rows.append(samples.random_file_row(rng, signals, row))
+        if max(rows[-1]) <= 1000:
+            last = rows[-1]
+    return samples.torn_file(rng, rows)
 
 
 def random_cases(rng, answers):
@@ -92,9 +94,12 @@ def random_cases(rng, answers):
         cases.rows(b"\0\0")
         return cases, 2
     calls = call_both(rng, cases, answers) if rng.randrange(2) else 0
-    data = rows_file(rng, cases.flat.signals)
+    signals = cases.flat.signals
+    data = rows_file(rng, signals)
     cases.rows(data)
-    return cases, calls + len(net.split_rows(data, cases.flat.signals))
+    rows = net.split_rows(data, signals)
+    answers[IN_FILE] += rows.count(cards.encode_row(cards.empty_row(signals)))
+    return cases, calls + len(rows)
 
 
 # The programs
@@ -140,7 +145,7 @@ def work(job):
     """One worker's part."""
     seed, count = job
     rng = random.Random(seed)
-    answers = {}
+    answers = collections.Counter()
     rows = wrong = done = 0
     while done < count:
         batch = []
@@ -165,8 +170,8 @@ def long_inputs():
     wrong = 0
     for data in (b"", bench + bytes(40000), longest + bytes(40000), longest + b"\1" + bytes(40000), bytes(70000), longest):
         wrong += compare_programs(data, cards.encode_row((1000,)))
-    rows = b"".join(cards.encode_row((1000 * (i % 2), 500 * (i % 3))) for i in range(30000))
-    wrong += compare_programs(bench, rows + b"\0")
+    rows = [cards.empty_row(2) if i % 7 == 0 else (1000 * (i % 2), 500 * (i % 3)) for i in range(30000)]
+    wrong += compare_programs(bench, cards.encode_rows(rows) + b"\0")
     return wrong
 
 
@@ -180,15 +185,15 @@ def main():
     with multiprocessing.Pool(WORKERS) as pool:
         tallies = pool.map(work, jobs)
     wrong = sum(tally.wrong for tally in tallies) + long_inputs()
-    answers = {}
-    for tally in tallies:
-        for key, times in tally.answers.items():
-            answers[key] = answers.get(key, 0) + times
+    answers = sum((tally.answers for tally in tallies), collections.Counter())
     tested = sum(tally.cards for tally in tallies)
-    print(f"{tested} cards, {sum(tally.rows for tally in tallies)} rows; calls of both runners: "
+    missing = [answer for answer in ANSWERS if tested >= CARDS and not answers[answer]]
+    for answer in missing:
+        print(f"never came up: {answer}")
+    print(f"{tested} cards, {sum(tally.rows for tally in tallies)} rows; among them "
           + ", ".join(f"{key} {times}" for key, times in sorted(answers.items(), key=str)))
-    print(f"{tested - wrong} passed, {wrong} failed")
-    sys.exit(1 if wrong else 0)
+    print(f"{tested - wrong} passed, {wrong + len(missing)} failed")
+    sys.exit(1 if wrong or missing else 0)
 
 
 if __name__ == "__main__":

@@ -16,8 +16,11 @@ from paths import root
 
 import cards
 import make_card_cases
+import make_row_cases
 import net
+import random_input
 import report
+import row_calls
 import samples
 
 SIZES = {"most_subnets": 3, "most_rows": 3, "most_signals": 3}
@@ -26,7 +29,7 @@ PROVED = ("log", "rlib", "stamp")
 
 # How many cases of each outcome.
 CARDS = {"accepted": 12, **{number: 2 for number in range(1, 17)}}
-CALLS = {"ok": 12, 20: 3, 21: 3, 22: 6, 23: 3, 25: 8}
+CALLS = {"ok": 12, "empty ok": 4, "empty start": 4, "empty 22": 2, 20: 3, 21: 3, 22: 6, 23: 3, 25: 8}
 TABLES = {"wrote": 3, 17: 6, 24: 3, **{number: 1 for number in (2, 3, 4, 5, 7, 8, 10, 12, 14)}}
 TRIES = 100000
 
@@ -93,7 +96,13 @@ def programs(data, rows):
 
 def telling_cases():
     return [statement for _, card, rows in samples.telling_cards()
-            for statement in programs(cards.encode(card), cards.encode_rows(rows))]
+            for statement in programs(cards.encode(card), samples.file_bytes(rows, card.signals))]
+
+
+def empty_cases():
+    """Rows files of bench card A, of empty rows and rows that are nearly so."""
+    card = cards.encode(samples.bench_card())
+    return [statement for data, _ in make_row_cases.empty_files() for statement in programs(card, data)[-1:]]
 
 
 def card_case(rng):
@@ -105,11 +114,11 @@ def card_case(rng):
 
 
 def reached(rng, loaded, row_count):
-    """A state that a few rows reach."""
+    """A state that a few rows reach; in one of four, other signals are up in it."""
     s = net.fresh(loaded)
     for _ in range(row_count):
         s = net.row_step(loaded, s, samples.random_row(rng, loaded.signals))[1]
-    return s
+    return s._replace(degrees=samples.some_up(rng, loaded.signals)) if rng.randrange(4) == 0 else s
 
 
 def spoiled(rng, s):
@@ -134,7 +143,7 @@ def call_case(rng):
     order = rng.sample(range(len(parts.parts)), len(parts.parts))
     if rng.randrange(4) == 0:
         order[rng.randrange(len(order))] = rng.randrange(len(order) + 1)
-    row = samples.random_row(rng, loaded.signals + (rng.randrange(6) == 0))
+    row = random_input.next_row(rng, s.degrees)
     if right and net.state_valid(loaded, s):
         flat, after = net.row_call(data, s, row)
         sub, sub_after = net.subnet_row_call(data, net.split_state(parts, s), order, row)
@@ -142,8 +151,7 @@ def call_case(rng):
     else:
         flat, after, sub, sub_after = ("refused", 25), s, ("refused", 25), s
     l = lent(s, counts)
-    key = "ok" if sub == ("ok",) else sub[1]
-    return key, [
+    return row_calls.named(row, sub, s, sub_after), [
         f"flatCall {bytes_(data)} ({l}) {bytes_(row)} ≡ ({row_outcome(flat)}, {lent(after, counts)})",
         f"subnetCall {bytes_(data)} {bytes_(order)} ({l}) {bytes_(row)}"
         f" ≡ ({row_outcome(sub)}, {lent(sub_after, counts)})",
@@ -236,8 +244,9 @@ def main():
     seed = int(sys.argv[1]) if len(sys.argv) > 1 else 1
     print(f"seed {seed}", flush=True)
     rng = random.Random(seed)
-    statements = telling_cases() + [s for make, wanted in ((card_case, CARDS), (call_case, CALLS), (write_case, TABLES))
-                                    for s in sample(rng, make, wanted)]
+    statements = telling_cases() + empty_cases()
+    for make, wanted in ((card_case, CARDS), (call_case, CALLS), (write_case, TABLES)):
+        statements += sample(rng, make, wanted)
     with tempfile.TemporaryDirectory() as folder:
         copied(pathlib.Path(folder), statements)
         run = subprocess.run(["rt", "check", "computed"], cwd=folder, capture_output=True, text=True)

@@ -205,7 +205,7 @@ def in_turn(rng):
         fresh = net.State((1000, 0, 0), (None, None), (0, 0))
         states = [fresh, fresh._replace(markings=(1000, 0)), fresh._replace(markings=256 * (0,)), fresh._replace(degrees=64 * (0,)),
                   fresh._replace(markings=(1001, 0, 0)), fresh._replace(markings=(999, 0, 0), progress=(0, None))]
-        for state, order, row in itertools.product(states, ([0], [1], []), ((500, 500), (500, 1001), (1001,), (1, 2, 3), (500, 0))):
+        for state, order, row in itertools.product(states, ([0], [1], []), ((500, 500), (500, 1001), (1001,), (1, 2, 3), (500, 0), ())):
             yield from card.rows(state, order, row)
         yield from (card.flatten(room) for room in (0, 26, 300))
         yield from (card.fresh(places, 2, 2) for places in (0, 2, 3, 256))
@@ -292,8 +292,8 @@ def states(rng):
         card = Card(data, rng)
         state = card.state
         for row in run:
-            for other in entries(card, state):
-                yield from card.rows(other, rng.sample(card.order, len(card.order)), row)
+            for other, given in itertools.product(entries(card, state), (row, ())):
+                yield from card.rows(other, rng.sample(card.order, len(card.order)), given)
             call, _, state = card.flat_row(state, row)
             yield call
 
@@ -322,6 +322,7 @@ def high_degrees(rng):
             for degree in (1001, 1024, 65535):
                 row = [1000] * signal + [degree] + [rng.choice((0, 65535)) for _ in range(signals - signal - 1)]
                 yield from card.rows(card.state, card.order, row)
+        yield from card.rows(card.state, card.order, cards.empty_row(signals))
 
 
 def conflicts(rng):
@@ -340,7 +341,15 @@ def conflicts(rng):
             yield call
 
 
-FIXED = (refusals, in_turn, lengths, states, orders, high_degrees, conflicts)
+def empty_rows(rng):
+    """An empty row for transitions that are all idle, with each selection of signals up."""
+    nets = samples.bench_card(), make_row_cases.TAKERS, make_row_cases.three(2, 1), make_row_cases.three(2, 2), make_row_cases.FILLERS
+    for card in (Card(cards.encode(tables), rng) for tables in nets):
+        for degrees in itertools.product((0, 1, 1000), repeat=2):
+            yield from card.rows(card.state._replace(degrees=degrees), card.order, ())
+
+
+FIXED = (refusals, in_turn, lengths, states, orders, high_degrees, conflicts, empty_rows)
 
 
 # Random cards
@@ -376,16 +385,15 @@ def random_marking(rng, card, state, at):
     return rng.choice((max(edge, 0), max(edge, 0), rng.randrange(most + 1), rng.randrange(1 << 32), (1 << 32) - 1))
 
 
-def random_row(rng, signals, last):
-    return random_input.rising_row(rng, last) if rng.randrange(2) else random_input.row(rng, signals)
-
-
 def random_rows(rng, card):
-    """Row calls of both runners on one state, from the fresh one on; some on a state that was tampered with."""
+    """Row calls of both runners on one state, from the fresh one on, with some signals up in one of four; some on a state that was tampered
+    with."""
     state = card.state
+    if rng.randrange(4) == 0:
+        state = state._replace(degrees=samples.some_up(rng, card.flat.signals))
     for _ in range(ROWS_A_CARD):
         given = tampered(rng, card, state) if rng.randrange(4) == 0 else state
-        row = random_row(rng, card.flat.signals, state.degrees)
+        row = random_input.next_row(rng, state.degrees)
         order = random_input.order(rng, len(card.order))
         flat, reply, after = card.flat_row(given, row)
         subnets, other, after_subnets = card.subnet_row(given, order, row)

@@ -10,7 +10,7 @@ import programs
 import report
 import samples
 from cards import DRAW, FILL
-from make_row_cases import BENCH_LINES, BENCH_ROWS, FILLERS, LOOP, TAKERS, three
+from make_row_cases import BENCH_LINES, BENCH_ROWS, FILLERS, LOOP, TAKERS, empty_files, three
 
 BENCH = cards.encode(samples.bench_card())
 
@@ -30,7 +30,7 @@ REFUSED = [
     ("place (1,0) made normal", cards.with_field(BENCH, 141, 2, 0), "no 10 93"),
 ]
 
-# Cards that are run: the rows, and the lines.
+# Cards that are run: the rows, with () for an empty one, and the lines.
 RUN = [
     ("bench card A", samples.bench_card(), BENCH_ROWS, BENCH_LINES.decode()),
     ("card B, both at once", TAKERS, [(500, 500)], "1 no 22 0\n"),
@@ -46,6 +46,11 @@ RUN = [
      "6 ok 0 400 1600 | 600 -\n"),
     ("a refused row does not end the run, and its degrees are not stored", TAKERS, [(500, 500), (1001, 0), (500, 0)],
      "1 no 22 0\n2 no 21 0\n3 ok 500 500 0 | 500 -\n"),
+    ("a transition starts in an empty row and moves by the next rise", FED, [(1000, 600), (), (), (0, 900), (), (0, 1000)],
+     "1 ok 1000 0 1000 | - -\n2 ok 1000 0 1000 | - 0\n3 ok 1000 0 1000 | - 0\n4 ok 700 300 1000 | - 300\n5 ok 700 300 1000 | - 300\n"
+     "6 ok 600 400 1000 | - 400\n"),
+    ("empty rows move nothing, and a rise is from the last degrees", samples.bench_card(), [(), (400, 0), (), (), (700, 0)],
+     "1 ok 1000 0 0 | - -\n2 ok 600 400 0 | 400 -\n3 ok 600 400 0 | 400 -\n4 ok 600 400 0 | 400 -\n5 ok 300 700 0 | 700 -\n"),
 ]
 
 
@@ -58,7 +63,9 @@ def tests():
         if data is not None:
             yield f"flatten, {name}", programs.flatten(data), expected
     for name, card, given, text in RUN:
-        yield f"run, {name}", programs.run(cards.encode(card), cards.encode_rows(given)), text.encode()
+        yield f"run, {name}", programs.run(cards.encode(card), samples.file_bytes(given, card.signals)), text.encode()
+    for data, text in empty_files():
+        yield f"run, empty rows {data.hex()}", programs.run(BENCH, data), text
     yield "run, no rows", programs.run(BENCH, b""), b""
     yield "run, a short row", programs.run(BENCH, rows[:2]), b"1 no 20\n"
     yield "run, a short last row", programs.run(BENCH, rows[:5]), b"1 ok 600 400 0 | 400 -\n2 no 20\n"

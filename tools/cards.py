@@ -12,6 +12,7 @@ DRAW, FILL = range(2)                   # directions of arcs
 
 VERSION_BITS = 4
 DEGREE_BITS = 10
+EMPTY_MARK = (1 << DEGREE_BITS) - 1     # each degree of an empty row in a rows file
 
 
 # Tables: what a card says, row by row
@@ -180,8 +181,15 @@ def encode(card):
     return pack("".join(digits))
 
 
+def empty_row(signals):
+    """The degrees that stand in a rows file for an empty row: each signal stands at its last degree."""
+    return signals * (EMPTY_MARK,)
+
+
 def encode_row(degrees):
     """The bytes of a row: each degree in 10 bits, zeros to the byte."""
+    if not degrees:
+        raise ValueError("a row of no degrees has no bytes; empty_row gives the degrees that stand for it")
     if not all(0 <= degree < 1 << DEGREE_BITS for degree in degrees):
         raise ValueError(f"row {tuple(degrees)}: a degree does not fit in {DEGREE_BITS} bits")
     return pack("".join(format(degree, f"0{DEGREE_BITS}b") for degree in degrees))

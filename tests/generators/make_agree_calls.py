@@ -15,41 +15,48 @@ from paths import root
 folder = root / "crates" / "agree"
 
 CALLS = 60
-SEED = 146     # 8 subnets; most rows are taken, and each refusal of a row is there
+SEED = 10      # 16 subnets; most rows are taken, and each answer of TOLD is there
+TOLD = {"ok", "empty ok", "empty start", 20, 21, 22}
 
 
-def row_bytes(rng, row):
+def row_bytes(rng, signals):
     """A row's bytes, now and then with a nonzero fill bit."""
-    data = bytearray(cards.encode_row(row))
+    data = bytearray(cards.encode_row(samples.random_file_row(rng, signals, samples.random_row(rng, signals))))
     if rng.randrange(12) == 0:
         data[-1] |= 1
     return bytes(data)
 
 
+def answered(cases, order, chunk):
+    """The answer of both runners to a row's bytes. Bytes that are no row are 20 without a call: as a list of no degrees they would be a
+    empty row."""
+    row = net.read_row(chunk, cases.flat.signals)
+    if row is None:
+        return 20
+    before = cases.lent[0].view()
+    flat, subnet = cases.call(order, row)
+    after = cases.lent[0].view()
+    assert flat == subnet and after == cases.lent[1].view(), (order, chunk)
+    return row_calls.named(row, flat, before, after)
+
+
 def made(seed):
-    """A card's bytes, its calls, and the replies to them."""
+    """A card's bytes, its calls, and the answers to them."""
     rng = random.Random(seed)
     data = cards.encode(hierarchies.random_family(rng))
     cases = row_calls.Cases(data)
     order = list(range(len(cases.parts.parts)))
-    calls, replies = [], []
+    calls, answers = [], []
     for _ in range(CALLS):
         rng.shuffle(order)
-        chunk = row_bytes(rng, samples.random_row(rng, cases.flat.signals))
+        chunk = row_bytes(rng, cases.flat.signals)
         calls.append(chunk + bytes(order))
-        flat, subnet = cases.call(order, net.read_row(chunk, cases.flat.signals) or ())
-        assert flat == subnet and cases.lent[0].view() == cases.lent[1].view(), (order, chunk)
-        replies.append(flat)
-    return data, calls, replies
-
-
-def telling(replies):
-    """Rows that are taken, and rows that are refused for each reason."""
-    return {reply[1] for reply in replies if reply[0] == "refused"} == {20, 21, 22} and ("ok",) in replies
+        answers.append(answered(cases, order, chunk))
+    return data, calls, answers
 
 
 def files():
     """The files' contents by name. The last call is not all there, so it is none."""
-    data, calls, replies = made(SEED)
-    assert telling(replies)
+    data, calls, answers = made(SEED)
+    assert TOLD <= set(answers), TOLD - set(answers)
     return {"data/net.card": data, "stdin": b"".join(calls) + calls[0][:-1], "stdout": b"yes\n"}

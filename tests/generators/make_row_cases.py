@@ -53,11 +53,16 @@ def orders(cases):
 def run(card, rows, replies):
     """Both runners on rows, with the replies that they must give."""
     cases = of(card)
+    further(cases, rows, replies)
+    return cases
+
+
+def further(cases, rows, replies):
+    """More rows for both runners."""
     order = orders(cases)
     for row, reply in zip(rows, replies, strict=True):
         order = order[1:] + order[:1]
         assert cases.call(order, row) == [reply, reply], (row, reply)
-    return cases
 
 
 def paper():
@@ -87,7 +92,7 @@ def telling():
         cases = of(card)
         for row in rows:
             cases.call(orders(cases), row)
-        cases.rows(cards.encode_rows(rows))
+        cases.rows(samples.file_bytes(rows, card.signals))
         yield cases
 
 
@@ -182,11 +187,69 @@ def ordered():
 def rows():
     """20 and 21."""
     cases = of(samples.bench_card())
-    for row, reply in [((), 20), ((1,), 20), ((1, 2, 3), 20), ((2000, 2, 3), 20), (200 * (0,), 20), ((1001, 0), 21), ((65535, 1001), 21),
-                       ((1000, 65535), 21)]:
+    for row, reply in [((1,), 20), ((1, 2, 3), 20), ((2000, 2, 3), 20), (200 * (0,), 20), ((1023,), 20), (3 * (1023,), 20), ((1001, 0), 21),
+                       ((65535, 1001), 21), ((1000, 65535), 21), ((1023, 1023), 21)]:
         answers = cases.call([0, 1], row)
         assert [answer[1] for answer in answers] == [reply, reply], row
     yield cases
+
+
+def empty_files():
+    """Rows files of bench card A with empty rows and rows that are nearly so, and the lines for each."""
+    empty = cards.encode_row(cards.empty_row(2))
+    filled, short = empty[:2] + bytes([empty[2] | 1]), empty[:2]
+    up = cards.encode_row((1000, 500))
+    fresh, full, started = "ok 1000 0 0 | - -", "ok 0 1000 0 | - -", "ok 0 1000 0 | - 0"
+    nearly = cards.encode_rows([(1023, 1022), (1000, 1023), (0, 1023), (1023, 500)])
+    files = [
+        (empty, [fresh]),
+        (up + empty + empty, [full, started, started]),
+        (up + filled + empty + short, [full, "no 20", started, "no 20"]),
+        (filled + short, ["no 20", "no 20"]),
+        (up + nearly + empty, [full, "no 21 0", "no 21 1", "no 21 1", "no 21 0", started]),
+    ]
+    return [(data, b"".join(row_calls.line(number, text) for number, text in enumerate(texts, start=1))) for data, texts in files]
+
+
+def empty_rows():
+    """Empty rows, in calls and in files."""
+    ok, high = ("ok",), ("refused", 21, 0)
+    bench = run(samples.bench_card(), [(), (1000, 500), (1023, 1023), (), (1000, 900), (), (1000, 1000)], [ok, ok, high, ok, ok, ok, ok])
+    assert bench.lent[0].view() == net.State((0, 500, 500), (None, 500), (1000, 1000))
+    for data, lines in empty_files():
+        bench.rows(data)
+        assert bench.lines[-1] == lines, lines
+    yield bench
+    yield empty_conflict()
+    yield empty_lent()
+    # The most signals, and as many as leave no fill bits.
+    for signals in (63, 60):
+        cases = run(samples.one_subnet(signals, [(1, 1), (1, 0)], [(signals - 1, [(DRAW, 0, 1), (FILL, 1, 1)])]),
+                    [(), signals * (400,), (), cards.empty_row(signals), signals * (700,)], [ok, ok, ok, high, ok])
+        cases.rows(samples.file_bytes([(), signals * (400,), (), signals * (700,)], signals))
+        yield cases
+
+
+def empty_conflict():
+    """Card B, lent with both degrees up: an empty row is a conflict that changes nothing, until one of the degrees is down."""
+    cases = of(TAKERS)
+    for signal in (0, 1):
+        cases.set(row_calls.DEGREE, signal, 500)
+    further(cases, [(), (), (500, 0), ()], 2 * [("refused", 22, 0)] + 2 * [("ok",)])
+    assert cases.lent[0].view() == net.State((1000, 0, 0), (0, None), (500, 0))
+    return cases
+
+
+def empty_lent():
+    """The state and the order come before an empty row."""
+    cases = run(samples.bench_card(), [(400, 0)], [("ok",)])
+    assert cases.call([1, 1], ()) == [("ok",), ("refused", 23)]
+    cases.set(row_calls.DEGREE, 1, 1001)
+    assert cases.call([1, 1], ()) == 2 * [("refused", 25)]
+    cases.set(row_calls.DEGREE, 1, 1000)
+    further(cases, [(), (700, 1000), ()], 3 * [("ok",)])
+    assert cases.lent[0].view() == net.State((300, 700, 0), (700, None), (700, 1000))
+    return cases
 
 
 def random_cases(rng):
@@ -197,14 +260,14 @@ def random_cases(rng):
         order = orders(cases)
         for _ in range(6):
             rng.shuffle(order)
-            cases.call(order, samples.random_row(rng, cases.flat.signals))
+            cases.call(order, samples.empty_or(rng, samples.random_row(rng, cases.flat.signals)))
         cases.flatten(len(cases.data))
         yield cases
 
 
 def made():
     rng = random.Random(1)
-    return [*paper(), *telling(), *flattened(), *lent(), *full(), *ordered(), *rows(), *random_cases(rng)]
+    return [*paper(), *telling(), *flattened(), *lent(), *full(), *ordered(), *rows(), *empty_rows(), *random_cases(rng)]
 
 
 def files():

@@ -47,6 +47,14 @@ def too_high(rng, row, degrees):
 
 
 def row(rng, signals):
+    """A row of a call; some of another length, or with degrees above 1000, all of them the mark of a file's empty row among them."""
     kind = rng.randrange(12)
-    row = samples.random_row(rng, signals + (kind == 0) - (kind == 1))
-    return too_high(rng, row, (1001, 1023, 65535)) if kind == 2 else row
+    if kind == 0:
+        return cards.empty_row(signals)
+    row = samples.random_row(rng, signals + (kind == 1) - (kind == 2))
+    return too_high(rng, row, (1001, 1023, 65535)) if kind == 3 else row
+
+
+def next_row(rng, last):
+    """A row of a call after these degrees: empty in one of six, rising in half of the others."""
+    return samples.empty_or(rng, rising_row(rng, last) if rng.randrange(2) else row(rng, len(last)))

@@ -26,6 +26,14 @@ def line(*words):
     return " ".join(map(str, words)).encode() + b"\n"
 
 
+def named(row, reply, before, after):
+    """How an answer is counted: ok or the refusal's number; for an empty row that is stepped: empty ok, empty start or empty 22."""
+    answer = "ok" if reply[0] == "ok" else reply[1]
+    if row or answer not in ("ok", 22):
+        return answer
+    return f"empty {answer}" if before == after else "empty start"
+
+
 class Lent:
     """A lent state: arrays of the most entries there can be, and how many are in use."""
 

@@ -2,7 +2,7 @@
 
 from dataclasses import replace
 
-from cards import DRAW, FILL, IN_OUT, NORMAL, change, encode, encode_row, fits, tables, widths
+from cards import DRAW, FILL, IN_OUT, NORMAL, change, empty_row, encode, encode_row, encode_rows, fits, tables, widths
 from net import MOST
 
 # The directions that a parent may use at a place, by kind.
@@ -185,13 +185,52 @@ def random_row(rng, signals):
     return tuple(rng.choice((0, 250, 500, 1000, rng.randint(0, 1001))) for _ in range(signals))
 
 
-def random_rows(rng, signals, most):
-    """A rows file of a few rows, some of them with a nonzero fill bit or cut short."""
-    rows = [bytearray(encode_row(random_row(rng, signals))) for _ in range(rng.randint(1, most))]
+def some_up(rng, signals):
+    """Last degrees with some signals up, so that an empty row starts transitions more often."""
+    return tuple(rng.choice((0, 500, 1000)) for _ in range(signals))
+
+
+def empty_or(rng, row):
+    """An empty row in one of six cases, and otherwise this one."""
+    return () if rng.randrange(6) == 0 else row
+
+
+def in_file(row, signals):
+    """A row's degrees as they stand in a rows file."""
+    return row or empty_row(signals)
+
+
+def file_bytes(rows, signals):
+    """The bytes of a rows file with these rows, an empty one where there are no degrees."""
+    return encode_rows(in_file(row, signals) for row in rows)
+
+
+def nearly_empty(rng, signals):
+    """An empty row's degrees in a rows file, but for one."""
+    row = list(empty_row(signals))
+    row[rng.randrange(signals)] = rng.choice((0, 500, 1000, 1001, 1022))
+    return tuple(row)
+
+
+def random_file_row(rng, signals, row):
+    """This row as it stands in a rows file; now and then an empty one, or nearly so, in its place."""
+    if rng.randrange(16) == 0:
+        return nearly_empty(rng, signals)
+    return in_file(empty_or(rng, row), signals)
+
+
+def torn_file(rng, rows):
+    """The bytes of a rows file, now and then with a nonzero fill bit or cut short."""
+    rows = [bytearray(encode_row(row)) for row in rows]
     if rng.randrange(4) == 0:
         rows[rng.randrange(len(rows))][-1] |= 1
     data = b"".join(rows)
     return data[:-1] if rng.randrange(6) == 0 else data
+
+
+def random_rows(rng, signals, most):
+    """A rows file of a few rows, some of them empty, damaged or cut short."""
+    return torn_file(rng, [random_file_row(rng, signals, random_row(rng, signals)) for _ in range(rng.randint(1, most))])
 
 
 def any_card(rng, **sizes):
@@ -250,6 +289,9 @@ def telling_cards():
     takers = one_subnet(2, [(1, 1), (1, 0), (1, 0)],
                         [(signal, [(DRAW, 0, 1), (FILL, signal + 1, 1)]) for signal in (0, 1)])
     one = one_subnet(1, [(1, 1), (1, 0)], [(0, [(DRAW, 0, 1), (FILL, 1, 1)])])
+    # One token comes to place 1, and two takers of it wait there.
+    waiting = one_subnet(3, [(1, 1), (1, 0), (1, 0), (1, 0)],
+                         [(0, [(DRAW, 0, 1), (FILL, 1, 1)]), (1, [(DRAW, 1, 1), (FILL, 2, 1)]), (2, [(DRAW, 1, 1), (FILL, 3, 1)])])
     grandchild = tables(1, (0, 0, [(NORMAL, 1, 0)], [(0, [(DRAW, 0, 0, 1), (FILL, 2, 0, 1)])]),
                         (0, 0, [(3, 1, 0)], [(0, [(DRAW, 1, 0, 1)])]),
                         (1, 0, [(3, 1, 0)], [(0, [(DRAW, 2, 0, 1)])]))
@@ -259,6 +301,9 @@ def telling_cards():
         ("a refused row's degrees are not stored", takers, [(500, 500), (500, 0), (900, 0)]),
         ("degrees do not add up past 1000", one, [(600,), (0,), (600,), (0,), (100,)]),
         ("a signal at 1000 moves nothing until it falls and rises", one, [(1000,), (1000,), (0,)]),
+        ("a transition starts in an empty row", bench_card(), [(), (1000, 500), (), (), (1000, 900), ()]),
+        ("an empty row moves nothing and keeps the degrees", bench_card(), [(400, 0), (), (300, 0), (), (700, 0)]),
+        ("a conflict in an empty row", waiting, [(1000, 600, 600), (), (1000, 0, 600), (), (0, 600, 900)]),
         ("weight up to the capacity", bench_card((FILL, 1, 0, 1)), [(1000, 1000)]),
         ("weight past the capacity", bench_card((FILL, 1, 0, 2)), []),
         ("the k-th children of both", twins((3, 4), (5, 6)), [(700,)]),

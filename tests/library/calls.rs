@@ -86,6 +86,17 @@ impl Tests {
         }
     }
 
+    /// A row of no degrees starts what may start, moves nothing, and leaves the degrees.
+    fn empty_rows(&mut self, runner: &str, call: impl Fn(&mut State, &[u16]) -> Result<usize, Refusal>) {
+        let mut state = State { markings: vec![0, 1000, 0], transfers: vec![IDLE; 2], degrees: vec![1000, 500] };
+        let started = State { transfers: vec![IDLE, 0], ..state.clone() };
+        self.same(&format!("{runner}, an empty row"), (call(&mut state, &[]), &state), (Ok(0), &started));
+        self.same(&format!("{runner}, another"), (call(&mut state, &[]), &state), (Ok(0), &started));
+        let moved = State { markings: vec![0, 600, 400], transfers: vec![IDLE, 400], degrees: vec![1000, 900] };
+        self.same(&format!("{runner}, a row behind them"), (call(&mut state, &[1000, 900]), &state), (Ok(0), &moved));
+        self.same(&format!("{runner}, an empty row midway"), (call(&mut state, &[]), &state), (Ok(0), &moved));
+    }
+
     /// A call that is refused and leaves what it was lent.
     fn refused<L: Clone + std::fmt::Debug + PartialEq>(
         &mut self,
@@ -123,11 +134,15 @@ impl Tests {
         let full = State { markings: vec![1000, 0, 2001], ..fresh_bench() };
         self.refused("flat row, 28 bytes", fresh_bench(), |state| flat_row(cut, state, &[0, 0]), 1, 224);
         self.refused("flat row, a marking", full.clone(), |state| flat_row(&BENCH, state, &[0, 0]), 25, 0);
-        self.refused("flat row, no degrees", fresh_bench(), |state| flat_row(&BENCH, state, &[]), 20, 0);
+        self.refused("flat row, an empty row on a marking", full.clone(), |state| flat_row(&BENCH, state, &[]), 25, 0);
+        self.refused("flat row, one degree", fresh_bench(), |state| flat_row(&BENCH, state, &[0]), 20, 0);
+        self.refused("flat row, 1023", fresh_bench(), |state| flat_row(&BENCH, state, &[1023, 1023]), 21, 0);
         self.refused("subnet row, 28 bytes", fresh_bench(), |state| subnet_row(cut, state, &[0, 1], &[0, 0]), 1, 224);
         self.refused("subnet row, a marking", full, |state| subnet_row(&BENCH, state, &[0, 1], &[0, 0]), 25, 0);
         self.refused("subnet row, an order", fresh_bench(), |state| subnet_row(&BENCH, state, &[1, 1], &[0, 0]), 23, 0);
-        self.refused("subnet row, no degrees", fresh_bench(), |state| subnet_row(&BENCH, state, &[1, 0], &[]), 20, 0);
+        self.refused("subnet row, an empty row in an order", fresh_bench(), |state| subnet_row(&BENCH, state, &[1, 1], &[]), 23, 0);
+        self.refused("subnet row, one degree", fresh_bench(), |state| subnet_row(&BENCH, state, &[1, 0], &[0]), 20, 0);
+        self.refused("subnet row, 1023", fresh_bench(), |state| subnet_row(&BENCH, state, &[1, 0], &[1023, 1023]), 21, 0);
     }
 
     /// Tables to a card, to its counts, to the flat card, and that one again.
@@ -153,6 +168,8 @@ fn main() {
     tests.rows("flat rows", |state, row| flat_row(&BENCH, state, row));
     tests.rows("subnet rows, 0 1", |state, row| subnet_row(&BENCH, state, &[0, 1], row));
     tests.rows("subnet rows, 1 0", |state, row| subnet_row(&BENCH, state, &[1, 0], row));
+    tests.empty_rows("flat row", |state, row| flat_row(&BENCH, state, row));
+    tests.empty_rows("subnet row", |state, row| subnet_row(&BENCH, state, &[1, 0], row));
     tests.refusals();
     tests.round_trip();
     println!("{} passed, {} failed", tests.passed, tests.failed);

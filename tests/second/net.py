@@ -6,8 +6,8 @@ Comments name the paragraph of the paper that a function follows. The layout of 
 from itertools import accumulate
 from typing import NamedTuple
 
-from cards import (DEGREE_BITS, DRAW, FILL, IN, IN_OUT, NORMAL, OUT, VERSION_BITS, Arc, Card, Place, Subnet, Transition, encode, fits,
-                   widths)
+from cards import (DEGREE_BITS, DRAW, EMPTY_MARK, FILL, IN, IN_OUT, NORMAL, OUT, VERSION_BITS, Arc, Card, Place, Subnet, Transition, encode,
+                   fits, widths)
 
 THOUSAND = 1000
 MOST = 255
@@ -439,14 +439,24 @@ def degree_in_range(degree):
     return 0 <= degree <= THOUSAND
 
 
+def is_empty(row):
+    """A row with nothing in it: every signal stands at its last degree."""
+    return len(row) == 0
+
+
 def row_refusal(signals, row):
-    """20, then 21 with the lowest such signal; None if neither."""
-    if len(row) != signals:
+    """20, then 21 with the lowest such signal; None if neither, as for an empty row."""
+    if len(row) != signals and not is_empty(row):
         return ("refused", 20)
     for signal, degree in enumerate(row):
         if degree > THOUSAND:
             return ("refused", 21, signal)
     return None
+
+
+def new_degrees(row, last):
+    """The degrees that a row of neither 20 nor 21 gives, one for each signal."""
+    return last if is_empty(row) else row
 
 
 def is_candidate(net, state, transition, row, owed, due):
@@ -460,7 +470,7 @@ def is_candidate(net, state, transition, row, owed, due):
 
 
 def step(net, state, row):
-    """Steps 1 to 4 on a valid state and row. The reply, and the next state."""
+    """Steps 1 to 4 on a valid state and the new degrees. The reply, and the next state."""
     owed, due = claims(net, state.progress)
     candidates = [number for number, c in enumerate(state.progress) if c is None
                   and is_candidate(net, state, net.transitions[number], row, owed, due)]
@@ -491,7 +501,7 @@ def row_step(net, state, row):
     refusal = row_refusal(net.signals, row)
     if refusal is not None:
         return refusal, state
-    return step(net, state, row)
+    return step(net, state, new_degrees(row, state.degrees))
 
 
 def row_call(card_bytes, state, row):
@@ -708,7 +718,7 @@ def order_valid(net, order):
 
 
 def subnet_step(net, state, order, row):
-    """Three rounds of visits on a valid state, order and row. The reply, and the next state."""
+    """Three rounds of visits on a valid state and order and the new degrees. The reply, and the next state."""
     board = Board()
     markings = [list(owned) for owned in state.markings]
     progress = [list(own) for own in state.progress]
@@ -735,7 +745,7 @@ def subnet_row_step(net, state, order, row):
     refusal = row_refusal(net.signals, row)
     if refusal is not None:
         return refusal, state
-    return subnet_step(net, state, order, row)
+    return subnet_step(net, state, order, new_degrees(row, state.degrees))
 
 
 def subnet_row_call(card_bytes, state, order, row):
@@ -763,7 +773,7 @@ def split_rows(data, signals):
 
 
 def read_row(chunk, signals):
-    """The degrees of a row, or None if bytes are missing or a fill bit is not zero (20)."""
+    """The degrees of a row, none for an empty one; None if bytes are missing or a fill bit is not zero (20)."""
     length = row_length(signals)
     if len(chunk) != length:
         return None
@@ -772,8 +782,9 @@ def read_row(chunk, signals):
     if value & ((1 << fill) - 1):
         return None
     value >>= fill
-    return tuple(value >> DEGREE_BITS * (signals - 1 - signal) & ((1 << DEGREE_BITS) - 1)
-                 for signal in range(signals))
+    degrees = tuple(value >> DEGREE_BITS * (signals - 1 - signal) & ((1 << DEGREE_BITS) - 1)
+                    for signal in range(signals))
+    return () if all(degree == EMPTY_MARK for degree in degrees) else degrees
 
 
 def row_line(number, reply, state):

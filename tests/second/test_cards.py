@@ -63,3 +63,23 @@ class Misfits(unittest.TestCase):
     def test_row(self):
         with self.assertRaises(ValueError):
             cards.encode_row((0, 1024))
+
+    def test_row_of_no_degrees(self):
+        for row in ((), []):
+            with self.assertRaisesRegex(ValueError, "^a row of no degrees has no bytes; empty_row gives the degrees that stand for it$"):
+                cards.encode_rows([(1, 2), row])
+
+
+class EmptyRows(unittest.TestCase):
+    def test_bytes(self):
+        # Fill bits: 6, 4, none, 2.
+        self.assertEqual(cards.EMPTY_MARK, 1023)
+        self.assertEqual(cards.empty_row(3), (1023, 1023, 1023))
+        for signals, data in ((1, b"\xff\xc0"), (2, b"\xff\xff\xf0"), (4, 5 * b"\xff"), (63, 78 * b"\xff" + b"\xfc")):
+            self.assertEqual(cards.encode_row(cards.empty_row(signals)), data)
+            self.assertEqual(net.read_row(data, signals), ())
+
+    def test_among_others(self):
+        rows = [(400, 0), cards.empty_row(2), (700, 0)]
+        self.assertEqual(net.run_program(CARD_A, cards.encode_rows(rows)),
+                         b"1 ok 600 400 0 | 400 -\n2 ok 600 400 0 | 400 -\n3 ok 300 700 0 | 700 -\n")

@@ -8,7 +8,7 @@ import cards
 import net
 from cards import DRAW, FILL, IN, IN_OUT, NORMAL, OUT, Subnet, change, tables, with_field
 from net import State, SubnetState
-from samples import random_card, random_row
+from samples import empty_or, file_bytes, random_card, random_row
 
 
 def card_bytes(signals, *subnets):
@@ -71,6 +71,15 @@ LOOP = card_bytes(
       (1, [(DRAW, 0, 0, 1), (FILL, 0, 2, 1)])]),
 )
 
+# Transition 0 brings a token to place 1; transitions 1 and 2 are takers of it.
+WAITING = card_bytes(
+    3,
+    (0, 0, [(NORMAL, 1, 1), (NORMAL, 1, 0), (NORMAL, 1, 0), (NORMAL, 1, 0)],
+     [(0, [(DRAW, 0, 0, 1), (FILL, 0, 1, 1)]),
+      (1, [(DRAW, 0, 1, 1), (FILL, 0, 2, 1)]),
+      (2, [(DRAW, 0, 1, 1), (FILL, 0, 3, 1)])]),
+)
+
 
 def both_runners(data, rows, seed=1):
     """Replies and states of the flat runner, checked against those of the subnet runner."""
@@ -91,7 +100,8 @@ def both_runners(data, rows, seed=1):
 
 
 def run(data, rows):
-    return net.run_program(data, cards.encode_rows(rows)).decode()
+    """What the run program prints; a row of no degrees is an empty one of the file."""
+    return net.run_program(data, file_bytes(rows, net.load_flat(data).signals)).decode()
 
 
 class Cases(unittest.TestCase):
@@ -691,8 +701,8 @@ class Rows(unittest.TestCase):
         self.assertEqual(output, b"1 no 20\n2 no 20\n3 ok 600 400 0 | 400 -\n")
 
     def test_20_before_21(self):
-        self.assertEqual(net.run_program(CARD_A, b"\xff\xff\xff"), b"1 no 20\n")
-        self.assertEqual(net.run_program(CARD_A, b"\xff\xff\xf0"), b"1 no 21 0\n")
+        self.assertEqual(net.run_program(CARD_A, b"\xff\xff\xef"), b"1 no 20\n")
+        self.assertEqual(net.run_program(CARD_A, b"\xff\xff\xe0"), b"1 no 21 0\n")
 
     def test_20_short_last_row(self):
         good = cards.encode_row((400, 0))
@@ -754,20 +764,13 @@ class Steps(unittest.TestCase):
     def test_carrying_0_claims(self):
         # One token, both signals at 1000 before it comes; transition 1 starts with c = 0 and
         # its standing claims keep transition 2 from the token.
-        data = card_bytes(
-            3,
-            (0, 0, [(NORMAL, 1, 1), (NORMAL, 1, 0), (NORMAL, 1, 0), (NORMAL, 1, 0)],
-             [(0, [(DRAW, 0, 0, 1), (FILL, 0, 1, 1)]),
-              (1, [(DRAW, 0, 1, 1), (FILL, 0, 2, 1)]),
-              (2, [(DRAW, 0, 1, 1), (FILL, 0, 3, 1)])]),
-        )
         rows = [(1000, 1000, 0), (1000, 1000, 0), (1000, 1000, 500), (1000, 1000, 1000)]
-        self.assertEqual(run(data, rows),
+        self.assertEqual(run(WAITING, rows),
                          "1 ok 0 1000 0 0 | - - -\n"
                          "2 ok 0 1000 0 0 | - 0 -\n"
                          "3 ok 0 1000 0 0 | - 0 -\n"
                          "4 ok 0 1000 0 0 | - 0 -\n")
-        both_runners(data, rows)
+        both_runners(WAITING, rows)
 
     def test_weights(self):
         # 2 for each d from a place of 5 with 4 tokens; 3 for each d into a place of 7 with 1.
@@ -811,6 +814,103 @@ class Steps(unittest.TestCase):
         both_runners(data, [(700, 1), (0, 250), (500, 250)])
 
 
+class EmptyRows(unittest.TestCase):
+
+    def lent(self, data, state, reply, after):
+        """Both runners on a lent state and a row of no degrees."""
+        self.assertEqual(net.row_call(data, state, ()), (reply, after))
+        parts = net.load_subnets(data)
+        order = range(len(parts.parts))
+        self.assertEqual(net.subnet_row_call(data, net.split_state(parts, state), order, []),
+                         (reply, net.split_state(parts, after)))
+
+    def test_reading(self):
+        # Fill bits: 4, none, 6.
+        self.assertEqual(net.read_row(b"\xff\xff\xf0", 2), ())
+        self.assertEqual(net.read_row(5 * b"\xff", 4), ())
+        self.assertEqual(net.read_row(b"\xff\xc0", 1), ())
+        self.assertEqual(net.read_row(b"\xff\xff\xe0", 2), (1023, 1022))
+        self.assertEqual(net.read_row(b"\xff\xbf\xf0", 2), (1022, 1023))
+
+    def test_20_comes_first(self):
+        for chunk in (b"\xff\xff\xf1", b"\xff\xff\xf8", b"\xff\xff\xff", b"\xff\xff", b"\xff"):
+            self.assertIsNone(net.read_row(chunk, 2))
+            self.assertEqual(net.run_program(CARD_A, chunk), b"1 no 20\n")
+
+    def test_21_unless_all_are_1023(self):
+        self.assertEqual(run(CARD_A, [(1023, 1000), (1000, 1023), (1023, 1022), (1022, 1023), (0, 1023)]),
+                         "1 no 21 0\n2 no 21 1\n3 no 21 0\n4 no 21 0\n5 no 21 1\n")
+        self.assertEqual(run(WAITING, [(1023, 1023, 0), (5, 1023, 1023)]), "1 no 21 0\n2 no 21 1\n")
+        self.assertEqual(run(WAITING, [(1023, 1023, 1023)]), "1 ok 1000 0 0 0 | - - -\n")
+
+    def test_first_row(self):
+        self.assertEqual(net.run_program(CARD_A, b"\xff\xff\xf0"), b"1 ok 1000 0 0 | - -\n")
+        fresh = net.fresh(net.load_flat(CARD_A))
+        self.assertEqual(both_runners(CARD_A, [(), ()]), 2 * [(("ok",), fresh)])
+
+    def test_starts(self):
+        # The token is at place 1 only after row 1, and signal 1 is up by then.
+        rows = [(1000, 500), (), (), (1000, 900), (), (1000, 1000)]
+        self.assertEqual(run(CARD_A, rows),
+                         "1 ok 0 1000 0 | - -\n"
+                         "2 ok 0 1000 0 | - 0\n"
+                         "3 ok 0 1000 0 | - 0\n"
+                         "4 ok 0 600 400 | - 400\n"
+                         "5 ok 0 600 400 | - 400\n"
+                         "6 ok 0 500 500 | - 500\n")
+        results = both_runners(CARD_A, rows)
+        self.assertEqual(results[1], (("ok",), State((0, 1000, 0), (None, 0), (1000, 500))))
+        self.lent(CARD_A, results[0][1], *results[1])
+
+    def test_one_stands_and_another_starts(self):
+        # Two tokens less 300, of which 700 are owed: 1000 are left for the second taker.
+        before = State((1700, 300, 0), (300, None), (300, 500))
+        self.lent(takers(1), before, ("ok",), before._replace(progress=(300, 0)))
+
+    def test_degrees_stay(self):
+        # The rise of row 4 is 700 - 400, that of row 7 is 300 - 100.
+        rows = [(400, 0), (), (), (700, 0), (100, 0), (), (300, 0)]
+        self.assertEqual(run(CARD_A, rows),
+                         "1 ok 600 400 0 | 400 -\n"
+                         "2 ok 600 400 0 | 400 -\n"
+                         "3 ok 600 400 0 | 400 -\n"
+                         "4 ok 300 700 0 | 700 -\n"
+                         "5 ok 300 700 0 | 700 -\n"
+                         "6 ok 300 700 0 | 700 -\n"
+                         "7 ok 100 900 0 | 900 -\n")
+        degrees = [state.degrees for _, state in both_runners(CARD_A, rows)]
+        self.assertEqual(degrees, [(400, 0)] * 3 + [(700, 0)] + [(100, 0)] * 2 + [(300, 0)])
+
+    def test_last_accepted_degrees(self):
+        # Those of a refused row are not the last ones: nothing is up in row 2, and signal 0 stands at 100 in row 5.
+        rows = [(500, 500), (), (100, 0), (900, 1001), (), (300, 0)]
+        self.assertEqual(run(CARD_B, rows),
+                         "1 no 22 0\n"
+                         "2 ok 1000 0 0 | - -\n"
+                         "3 ok 900 100 0 | 100 -\n"
+                         "4 no 21 1\n"
+                         "5 ok 900 100 0 | 100 -\n"
+                         "6 ok 700 300 0 | 300 -\n")
+        both_runners(CARD_B, rows)
+
+    def test_22(self):
+        state = State((1000, 0, 0), (None, None), (500, 500))
+        self.lent(CARD_B, state, ("refused", 22, 0), state)
+        state = state._replace(degrees=(500, 0))
+        self.lent(CARD_B, state, ("ok",), state._replace(progress=(0, None)))
+
+    def test_22_in_a_run(self):
+        rows = [(1000, 600, 600), (), (), (1000, 0, 600), (), (0, 600, 900)]
+        self.assertEqual(run(WAITING, rows),
+                         "1 ok 0 1000 0 0 | - - -\n"
+                         "2 no 22 1\n"
+                         "3 no 22 1\n"
+                         "4 ok 0 1000 0 0 | - - 0\n"
+                         "5 ok 0 1000 0 0 | - - 0\n"
+                         "6 ok 0 700 0 300 | - - 300\n")
+        both_runners(WAITING, rows)
+
+
 class Calls(unittest.TestCase):
 
     def setUp(self):
@@ -836,10 +936,22 @@ class Calls(unittest.TestCase):
         self.calls(self.state, [0, 1], (1, 2, 1001), ("refused", 20), ("refused", 20))
         self.calls(self.state, [0, 1], (1001, 2000), ("refused", 21, 0), ("refused", 21, 0))
 
+    def test_order_of_tests_with_an_empty_row(self):
+        bad_state = self.state._replace(degrees=(0, 1001))
+        self.calls(bad_state, [0, 0], (), ("refused", 1, 224), ("refused", 1, 224), CARD_A[:28])
+        self.calls(bad_state, [0, 0], (), ("refused", 25), ("refused", 25))
+        self.assertEqual(net.row_call(CARD_A, self.state, ()), (("ok",), self.state))
+        for order in ([], [0, 0]):
+            self.assertEqual(net.subnet_row_call(CARD_A, self.subnet_state, order, ()),
+                             (("refused", 23), self.subnet_state))
+
     def test_20_and_21(self):
-        for row in ((), (1,), (1, 2, 3)):
+        for row in ((1,), (1, 2, 3), 64 * (0,), (1023,), (1023, 1023, 1023)):
             self.calls(self.state, [1, 0], row, ("refused", 20), ("refused", 20))
         self.calls(self.state, [1, 0], (1000, 1001), ("refused", 21, 1), ("refused", 21, 1))
+        # 1023 is for files.
+        self.calls(self.state, [1, 0], (1023, 1023), ("refused", 21, 0), ("refused", 21, 0))
+        self.calls(self.state, [1, 0], (0, 1023), ("refused", 21, 1), ("refused", 21, 1))
 
     def test_21_before_22(self):
         state = net.fresh(net.load_flat(CARD_B))
@@ -928,12 +1040,12 @@ class RandomCards(unittest.TestCase):
             self.assertEqual(net.check(flat),
                              ("accepted", 1, len(card.places), len(card.transitions)))
             self.assertEqual(net.flatten_program(flat), flat)
-            rows = [random_row(rng, card.signals) for _ in range(12)]
+            rows = [empty_or(rng, random_row(rng, card.signals)) for _ in range(12)]
             results = both_runners(data, rows, rng.random())
             self.assertEqual(results, both_runners(flat, rows))
             loaded = net.load_flat(data)
             for _, state in results:
                 self.assertTrue(net.state_valid(loaded, state))
-            self.assertEqual(net.run_program(data, cards.encode_rows(rows)),
+            self.assertEqual(net.run_program(data, file_bytes(rows, card.signals)),
                              "".join(net.row_line(number, *result) for number, result
                                      in enumerate(results, start=1)).encode())
