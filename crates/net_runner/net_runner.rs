@@ -157,6 +157,7 @@ pub fn fresh(card: &[u8], state: &mut State) -> Result<usize, Refusal> {
     answer(number, value)
 }
 
+/// A row of no degrees is an empty row: every signal stands at its last degree.
 pub fn flat_row(card: &[u8], state: &mut State, row: &[u16]) -> Result<usize, Refusal> {
     let mut value = usize::MAX;
     let number = unsafe {
@@ -177,6 +178,7 @@ pub fn flat_row(card: &[u8], state: &mut State, row: &[u16]) -> Result<usize, Re
     answer(number, value)
 }
 
+/// The same subnet by subnet, in an order that names each once.
 pub fn subnet_row(card: &[u8], state: &mut State, order: &[u16], row: &[u16]) -> Result<usize, Refusal> {
     let mut value = usize::MAX;
     let number = unsafe {
