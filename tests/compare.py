@@ -55,7 +55,8 @@ def random_entry(rng, state):
 
 
 def call_both(rng, cases, answers):
-    """Row calls of both runners, from the fresh state on; towards the end some with states that were tampered with."""
+    """Row calls of both runners, from the fresh state on, with some signals up in one of four; towards the end some with states that were tampered
+    with."""
     if rng.randrange(4) == 0:
         for signal, degree in enumerate(samples.some_up(rng, cases.flat.signals)):
             cases.set(row_calls.DEGREE, signal, degree)

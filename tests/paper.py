@@ -1,6 +1,6 @@
 #!/usr/bin/env python3
-"""The paper's cases of bench card A and the others, starred or not, as the programs print them. Each line here is the paper's own, or worked out
-from it by hand."""
+"""The paper's cases of bench card A and the others, starred or not, and cases of the requests, as the programs print them. Each line here is
+the paper's own, or worked out by hand from it or from a request."""
 
 import paths
 

@@ -55,8 +55,8 @@ uint64_t net_write(const uint16_t header[4], const uint16_t *subnets, size_t sub
 uint64_t net_fresh(const uint8_t *card, size_t card_bytes, uint32_t *markings, size_t places, uint16_t *transfers, size_t transitions,
                    uint16_t *degrees, size_t signals, size_t *value);
 
-/* 1 to 16, 25, 20, 21, 22: a row of degrees on the flat net. A row of no degrees, row_size 0, is an empty row: every signal stands at its last
- * degree. It is never 20 or 21. (Degrees of 1023 mark an empty row in a rows file; here they are 21.) */
+/* 1 to 16, 25, 20, 21, 22: a row of degrees on the flat net. A row of no degrees, row_size 0 (and row still not NULL), is an empty row: every
+ * signal stands at its last degree. It is never 20 or 21. (In a rows file an empty row has 1023 for each signal; here that is 21.) */
 uint64_t net_flat_row(const uint8_t *card, size_t card_bytes, uint32_t *markings, size_t places, uint16_t *transfers, size_t transitions,
                       uint16_t *degrees, size_t signals, const uint16_t *row, size_t row_size, size_t *value);
 

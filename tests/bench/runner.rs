@@ -75,8 +75,12 @@ impl Net {
         }
     }
 
-    /// A row from a valid state; false where it is refused.
+    /// A row from a valid state; false where it is refused. In an empty row every signal stands at its last degree.
     pub fn row(&self, state: &mut State, row: &[u16]) -> bool {
+        if row.is_empty() {
+            let last = state.degrees.clone();
+            return self.row(state, &last);
+        }
         if row.len() != self.signals || row.iter().any(|&d| d > 1000) {
             return false;
         }

@@ -28,8 +28,8 @@ def row_bytes(rng, signals):
 
 
 def answered(cases, order, chunk):
-    """The answer of both runners to a row's bytes. Bytes that are no row are 20 without a call: as a list of no degrees they would be a
-    empty row."""
+    """The answer of both runners to a row's bytes. Bytes that are no row are 20 without a call: as a list of no degrees they would be
+    an empty row, which is taken."""
     row = net.read_row(chunk, cases.flat.signals)
     if row is None:
         return 20

@@ -1,6 +1,6 @@
 """A second implementation of the bench net runner: cards, steps and two views.
 
-Comments name the paragraph of the paper that a function follows. The layout of a card, and how one is written, are in tools/cards.py.
+Comments name the paragraph of the paper, or the request, that a function follows. The layout of a card, and how one is written, are in tools/cards.py.
 """
 
 from itertools import accumulate
@@ -440,7 +440,7 @@ def degree_in_range(degree):
 
 
 def is_empty(row):
-    """A row with nothing in it: every signal stands at its last degree."""
+    """CR 1: a row with nothing in it, in which every signal stands at its last degree."""
     return len(row) == 0
 
 

@@ -270,14 +270,14 @@ module _ (card order : List ℕ) (k : Ask) (x y : Lent) (a b : RowAnswer) (ha : 
 few : (card : List ℕ) (c : Card) → judge card ≡ accepted c → c .signals ≤ 63
 few card c e = (accepted-meets card c e) .wellformed .fewSignals
 
-pub both-missing : (card order : List ℕ) (x y : Lent) (b : Both) → IsBoth card (record { ask = row (degrees (replicate 64 0)); order = order }) x y b
+pub both-missing : (card order long : List ℕ) (x y : Lent) (b : Both) → 63 < length long → IsBoth card (record { ask = row (degrees long); order = order }) x y b
     → IsBoth card (record { ask = row noRow; order = order }) x y b
-both-missing card order x y b h =
-    let p = too-many (λ c. true) (judge card) x (few card) in
-    let q = too-many (λ c. eachOnce (length (c .subnets)) order) (judge card) y (few card) in
+both-missing card order long x y b m h =
+    let p = too-many (λ c. true) (judge card) x long m (few card) in
+    let q = too-many (λ c. eachOnce (length (c .subnets)) order) (judge card) y long m (few card) in
     record {
       same = subst (λ (z : RowOutcome × Lent). (b .same ≡ true) ↔ (observed z ≡ observed (flatAsk inState card x (row noRow)))) q
-          (subst (λ (z : RowOutcome × Lent). (b .same ≡ true) ↔ (observed (subnetAsk inState card order y (row (degrees (replicate 64 0)))) ≡ observed z)) p (h .same));
+          (subst (λ (z : RowOutcome × Lent). (b .same ≡ true) ↔ (observed (subnetAsk inState card order y (row (degrees long))) ≡ observed z)) p (h .same));
       flat = h .flat ∙ ap (λ (z : RowOutcome × Lent). z .1) p;
       subnet = h .subnet ∙ ap (λ (z : RowOutcome × Lent). z .1) q;
     }

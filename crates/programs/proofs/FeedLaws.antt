@@ -2,13 +2,11 @@
 -- Assumes nothing.
 use Prim.Native.Nat.{ℕ, _≤_, _<_}
 use mathlib.Core.Path.{_≡_, sym, ap, ap₂, subst, _∙_}
-use mathlib.Core.Logic.{_⊎_, inl, inr}
-use mathlib.Core.Bool.{Bool, true, false, false≢true}
+use mathlib.Core.Bool.{Bool, true, false}
 use mathlib.Core.List.{List, [], _∷_, map}
 use native.Mathlib.Omega.{arith}
-use lib.ListN.{take, replicate}
+use lib.ListN.{length, take}
 use Rattle.card.specs.Card.{Card}
-use Rattle.card.proofs.BitLaws.{lt-or-ge}
 use Rattle.hierarchy.specs.Judgement.{Judgement, accepted, refused, judge}
 use Rattle.flattening.specs.Flattening.{flatten}
 use Rattle.flattening.proofs.FlatLaws.{flatten-again}
@@ -40,8 +38,8 @@ module _ (net : Net) (l : Lent) (x : RowAnswer) where
   few : (j : Judgement) → IsNet j net → (c : Card) → j ≡ accepted c → c .signals ≤ 63
   few j h c e = (subst (λ (i : Judgement). IsNet i net) e h) .tables .tables .meets .wellformed .fewSignals
 
-  pub row-missing : (j : Judgement) → IsNet j net → IsRow (called (inOrder (0 ∷ [])) j l (replicate 64 0)) x → IsRow (readCall j l (λ c. noRow)) x
-  row-missing j h w = subst (λ (z : RowOutcome × Lent). IsRow z x) (too-many (inOrder (0 ∷ [])) j l (few j h)) w
+  pub row-missing : (long : List ℕ) → 63 < length long → (j : Judgement) → IsNet j net → IsRow (called (inOrder (0 ∷ [])) j l long) x → IsRow (readCall j l (λ c. noRow)) x
+  row-missing long m j h w = subst (λ (z : RowOutcome × Lent). IsRow z x) (too-many (inOrder (0 ∷ [])) j l long m (few j h)) w
 
   module _ (bytes : List ℕ) (n : ℕ) (r : FileRow) (er : (f : Card) → f .signals ≡ n → n ≤ 63 → r ≡ fileRow (rowOf f bytes)) where
     pub file-missing : (j : Judgement) → IsNet j net → n ≡ signalsIn j → r .whole ≡ false → IsRow (readCall j l (λ c. noRow)) x → IsRow (fileCall j l bytes) x

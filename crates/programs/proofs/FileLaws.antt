@@ -6,7 +6,7 @@ use mathlib.Core.List.{List, [], _∷_, _++_, append-assoc}
 use mathlib.Core.Option.{Option, none, some, Option·map}
 use native.Mathlib.Omega.{arith}
 use native.Mathlib.Nat.{mul-le-mul-left}
-use lib.ListN.{length, set, take, replicate, length-append, length-replicate, List·getD-append}
+use lib.ListN.{length, set, take, replicate, length-append, List·getD-append}
 use lib.Seq.{set-at, take-at}
 use lib.Dec.{eqb}
 use borrow.Author.Tests.{eq-eqb, ne-eqb}
@@ -167,18 +167,18 @@ module _ (f : Card) (bytes : List ℕ) (g : ℕ) (eg : f .signals ≡ g) (w : Fi
             q ∙ ap fileRow (sym z)
 
 -- Where bytes hold no row, a row of more degrees than any card has signals stands for it: both are refused with 20.
-long-row : (c : Card) (s : NetState) → c .signals ≤ 63 → rowRefusal (flatten c) s (replicate 64 0) ≡ some BadRow
+long-row : (c : Card) (s : NetState) (long : List ℕ) → c .signals ≤ 63 → 63 < length long → rowRefusal (flatten c) s long ≡ some BadRow
 unfolding rowRefusal rowFault flatten
-long-row c s l = rw (ne-eqb (length (replicate {A = ℕ} 64 0)) (c .signals) (λ e. omega (arith, length-replicate {A = ℕ} 64 0)))
+long-row c s long l m = rw (ne-eqb (length long) 0 (λ e. omega (arith, m, e)), ne-eqb (length long) (c .signals) (λ e. omega (arith, m, e)))
 
 refused-alike : (a b : Option Refusal) (why : Refusal) (l x y : Lent) → settle (a otherwise b otherwise some why) l x ≡ settle (a otherwise b otherwise some why) l y
 refused-alike none none why l x y = refl
 refused-alike none (some z) why l x y = refl
 refused-alike (some z) b why l x y = refl
 
-pub too-many : (ordered : Card → Bool) (j : Judgement) (l : Lent) → ((c : Card) → j ≡ accepted c → c .signals ≤ 63)
-    → called ordered j l (replicate 64 0) ≡ callOn inState j (λ c. record { ask = row noRow; ordered = ordered c }) l
-too-many ordered (accepted c) l few =
-    rw (long-row c (view l) (few c refl))
-    (refused-alike (someUnless (valid (flatten c) l) BadState) (someUnless (ordered c) BadOrder) BadRow l (store l (rowNext (flatten c) (view l) (replicate 64 0))) (store l (view l)))
-too-many ordered (refused n at) l few = refl
+pub too-many : (ordered : Card → Bool) (j : Judgement) (l : Lent) (long : List ℕ) → 63 < length long → ((c : Card) → j ≡ accepted c → c .signals ≤ 63)
+    → called ordered j l long ≡ callOn inState j (λ c. record { ask = row noRow; ordered = ordered c }) l
+too-many ordered (accepted c) l long m few =
+    rw (long-row c (view l) long (few c refl) m)
+    (refused-alike (someUnless (valid (flatten c) l) BadState) (someUnless (ordered c) BadOrder) BadRow l (store l (rowNext (flatten c) (view l) long)) (store l (view l)))
+too-many ordered (refused n at) l long m few = refl

@@ -103,7 +103,7 @@ fn all_marked(degrees: [u16; MOST_SIGNALS], signals: u16) -> bool
 }
 
 // The row that bytes hold; no card has more than 63 signals. Two wrong readers that this rules out: one that lets a fill bit be 1, and one
-// that takes a row with one degree of 1023 for an empty one.
+// that takes a row with one degree of 1023 for an empty one. That the count fits is also said of every outcome, for callers without a card.
 pub fn row_of(bytes: &[u8], signals: u16) -> FileRow
     ensures { λ r. ⌜ ((f : Card) → f .signals ≡ signals → signals ≤ 63 → r ≡ fileRow (rowOf f (now (bytes .entry)))) × (63 < signals → r ≡ fileRow noRow) × (r .count ≤ 63) ⌝ }
 {

@@ -10,8 +10,7 @@ use Rattle.card.specs.Card.{Card}
 use Rattle.hierarchy.specs.Judgement.{accepted}
 use Rattle.flattening.specs.Flattening.{flatten}
 use Rattle.flattening.proofs.FlatLaws.{flatten-again}
-use Rattle.runners.specs.Step.{conflict}
-use Rattle.runners.specs.Rows.{settle, effective, rowFault, rowRefusal, rowNext}
+use Rattle.runners.specs.Rows.{settle, rowFault, rowConflict, rowNext, rowRefusal}
 use Rattle.runners.specs.Calls.{view, store, valid, eachOnce, called}
 use Rattle.runners.specs.Answers.{IsRow}
 use Rattle.runners.specs.inner.Steps.{replyOf}
@@ -46,7 +45,7 @@ module _ (c : Card) (l after : Lent) (row : List ℕ) (r : Reply) (e : r ≡ rep
   unfolding rowRefusal
   row-refused why x ex w = rw (ex, reply-is r (rowFault (flatten c) row) e ∙ ap fault w) (record { reply = refl; state = refl })
 
-  pub row-stepped : (x : RowAnswer) → r ≡ Ok → IsRow (settle (Option·map Conflict (conflict (flatten c) (view l) (effective ((view l) .degrees) row))) l after) x → IsRow (settle (rowRefusal (flatten c) (view l) row) l after) x
+  pub row-stepped : (x : RowAnswer) → r ≡ Ok → IsRow (settle (Option·map Conflict (rowConflict (flatten c) (view l) row)) l after) x → IsRow (settle (rowRefusal (flatten c) (view l) row) l after) x
   unfolding rowRefusal
   row-stepped x w h = rw (fault-none w) h
 

@@ -10,7 +10,7 @@ use lib.ListN.{length, take}
 use Rattle.card.specs.Card.{Card}
 use Rattle.flattening.specs.Flattening.{flatten}
 use Rattle.runners.specs.State.{NetState, scale, entry}
-use Rattle.runners.specs.Step.{conflict, rise, next}
+use Rattle.runners.specs.Step.{conflict, rise, moves, next}
 use Rattle.runners.specs.Rows.{settle, effective, rowFault, rowNext}
 use Rattle.runners.specs.Calls.{view, store}
 use Rattle.runners.specs.Answers.{IsRow}
@@ -19,19 +19,23 @@ use Rattle.runners.specs.declared.Refusal.the-variants.{Conflict}
 use Rattle.runners.specs.declared.RowAnswer.{RowAnswer}
 use Rattle.runners.proofs.StateLaws.{Consistent, Sized, Fits, fault-is, next-sized, next-consistent}
 
--- AN EMPTY ROW EARNS NEITHER 20 NOR 21, nothing rises in it, and the last degrees stay
+-- AN EMPTY ROW EARNS NEITHER 20 NOR 21, nothing rises or moves in it, and the last degrees stay
 pub empty-passes : (f : Card) → rowFault f [] ≡ none
 empty-passes f = fault-is f [] .1 (inl refl, λ g l. omega arith)
 
-pub empty-still : (f : Card) (s : NetState) (t : ℕ) → rise f (s .degrees) (effective (s .degrees) []) t ≡ 0
-empty-still f s t = omega arith
+empty-rise : (f : Card) (s : NetState) (t : ℕ) → rise f (s .degrees) (effective (s .degrees) []) t ≡ 0
+empty-rise f s t = omega arith
+
+pub empty-still : (f : Card) (s : NetState) (t : ℕ) → moves f s (effective (s .degrees) []) t ≡ 0
+unfolding moves
+empty-still f s t = omega (arith, empty-rise f s t)
 
 pub empty-keeps : (f : Card) (s : NetState) → (rowNext f s []) .degrees ≡ s .degrees
 unfolding next
 empty-keeps f s = refl
 
 -- the effective row of a row that passes 20 has a degree for each signal; of an empty one, where the last degrees have
-pub effective-long : (last row : List ℕ) (n : ℕ) → (0 < length row) ⊎ (length last ≡ n) → (length row ≡ 0) ⊎ (length row ≡ n) → length (effective last row) ≡ n
+effective-long : (last row : List ℕ) (n : ℕ) → (0 < length row) ⊎ (length last ≡ n) → (length row ≡ 0) ⊎ (length row ≡ n) → length (effective last row) ≡ n
 effective-long last [] n (inl b) h = absurd (omega (arith, b))
 effective-long last [] n (inr e) h = e
 effective-long last (d ∷ ds) n k (inl h) = absurd (omega (arith, h))

@@ -22,7 +22,7 @@ use Rattle.flattening.specs.declared.FlatCard.{FlatCard}
 use Rattle.flattening.proofs.FlatLaws.{flat-meets}
 use Rattle.flattening.proofs.FlatCardLaws.{flat-loaded}
 use Rattle.runners.specs.Numbers.{RowOutcome}
-use Rattle.runners.specs.Rows.{settle, rowRefusal, rowNext, pieces}
+use Rattle.runners.specs.Rows.{settle, rowNext, rowRefusal, pieces}
 use Rattle.runners.specs.Calls.{view, store, valid, eachOnce, called, inOrder, flatCall, subnetCall}
 use Rattle.runners.specs.Answers.{IsRow}
 use Rattle.runners.specs.Nets.{flatJudged, IsNetIn, IsNet, leaves, rowsIn}

@@ -17,7 +17,7 @@ use Rattle.card.proofs.Sums.{sum-zero, table-at, table-length}
 use Rattle.card.proofs.Decides.{Decides, Clears, lt-is, le-is, eq-is, and-is, or-is, every-is, someUnless-is, otherwise-is, someIf-is, firstOf-is}
 use Rattle.runners.specs.State.{NetState, scale, entry, transfer, fresh, remaining, flow, owed, due}
 use Rattle.runners.specs.Step.{candidate, startedOn, advanced, arrivesBy, nextBy, started, conflict, rise, movesOn, arrivesOn, moves, next}
-use Rattle.runners.specs.Rows.{effective, rowFault, rowRefusal}
+use Rattle.runners.specs.Rows.{rowFault, rowConflict, rowRefusal}
 use Rattle.runners.specs.Calls.{inRange, consistent}
 use Rattle.runners.specs.declared.Transfer.{Transfer}
 use Rattle.runners.specs.declared.Transfer.the-variants.{Idle, Carrying}
@@ -103,7 +103,7 @@ module _ (f : Card) (tokens : (p : ℕ) → p < length (f .places) → (placeAt 
 pub record Fits (f : Card) (s : NetState) (row : List ℕ) : Type 0 where
   pub long : (length row ≡ 0) ⊎ (length row ≡ f .signals)
   pub degrees : (g : ℕ) → g < f .signals → entry row g ≤ scale f
-  pub free : conflict f s (effective (s .degrees) row) ≡ none
+  pub free : rowConflict f s row ≡ none
 
 low-degrees : (f : Card) (row : List ℕ) → Clears (lowest 0 (f .signals) (λ g. ltb (scale f) (entry row g))) ((g : ℕ) → g < f .signals → entry row g ≤ scale f)
 low-degrees f row =

@@ -4,14 +4,13 @@ use mathlib.Core.Path.{_≡_, refl, sym, ap, ap₂, _∙_}
 use mathlib.Core.Logic.{_⊎_, inl, inr}
 use mathlib.Core.Bool.{Bool, true, false, not, _&&_, cond, false≢true}
 use mathlib.Core.List.{List, _++_, map}
-use mathlib.Core.Option.{Option, none, some, Option·map, Option·some-ne-none}
+use mathlib.Core.Option.{Option, none, some, Option·map}
 use native.Mathlib.Omega.{arith}
 use native.Mathlib.Nat.{mul-le-mul}
 use lib.ListN.{length, getD, set, drop, length-append, length-drop, List·getD-append}
 use lib.Seq.{getD-drop, getD-append-add, ext-getD}
-use lib.Dec.{ltb, eqb}
-use borrow.Author.Tests.{eqb-true, le-leb}
-use Rattle.card.specs.Finite.{table, someIf, someUnless, firstOf, lowest, _otherwise_}
+use borrow.Author.Tests.{le-leb}
+use Rattle.card.specs.Finite.{table, someIf, firstOf, lowest, _otherwise_}
 use Rattle.card.specs.Card.{Card, draws, fills, placeAt, firstPlace}
 use Rattle.card.proofs.Sums.{sum-zero, table-at, table-length, map-length}
 use Rattle.card.proofs.BitLaws.{lt-or-ge}
@@ -39,7 +38,7 @@ use Rattle.runners.specs.declared.Transfer.the-variants.{Idle, Carrying}
 use Rattle.runners.specs.declared.Slot.{Slot}
 use Rattle.runners.specs.declared.State.{State as Lent}
 use Rattle.runners.specs.declared.places.PlaceNumber.the-variants.{Capacity}
-use Rattle.runners.specs.declared.Refusal.the-variants.{BadRow, BadDegree, Conflict}
+use Rattle.runners.specs.declared.Refusal.the-variants.{Conflict}
 use Rattle.runners.specs.declared.Reply.the-variants.{Ok, No}
 use Rattle.runners.specs.declared.RowAnswer.{RowAnswer}
 use Rattle.runners.proofs.ScaleLaws.{scale-few}

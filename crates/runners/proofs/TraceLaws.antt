@@ -15,8 +15,7 @@ use Rattle.card.specs.Card.{Card}
 use Rattle.card.proofs.Decides.{Decides, eq-is, and-is}
 use Rattle.runners.specs.Numbers.{RowOutcome, refusal}
 use Rattle.runners.specs.State.{NetState, scale, entry}
-use Rattle.runners.specs.Step.{conflict}
-use Rattle.runners.specs.Rows.{settle, effective, rowFault, rowRefusal, rowNext, degrees, noRow, Ask, row, Act, actOf, perform}
+use Rattle.runners.specs.Rows.{settle, rowFault, rowConflict, rowNext, rowRefusal, degrees, noRow, Ask, row, Act, actOf, perform}
 use Rattle.runners.specs.Calls.{view, slot, store, validIn, inState, valid, lentCall}
 use Rattle.runners.specs.inner.Storing.{Counts}
 use Rattle.runners.specs.Traces.{trace, observed, Bounded}
@@ -215,7 +214,7 @@ unfolding rowRefusal rowFault
 row-clear f s r =
     clear-otherwise _ _ (clear-otherwise _ _ (clear-unless (eqb (length r) 0 || eqb (length r) (f .signals)) BadRow tt)
     (clear-map BadDegree (λ n. tt) (lowest 0 (f .signals) (λ g. ltb (scale f) (entry r g)))))
-    (clear-map Conflict (λ n. tt) (conflict f s (effective (s .degrees) r)))
+    (clear-map Conflict (λ n. tt) (rowConflict f s r))
 
 pub ask-mild : (f : Card) (k : Ask) → Mild (actOf f k)
 unfolding Clear

@@ -34,14 +34,17 @@ rowFault f row =
     someUnless (eqb (length row) 0 || eqb (length row) (f .signals)) BadRow
     otherwise Option·map BadDegree (lowest 0 (f .signals) (λ g. ltb (scale f) (entry row g)))
 
--- then 22 conflict, with its place: the step runs as usual, on the effective row
-unfoldable pub rowRefusal : Card → NetState → (row : List ℕ) → Option Refusal
-rowRefusal f s row = rowFault f row otherwise Option·map Conflict (conflict f s (effective (s .degrees) row))
+-- The step runs as usual, on the effective row: 22 conflict, with its place, or the next state.
+abbrev pub rowConflict : Card → NetState → (row : List ℕ) → Option ℕ
+rowConflict f s row = conflict f s (effective (s .degrees) row)
 
 abbrev pub rowNext : Card → NetState → (row : List ℕ) → NetState
 rowNext f s row = next f s (effective (s .degrees) row)
 
--- What is read of a row: its degrees, or why it has none. (20, in a file: bytes missing or a nonzero fill bit.)
+unfoldable pub rowRefusal : Card → NetState → (row : List ℕ) → Option Refusal
+rowRefusal f s row = rowFault f row otherwise Option·map Conflict (rowConflict f s row)
+
+-- What is read of a row: its degrees (none, of an empty row), or that there is no row. (20, in a file: bytes missing or a nonzero fill bit.)
 pub data RowRead : Type 0 where
   degrees : (row : List ℕ) → RowRead
   noRow : RowRead

@@ -12,7 +12,7 @@ use Rattle.hierarchy.specs.Judgement.{Judgement, accepted, outcomeOf}
 use Rattle.hierarchy.specs.declared.Answer.{Answer}
 use Rattle.flattening.specs.Flattening.{flatten}
 use Rattle.runners.specs.Step.{conflict, next}
-use Rattle.runners.specs.Rows.{settle, effective, rowFault, rowRefusal, rowNext}
+use Rattle.runners.specs.Rows.{settle, rowFault, rowConflict, rowNext, rowRefusal}
 use Rattle.runners.specs.Calls.{view, store, valid, eachOnce}
 use Rattle.runners.specs.Answers.{IsRow}
 use Rattle.runners.specs.Visits.{InTables}
@@ -64,7 +64,7 @@ IsStep numbers starts full n order l row r =
 abbrev pub IsRowStep : (numbers starts full : List ℕ) → Sizes → (order : List ℕ) → Lent → (row : List ℕ) → RowAnswer → Type 0
 IsRowStep numbers starts full n order l row r =
     (c : Card) → HoldsNet c numbers starts full n → valid (flatten c) l ≡ true → eachOnce (length (c .subnets)) order ≡ true → rowFault (flatten c) row ≡ none
-    → IsRow (settle (Option·map Conflict (conflict (flatten c) (view l) (effective ((view l) .degrees) row))) l (store l (rowNext (flatten c) (view l) row))) r
+    → IsRow (settle (Option·map Conflict (rowConflict (flatten c) (view l) row)) l (store l (rowNext (flatten c) (view l) row))) r
 
 -- on any row: 20, 21, and then the step
 abbrev pub IsLoadedRow : (numbers starts full : List ℕ) → Sizes → (order : List ℕ) → Lent → (row : List ℕ) → RowAnswer → Type 0
