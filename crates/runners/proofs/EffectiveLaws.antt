@@ -1,12 +1,13 @@
 -- The effective row: what it has of the row that is lent and of the last degrees, and that a row, empty or not, keeps a state consistent.
 -- Assumes nothing.
 use Prim.Native.Nat.{ℕ, _≤_, _<_}
-use mathlib.Core.Path.{_≡_, refl, subst}
+use mathlib.Core.Path.{_≡_, refl, sym, ap, subst, _∙_}
 use mathlib.Core.Logic.{_⊎_, inl, inr}
-use mathlib.Core.List.{List, [], _∷_}
+use mathlib.Core.List.{List, [], _∷_, _++_}
 use mathlib.Core.Option.{none, Option·map}
 use native.Mathlib.Omega.{arith}
-use lib.ListN.{length, take}
+use lib.ListN.{length, take, drop}
+use lib.Seq.{take-at}
 use Rattle.card.specs.Card.{Card}
 use Rattle.flattening.specs.Flattening.{flatten}
 use Rattle.runners.specs.State.{NetState, scale, entry}
@@ -14,6 +15,7 @@ use Rattle.runners.specs.Step.{conflict, rise, moves, next}
 use Rattle.runners.specs.Rows.{settle, effective, rowFault, rowNext}
 use Rattle.runners.specs.Calls.{view, store}
 use Rattle.runners.specs.Answers.{IsRow}
+use Rattle.runners.specs.inner.Steps.{withDegrees}
 use Rattle.runners.specs.declared.State.{State as Lent}
 use Rattle.runners.specs.declared.Refusal.the-variants.{Conflict}
 use Rattle.runners.specs.declared.RowAnswer.{RowAnswer}
@@ -56,23 +58,25 @@ module _ (f : Card) (s : NetState) (row : List ℕ) (h : Consistent f s) (k : Fi
   pub row-sized : (0 < length row) ⊎ (length (s .degrees) ≡ f .signals) → Sized f (rowNext f s row)
   row-sized e = next-sized f s (effective (s .degrees) row) (effective-long (s .degrees) row (f .signals) e (k .long))
 
--- the step on the effective row
-pub fault-long : (c : Card) (row : List ℕ) → rowFault (flatten c) row ≡ none → ¬ (length row ≡ 0) → length row ≡ c .signals
+-- The row's degrees put over the last ones are the effective row, of a row that passes 20.
+pub fault-long : (c : Card) (row : List ℕ) (n : ℕ) → n ≡ c .signals → rowFault (flatten c) row ≡ none → (length row ≡ 0) ⊎ (length row ≡ n)
 unfolding flatten
-fault-long c row e n = go (fault-is (flatten c) row .0 e .0)
-  where
-    go : (length row ≡ 0) ⊎ (length row ≡ c .signals) → length row ≡ c .signals
-    go (inl z) = absurd (n z)
-    go (inr l) = l
+fault-long c row n i e = subst (λ (m : ℕ). (length row ≡ 0) ⊎ (length row ≡ m)) (sym i) (fault-is (flatten c) row .0 e .0)
 
-module _ (c : Card) (l : Lent) (x : RowAnswer) where
+pub long-few : (row : List ℕ) (n : ℕ) → n ≤ 63 → (length row ≡ 0) ⊎ (length row ≡ n) → length row ≤ 63
+long-few row n l (inl h) = omega (arith, h)
+long-few row n l (inr h) = omega (arith, h)
+
+effective-put : (last row : List ℕ) (n : ℕ) → (length row ≡ 0) ⊎ (length row ≡ n) → take n (row ++ drop (length row) last) ≡ effective (take n last) row
+effective-put last [] n h = refl
+effective-put last (d ∷ ds) n (inl h) = absurd (omega (arith, h))
+effective-put last (d ∷ ds) n (inr h) = take-at (d ∷ ds) (drop (length (d ∷ ds)) last) n h
+
+-- the step on it is the step on the effective row
+module _ (c : Card) (l after : Lent) (row : List ℕ) (x : RowAnswer) where
   abbrev Stepped : List ℕ → Type 0
   Stepped r = IsRow (settle (Option·map Conflict (conflict (flatten c) (view l) r)) l (store l (next (flatten c) (view l) r))) x
 
-  pub own-stepped : (row : List ℕ) → ¬ (length row ≡ 0) → Stepped row → Stepped (effective ((view l) .degrees) row)
-  own-stepped [] n h = absurd (n refl)
-  own-stepped (d ∷ ds) n h = h
-
-  pub last-stepped : (row : List ℕ) (n : ℕ) → length row ≡ 0 → n ≡ l .signals → Stepped (take n (l .degrees)) → Stepped (effective ((view l) .degrees) row)
-  last-stepped [] n e i h = subst (λ (m : ℕ). Stepped (take m (l .degrees))) i h
-  last-stepped (d ∷ ds) n e i h = absurd (omega (arith, e))
+  pub put-stepped : (n : ℕ) → after ≡ withDegrees l row → n ≡ l .signals → (length row ≡ 0) ⊎ (length row ≡ n) → Stepped (take n (after .degrees)) → Stepped (effective ((view l) .degrees) row)
+  put-stepped n e i h =
+      subst Stepped (ap (λ (k : Lent). take n (k .degrees)) e ∙ effective-put (l .degrees) row n h ∙ ap (λ (m : ℕ). effective (take m (l .degrees)) row) i)

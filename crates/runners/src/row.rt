@@ -140,7 +140,7 @@ fn step(
     }
 }
 
-// The step on the effective row: that of an empty row is the last degrees.
+// The step on the effective row: the row's degrees put over the last ones, which of an empty row are the last ones.
 fn row_step(
     numbers: &[u16],
     starts: &[u32],
@@ -152,15 +152,13 @@ fn row_step(
 ) -> RowAnswer
     ensures { λ r. ⌜ IsRowStep (now (numbers .entry)) (now (starts .entry)) (now (full .entry)) sizes (now (order .entry)) state (now (row .entry)) r ⌝ }
 {
-    if row.len() != 0 {
-        return step(numbers, starts, full, sizes, order, state, row);
-    }
-    let last = state.degrees;
     let n = sizes.signals as usize;
     if MOST_SIGNALS < n {
         return refuse(Refusal::BadState, state);
     }
-    step(numbers, starts, full, sizes, order, state, &last[..n])
+    let after = record_degrees(state, row);
+    let degrees = after.degrees;
+    step(numbers, starts, full, sizes, order, state, &degrees[..n])
 }
 
 // Tests 20 and 21, then the step.
