@@ -211,11 +211,10 @@ use Rattle.hierarchy.specs.Judgement.{answer}
 use Rattle.hierarchy.specs.Output.{writeRows}
 use Rattle.runners.specs.Numbers as replies
 use Rattle.programs.specs.Programs.{flattenProgram}
-use Rattle.runners.specs.Calls.{slot, consistent, validIn, eachOnce, flatCall, subnetCall}
+use Rattle.runners.specs.Calls.{slot}
 use Rattle.runners.specs.declared.Transfer.the-variants.{Idle, Carrying}""", uses]
     text = "\n".join(dict.fromkeys("\n".join(parts).split("\n"))) + "\n"
-    more = ("allFit counted readTables tablesIn wholeRows readRows putInto writeRows"
-            " flattenProgram consistent validIn eachOnce flatCall subnetCall")
+    more = "allFit counted readTables tablesIn wholeRows readRows putInto writeRows flattenProgram"
     for number, statement in enumerate(statements, start=1):
         text += f"\ncase-{number} : {statement}\nunfolding {names} {more}\ncase-{number} = refl\n"
     return text
