@@ -28,13 +28,16 @@ CARDS = 20000
 BATCH = 250
 ROWS_A_CARD = 40    # rows of a file, at most
 
-# What must come up among as many cards as CARDS: answers to calls of both runners, and empty rows of files.
+# What must come up among as many cards as CARDS: answers to calls of both runners, and empty rows of files; refusals of cards; accepted cards
+# with a loop, with one whose weights add to just the capacity, and calls in which a transition with such a loop starts.
 IN_FILE = "empty in a file"
-ANSWERS = ("ok", "empty ok", "empty start", "empty 22", IN_FILE, 20, 21, 22, 23, 25)
+LOOP, FULL_LOOP = "loop", "full loop"
+ANSWERS = ("ok", "empty ok", "empty start", "empty 22", IN_FILE, 20, 21, 22, 23, 25, *net.PASS_ONE, *net.PASS_TWO,
+           LOOP, FULL_LOOP, row_calls.FULL_START)
 
 
 class Tally(NamedTuple):
-    """What was compared: cards, rows, differences; and how often each answer of a row was given."""
+    """What was compared: cards, rows, differences; and how often each of ANSWERS came up."""
     cards: int
     rows: int
     wrong: int
@@ -54,7 +57,7 @@ def random_entry(rng, state):
     return field, at, rng.choice((0, 1, 500, 999, 1000, 1001, 2000, 65535, rng.randrange(3001)))
 
 
-def call_both(rng, cases, answers):
+def call_both(rng, cases, full, answers):
     """Row calls of both runners, from the fresh state on, with some signals up in one of four; towards the end some with states that were tampered
     with."""
     if rng.randrange(4) == 0:
@@ -68,6 +71,7 @@ def call_both(rng, cases, answers):
         before = [lent.view() for lent in cases.lent]
         replies = cases.call(random_input.order(rng, len(cases.parts.parts)), row)
         answers.update(row_calls.named(row, reply, old, lent.view()) for reply, old, lent in zip(replies, before, cases.lent))
+        answers[row_calls.FULL_START] += row_calls.starts(full, replies[0], before[0], cases.lent[0].view())
     return 4
 
 
@@ -91,10 +95,15 @@ def random_cases(rng, answers):
     length = len(cases.data)
     cases.flatten(rng.choice((0, length, length, max(length - rng.randrange(12), 0), length + 3)))
     if cases.refused:
+        answers[cases.flat.number] += 1
         cases.call([0], (1, 2))
         cases.rows(b"\0\0")
         return cases, 2
-    calls = call_both(rng, cases, answers) if rng.randrange(2) else 0
+    card = net.read_card(cases.data)
+    full = samples.full_loops(card)
+    answers[LOOP] += bool(samples.loops(card))
+    answers[FULL_LOOP] += bool(full)
+    calls = call_both(rng, cases, full, answers) if rng.randrange(2) else 0
     signals = cases.flat.signals
     data = rows_file(rng, signals)
     cases.rows(data)

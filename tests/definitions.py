@@ -28,9 +28,9 @@ SIZES = {"most_subnets": 3, "most_rows": 3, "most_signals": 3}
 PROVED = ("log", "rlib", "stamp")
 
 # How many cases of each outcome.
-CARDS = {"accepted": 12, **{number: 2 for number in range(1, 17)}}
+CARDS = {"accepted": 12, **{number: 2 for number in (*net.PASS_ONE, *net.PASS_TWO)}}
 CALLS = {"ok": 12, "empty ok": 4, "empty start": 4, "empty 22": 2, 20: 3, 21: 3, 22: 6, 23: 3, 25: 8}
-TABLES = {"wrote": 3, 17: 6, 24: 3, **{number: 1 for number in (2, 3, 4, 5, 7, 8, 10, 12, 14)}}
+TABLES = {"wrote": 3, 17: 6, 24: 3, **{number: 1 for number in (2, 3, 4, 5, 7, 8, 10, 12, 26, 14)}}
 TRIES = 100000
 
 

@@ -44,7 +44,7 @@ NAMES = ("net_check", "net_flatten", "net_write", "net_fresh", "net_flat_row", "
 CHECK, FLATTEN, WRITE, FRESH, FLAT_ROW, SUBNET_ROW = range(6)
 
 # What each function can refuse. A card that is written ends with its last field and zeros, so that it is never 1 or 9.
-CARD_REFUSALS = set(range(1, 17))
+CARD_REFUSALS = {*net.PASS_ONE, *net.PASS_TWO}
 REFUSALS = {
     CHECK: CARD_REFUSALS,
     FLATTEN: CARD_REFUSALS | {24},
@@ -178,6 +178,8 @@ def refused_cards():
     yield from (cards.with_field(BENCH, 21, 5, type_) for type_ in (2, 16))
     yield from make_card_cases.filled_cards(cards.encode(net.flatten(bench)), 206)
     yield from make_card_cases.checked_cards(BENCH)
+    longest = hierarchies.longest_card()
+    yield cards.encode(cards.change(longest, "arcs", len(longest.arcs) - 1, weight=0))
 
 
 def refused_tables():
@@ -188,6 +190,7 @@ def refused_tables():
     yield from make_card_cases.later_edge_tables(bench)
     yield from make_card_cases.uneven_tables(bench)
     yield from (make_card_cases.given(card, 64) for _, card in hierarchies.numbered())
+    yield from make_card_cases.hierarchy_tables()
 
 
 def refusals(rng):
@@ -200,7 +203,8 @@ def refusals(rng):
 def in_turn(rng):
     """Calls with each selection of faults: of several, the first in the paper's order counts."""
     takers = cards.encode(make_row_cases.TAKERS)
-    for data in (takers, takers[:-1], cards.with_field(takers, 0, 4, 2)):
+    loop = cards.encode(cards.change(make_row_cases.TAKERS, "arcs", 1, place=0))
+    for data in (takers, takers[:-1], cards.with_field(takers, 0, 4, 2), loop):
         card = Card(data, rng)
         fresh = net.State((1000, 0, 0), (None, None), (0, 0))
         states = [fresh, fresh._replace(markings=(1000, 0)), fresh._replace(markings=256 * (0,)), fresh._replace(degrees=64 * (0,)),
@@ -542,6 +546,9 @@ def embed_tests(archive):
         cut = pathlib.Path(where) / "net.card"
         cut.write_bytes(BENCH[:28])
         yield "examples/embed/run, 28 bytes", run(cut), (b"the card: refused, 1: the card ends inside a field, bit 224\n", 1)
+        loop = pathlib.Path(where) / "loop.card"
+        loop.write_bytes(cards.with_field(BENCH, 94, 5, 0))
+        yield "examples/embed/run, a loop", run(loop), (b"the card: refused, 26: a loop above the capacity of its place, bit 93\n", 1)
 
 
 def size_tests():

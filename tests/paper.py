@@ -28,6 +28,7 @@ REFUSED = [
     ("second arc of direction 0", cards.with_field(BENCH, 93, 1, 0), "no 11 93"),
     ("second arc of weight 2", cards.with_field(BENCH, 107, 8, 2), "no 12 93"),
     ("place (1,0) made normal", cards.with_field(BENCH, 141, 2, 0), "no 10 93"),
+    ("second arc back to place (0,0)", cards.with_field(BENCH, 94, 5, 0), "no 26 93"),
 ]
 
 # Cards that are run: the rows, with () for an empty one, and the lines.
@@ -51,6 +52,7 @@ RUN = [
      "6 ok 600 400 1000 | - 400\n"),
     ("empty rows move nothing, and a rise is from the last degrees", samples.bench_card(), [(), (400, 0), (), (), (700, 0)],
      "1 ok 1000 0 0 | - -\n2 ok 600 400 0 | 400 -\n3 ok 600 400 0 | 400 -\n4 ok 600 400 0 | 400 -\n5 ok 300 700 0 | 700 -\n"),
+    *samples.loop_runs(),
 ]
 
 

@@ -1,5 +1,6 @@
 #!/usr/bin/env python3
-"""The wrong programs of tests/wrong are still edits of the code: each text that one changes stands once in the file it names."""
+"""The wrong programs of tests/wrong are still edits of the code: each text that one changes stands once in the file it names, as the changes
+before it have left the file."""
 
 from paths import root
 
@@ -8,15 +9,17 @@ import report
 
 def faults(edit):
     """What is wrong with an edit: lines 'file: F', then for each change in F a line 'old: TEXT' and a line 'new: TEXT'."""
-    found, text, pairs = [], "", 0
+    found, text, old, pairs = [], "", "", 0
     for line in edit.read_text().splitlines():
         word, _, rest = line.partition(": ")
         if word == "file":
             file = root / "crates" / edit.parent.name / rest
             text = file.read_text() if file.is_file() else ""
         elif word == "old":
-            found += [] if text.count(rest) == 1 else [f"{rest!r} stands {text.count(rest)} times in {file.relative_to(root)}"]
+            old = rest
+            found += [] if text.count(old) == 1 else [f"{old!r} stands {text.count(old)} times in {file.relative_to(root)}"]
         elif word == "new":
+            text = text.replace(old, rest, 1)
             pairs += 1
     return found if pairs else ["it changes nothing"]
 

@@ -17,7 +17,7 @@ struct state {
 /* What *value is for each refusal, where it is anything. */
 static const char *value_name(uint64_t number)
 {
-    if (number <= 17)
+    if (number <= 17 || number == 26)
         return "bit";
     if (number == 21)
         return "signal";
@@ -33,6 +33,7 @@ static const char *const reasons[] = {
     [13] = "a repeated arc", [14] = "a transition without a place of capacity 1", [15] = "a subnet without an interface place",
     [16] = "unlike subnets of one type", [17] = "a table's number or size", [20] = "the row's length", [21] = "a degree above 1000",
     [22] = "a conflict", [23] = "the visiting order", [24] = "the buffer is too short", [25] = "the state",
+    [26] = "a loop above the capacity of its place",
 };
 
 static void print_refusal(uint64_t number, size_t value)

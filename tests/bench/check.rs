@@ -99,7 +99,7 @@ fn transition_bit(net: &Net, number: usize, transition: usize) -> usize {
         + ARC_BITS * lower.iter().map(|arcs| arcs.len()).sum::<usize>()
 }
 
-/// 10 to 14.
+/// 10 to 14, and 26.
 fn check_arcs(net: &Net) -> Result<(), Refusal> {
     for (number, subnet) in net.subnets.iter().enumerate() {
         for (t, arcs) in subnet.transitions.iter().enumerate() {
@@ -124,7 +124,7 @@ fn place_of<'a>(net: &Net<'a>, arc: &Arc) -> &'a Place {
     &net.subnets[usize::from(arc.subnet)].places[usize::from(arc.place)]
 }
 
-/// 10 to 13 at an arc of a subnet, beside the lower arcs of its transition.
+/// 10 to 13 and 26 at an arc of a subnet, beside the lower arcs of its transition.
 fn check_arc(net: &Net, number: usize, arc: &Arc, lower: &[Arc]) -> Result<(), u8> {
     let owner = net.subnets.get(usize::from(arc.subnet)).ok_or(10)?;
     let place = owner.places.get(usize::from(arc.place)).ok_or(10)?;
@@ -139,9 +139,17 @@ fn check_arc(net: &Net, number: usize, arc: &Arc, lower: &[Arc]) -> Result<(), u
     if !(1..=place.capacity).contains(&arc.weight) {
         return Err(12);
     }
-    let end = |a: &Arc| (a.direction, a.subnet, a.place);
-    if lower.iter().any(|other| end(other) == end(arc)) {
-        return Err(13);
+    let mut together = u16::from(arc.weight);
+    for other in lower {
+        if (other.subnet, other.place) == (arc.subnet, arc.place) {
+            if other.direction == arc.direction {
+                return Err(13);
+            }
+            together += u16::from(other.weight);
+        }
+    }
+    if together > place.capacity.into() {
+        return Err(26);
     }
     Ok(())
 }

@@ -15,8 +15,8 @@ from paths import root
 folder = root / "crates" / "agree"
 
 CALLS = 60
-SEED = 10      # 16 subnets; most rows are taken, and each answer of TOLD is there
-TOLD = {"ok", "empty ok", "empty start", 20, 21, 22}
+SEED = 1802    # 16 subnets; most rows are taken, and each answer of TOLD is there
+TOLD = {"ok", "empty ok", "empty start", 20, 21, 22, row_calls.FULL_START}
 
 
 def row_bytes(rng, signals):
@@ -27,23 +27,24 @@ def row_bytes(rng, signals):
     return bytes(data)
 
 
-def answered(cases, order, chunk):
-    """The answer of both runners to a row's bytes. Bytes that are no row are 20 without a call: as a list of no degrees they would be
-    an empty row, which is taken."""
+def answered(cases, full, order, chunk):
+    """The answer of both runners to a row's bytes, and FULL_START if it is one. Bytes that are no row are 20 without a call: as a list of no
+    degrees they would be an empty row, which is taken."""
     row = net.read_row(chunk, cases.flat.signals)
     if row is None:
-        return 20
+        return [20]
     before = cases.lent[0].view()
     flat, subnet = cases.call(order, row)
     after = cases.lent[0].view()
     assert flat == subnet and after == cases.lent[1].view(), (order, chunk)
-    return row_calls.named(row, flat, before, after)
+    return [row_calls.named(row, flat, before, after), *([row_calls.FULL_START] if row_calls.starts(full, flat, before, after) else [])]
 
 
 def made(seed):
     """A card's bytes, its calls, and the answers to them."""
     rng = random.Random(seed)
-    data = cards.encode(hierarchies.random_family(rng))
+    card = hierarchies.random_family(rng)
+    data, full = cards.encode(card), samples.full_loops(card)
     cases = row_calls.Cases(data)
     order = list(range(len(cases.parts.parts)))
     calls, answers = [], []
@@ -51,7 +52,7 @@ def made(seed):
         rng.shuffle(order)
         chunk = row_bytes(rng, cases.flat.signals)
         calls.append(chunk + bytes(order))
-        answers.append(answered(cases, order, chunk))
+        answers += answered(cases, full, order, chunk)
     return data, calls, answers
 
 

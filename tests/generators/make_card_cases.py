@@ -102,6 +102,7 @@ SECOND_ARC = [
     (10, 99, 8, 1),
     (11, 93, 1, 0),
     (12, 107, 8, 2),
+    (26, 94, 5, 0),         # a loop at place (0,0)
     (10, 141, 2, 0),        # the place is normal, so that nobody else sees it; not 15
 ]
 
@@ -298,7 +299,7 @@ def uneven_tables(card):
 
 def hierarchy_tables():
     """For each number of the check two cards, into a buffer that is too short, just long enough and longer."""
-    for number in (0, *range(10, 17)):
+    for number in (0, *net.PASS_TWO):
         for card in [card for other, card in hierarchies.numbered() if other == number][:2]:
             length = len(cards.encode(card))
             yield from (given(card, room) for room in (0, length - 1, length, length + 3))

@@ -107,7 +107,9 @@ def flattened():
     flat.flatten(length)
     assert flat.lines[-1] == bench.lines[-3], "flattened again"
     yield flat
-    for data in (b"", cards.encode(samples.bench_card())[:28], cards.encode(samples.bench_card()) + b"\0"):
+    sound = cards.encode(samples.bench_card())
+    loops = [cards.encode(card) for card in (samples.bench_card((FILL, 0, 0, 1)), hierarchies.far_loop(2))]
+    for data in (b"", sound[:28], sound + b"\0", *loops):
         refused = row_calls.Cases(data)
         refused.flatten(10)
         refused.call([0], (1, 2))

@@ -3,6 +3,7 @@
 A change is a table, an index in it, and the fields of that row which get other values.
 """
 
+import itertools
 from typing import NamedTuple
 
 import cards
@@ -36,12 +37,12 @@ def tree():
     return cards.tables(
         2,
         (0, 0, [(NORMAL, 1, 1), (NORMAL, 2, 0)],
-         [(0, [(DRAW, 0, 0, 1), (FILL, 1, 0, 1), (DRAW, 1, 1, 2), (DRAW, 1, 2, 3),
-               (FILL, 1, 2, 3)]),
-          (1, [(DRAW, 0, 0, 1), (FILL, 0, 1, 2)])]),
+         [(0, [(DRAW, 0, 0, 1), (FILL, 1, 0, 1), (DRAW, 1, 1, 2), (DRAW, 1, 2, 2),
+               (FILL, 1, 2, 1)]),
+          (1, [(DRAW, 0, 0, 1), (FILL, 0, 1, 1)])]),
         (0, 0, [(IN, 1, 0), (OUT, 2, 0), (IN_OUT, 3, 0), (NORMAL, 1, 0)],
          [(1, [(DRAW, 1, 0, 1), (FILL, 1, 1, 1), (FILL, 2, 0, 1)])]),
-        (1, 0, [(IN_OUT, 1, 0)], [(0, [(DRAW, 2, 0, 1), (FILL, 2, 0, 1)])]),
+        (1, 0, [(IN_OUT, 1, 0)], [(0, [(DRAW, 2, 0, 1)]), (0, [(FILL, 2, 0, 1)])]),
         (0, 0, [(IN_OUT, 1, 0)], [(0, [(DRAW, 3, 0, 1)])]))
 
 
@@ -51,7 +52,8 @@ def no_subnet():
                         (0, 0, [(IN_OUT, 1, 0)], [(0, [(DRAW, 1, 0, 1), (FILL, 31, 2, 1)])]))
 
 
-TOKEN_LOOP = arc(6, FILL, 0, 0, 1)          # one place, both directions
+TOKEN_LOOP = arc(6, FILL, 0, 0, 1)          # 2 in all at a place of capacity 1
+CHILD_LOOP = arc(4, FILL, 1, 2, 2)          # 4 in all at a child's place of capacity 3
 NO_UNIT = arc(5, DRAW, 0, 1, 1)             # subnet 0's second transition is at place 1 only
 NO_INNER = arc(9, FILL, 1, 3, 1), field("places", 6, "kind", NORMAL)    # subnet 2 is sealed
 NO_LAST = field("places", 7, "kind", NORMAL)                            # subnet 3 is sealed
@@ -60,7 +62,6 @@ SAME_TYPE = field("subnets", 1, "type", 3), field("subnets", 3, "type", 3)
 # The number, and what is changed in the tree.
 ARCS = [
     (0,),
-    (0, TOKEN_LOOP),
     (0, arc(6, FILL, 1, 0, 1)),             # two transitions have one arc
     (0, arc(8, DRAW, 1, 2, 1)),             # within the owner every direction is free
     (0, arc(7, FILL, 1, 0, 1), arc(8, DRAW, 1, 1, 2)),
@@ -96,11 +97,13 @@ ARCS = [
     (12, arc(4, DRAW, 1, 2, 0)),
     (12, NO_UNIT, arc(6, FILL, 0, 1, 3)),   # also no place of capacity 1
     (13, arc(6, DRAW, 0, 0, 1)),
-    (13, arc(4, DRAW, 1, 2, 3)),
+    (13, arc(4, DRAW, 1, 2, 2)),
     (13, arc(4, DRAW, 1, 2, 1)),            # with another weight
     (13, arc(4, DRAW, 0, 0, 1)),            # four arcs on
     (13, arc(3, FILL, 1, 0, 1)),
     (13, NO_UNIT, arc(6, DRAW, 0, 1, 2)),   # also no place of capacity 1
+    (26, TOKEN_LOOP),
+    (26, CHILD_LOOP),
     (14, NO_UNIT),
     (14, arc(7, DRAW, 1, 1, 1), arc(9, DRAW, 1, 2, 1)),
     (14, field("places", 0, "capacity", 2)),
@@ -116,19 +119,113 @@ ARCS = [
     (11, arc(1, DRAW, 1, 0, 1), arc(2, DRAW, 1, 3, 1)),
     (13, arc(3, FILL, 1, 0, 1), arc(4, FILL, 2, 0, 1)),
     (10, arc(2, FILL, 2, 0, 1), arc(4, DRAW, 1, 2, 3)),
+    (10, arc(2, FILL, 2, 0, 1), CHILD_LOOP),
+    (26, arc(2, FILL, 0, 0, 1), arc(3, DRAW, 1, 3, 1)),
     # A transition's 14 comes before a later one's arcs, and after an earlier one's.
     (14, NO_UNIT, arc(7, DRAW, 1, 4, 1)),
     (14, NO_UNIT, arc(7, DRAW, 1, 0, 0)),
     (10, NO_UNIT, arc(1, FILL, 1, 3, 1)),
     (13, NO_UNIT, arc(4, DRAW, 0, 0, 1)),
+    (26, NO_UNIT, CHILD_LOOP),
+    (14, NO_UNIT, arc(7, DRAW, 1, 1, 2)),
     # 15 and 16 come after all arcs, and 16 after all of 15.
     (10, *NO_INNER, arc(12, DRAW, 3, 1, 1)),
     (12, *NO_INNER, NO_LAST, arc(12, DRAW, 3, 0, 2)),
     (14, *NO_INNER, field("places", 7, "capacity", 2)),
+    (26, *NO_INNER, NO_LAST, arc(8, DRAW, 1, 3, 1)),
     (12, *SAME_TYPE, arc(12, DRAW, 3, 0, 2)),
+    (26, *SAME_TYPE, TOKEN_LOOP),
     (15, *SAME_TYPE, *NO_INNER),
     (15, *SAME_TYPE, NO_LAST),
 ]
+
+
+# Loops
+
+UNIT = DRAW, 0, 4, 1      # at a place of capacity 1, which a transition needs
+
+
+def looping(*transitions, inner=((DRAW, 1, 0, 1),)):
+    """Subnet 0 with these transitions, lists of arcs, and its child 1 with one.
+
+    Places 0 to 3 of both have capacities 1, 2, 3 and 255. Those of the child are in-out, but for an in place 3. Place 4 of subnet 0 has
+    capacity 1 as well.
+    """
+    capacities = 1, 2, 3, 255
+    kinds = IN_OUT, IN_OUT, IN_OUT, IN
+    return cards.tables(1, (0, 0, [(NORMAL, capacity, 0) for capacity in (*capacities, 1)], [(0, arcs) for arcs in transitions]),
+                        (0, 0, [(kind, capacity, 0) for kind, capacity in zip(kinds, capacities)], [(0, inner)]))
+
+
+# The number, a place of looping(), and two weights.
+LOOP_WEIGHTS = [
+    (26, 0, 1, 1),
+    (0, 1, 1, 1), (26, 1, 1, 2), (26, 1, 2, 2),
+    (0, 2, 1, 1), (0, 2, 1, 2), (26, 2, 2, 2), (26, 2, 1, 3), (26, 2, 3, 3),
+    (0, 3, 127, 128), (0, 3, 1, 254), (26, 3, 128, 128), (26, 3, 1, 255), (26, 3, 255, 255),
+]
+
+
+def weighed_loops():
+    """A loop of each two weights, with either direction first and either weight first; and a further arc before, between or behind, in turn."""
+    at = itertools.cycle(range(3))
+    for number, place, *two in LOOP_WEIGHTS:
+        for directions, weights in itertools.product(itertools.permutations((DRAW, FILL)), itertools.permutations(two)):
+            arcs = [(direction, 0, place, weight) for direction, weight in zip(directions, weights)]
+            arcs.insert(next(at), UNIT)
+            yield number, looping(arcs)
+
+
+# The number, and the transitions of looping().
+LOOPS = [
+    # At a child's place.
+    (26, [UNIT, (DRAW, 1, 0, 1), (FILL, 1, 0, 1)]),
+    (0, [(FILL, 1, 1, 1), UNIT, (DRAW, 1, 1, 1)]),
+    (26, [(FILL, 1, 1, 1), UNIT, (DRAW, 1, 1, 2)]),
+    (0, [(FILL, 1, 2, 2), (DRAW, 1, 2, 1), UNIT]),
+    (26, [(FILL, 1, 2, 2), (DRAW, 1, 2, 2), UNIT]),
+    # No loop: two transitions, two subnets, two places.
+    (0, [UNIT, (DRAW, 0, 2, 3)], [(FILL, 0, 2, 3), UNIT]),
+    (0, [UNIT, (DRAW, 1, 2, 3)], [(FILL, 1, 2, 3), UNIT]),
+    (0, [(DRAW, 0, 2, 3), (FILL, 1, 2, 3), UNIT]),
+    (0, [(FILL, 0, 0, 1), (DRAW, 1, 0, 1)]),
+    (0, [UNIT, (FILL, 0, 0, 1), (DRAW, 0, 2, 3), (FILL, 0, 3, 255)]),
+    # One arc that has another fault too.
+    (12, [UNIT, (DRAW, 0, 2, 1), (FILL, 0, 2, 4)]),
+    (12, [UNIT, (DRAW, 0, 2, 3), (FILL, 0, 2, 0)]),
+    (11, [UNIT, (FILL, 1, 3, 255), (DRAW, 1, 3, 255)]),
+    (13, [UNIT, (DRAW, 0, 2, 1), (FILL, 0, 2, 1), (FILL, 0, 2, 3)]),
+    (13, [UNIT, (FILL, 0, 2, 2), (DRAW, 0, 2, 1), (DRAW, 0, 2, 2)]),
+    # The earlier of two arcs with faults.
+    (13, [UNIT, (DRAW, 0, 2, 1), (DRAW, 0, 2, 1), (FILL, 0, 2, 3)]),
+    (26, [UNIT, (DRAW, 0, 2, 1), (FILL, 0, 2, 3), (DRAW, 0, 2, 1)]),
+    (26, [UNIT, (DRAW, 0, 2, 1), (FILL, 0, 2, 3), (DRAW, 0, 5, 1)]),
+    (10, [UNIT, (DRAW, 0, 2, 1), (DRAW, 0, 5, 1), (FILL, 0, 2, 3)]),
+    (26, [(DRAW, 0, 2, 2), (FILL, 0, 2, 2)]),
+    (14, [(DRAW, 0, 2, 2), (FILL, 0, 2, 1)]),
+    (14, [(DRAW, 0, 2, 2)], [(DRAW, 0, 0, 1), (FILL, 0, 0, 1)]),
+    (26, [UNIT], [UNIT], [(FILL, 0, 2, 2), UNIT, (DRAW, 0, 2, 2)], [(DRAW, 0, 2, 2)]),
+    # Two loops: the first that is complete, of those above the capacity.
+    (26, [UNIT, (DRAW, 0, 2, 1), (DRAW, 0, 1, 1), (FILL, 0, 1, 2), (FILL, 0, 2, 3)]),
+    (26, [UNIT, (DRAW, 0, 2, 1), (DRAW, 0, 1, 1), (FILL, 0, 1, 1), (FILL, 0, 2, 3)]),
+    (26, [UNIT, (DRAW, 0, 2, 1), (DRAW, 0, 1, 1), (FILL, 0, 2, 2), (FILL, 0, 1, 2)]),
+    (0, [UNIT, (DRAW, 0, 2, 1), (DRAW, 0, 1, 1), (FILL, 0, 2, 2), (FILL, 0, 1, 1)]),
+]
+
+
+def inner_loops():
+    """Loops in the child: at an in place, where both directions are free to it, and with the parent at an in-out place."""
+    return [
+        (0, looping([UNIT], inner=[(DRAW, 1, 0, 1), (FILL, 1, 3, 127), (DRAW, 1, 3, 128)])),
+        (26, looping([UNIT], inner=[(DRAW, 1, 0, 1), (FILL, 1, 3, 128), (DRAW, 1, 3, 128)])),
+        (0, looping([UNIT, (DRAW, 1, 2, 3)], inner=[(FILL, 1, 2, 3), (DRAW, 1, 0, 1)])),
+    ]
+
+
+def far_loop(weight):
+    """A loop of the first and the last of 31 arcs, at a place of capacity 2."""
+    arcs = [(DRAW, 0, 0, 1), *((DRAW, 0, place, 1) for place in range(1, 30)), (FILL, 0, 0, weight)]
+    return cards.tables(1, (0, 0, [(NORMAL, 2, 0), *29 * [(NORMAL, 1, 0)]], [(0, arcs)]))
 
 
 # Alike subnets
@@ -179,7 +276,7 @@ PAIR = [
     (16, arc(7, FILL, 2, 1, 1)),
     (16, arc(7, DRAW, 2, 1, 2)),
     (16, arc(8, DRAW, 2, 0, 1)),
-    (16, arc(9, FILL, 6, 0, 1)),            # the other child
+    (26, arc(9, FILL, 6, 0, 1)),            # the other child, from which arc 10 draws
     (16, arc(9, FILL, 2, 0, 1)),            # the own place of that number
     (16, arc(4, FILL, 1, 0, 1)),
     (16, arc(10, DRAW, 2, 0, 1)),
@@ -237,7 +334,8 @@ def larger_families():
         (16, [gate(7, 3, 7), gate(8, 4, 8)]),
         (0, [third, gate(8, 7, 5), hand(9, 7)]),            # a third drive
         (10, [third, gate(8, 7, 5), hand(9, 1)]),
-        (16, [(0, 3, DRIVE, strokes(7, 8, 8)), gate(8, 7, 5)]),
+        (16, [(0, 3, DRIVE, strokes(7, 8, 7)), gate(8, 7, 5)]),
+        (26, [(0, 3, DRIVE, strokes(7, 8, 8)), gate(8, 7, 5)]),
         (16, [third, gate(8, 7, 5), gate(9, 7, 6)]),
         (16, [third, hand(8, 7), gate(9, 7, 5)]),
         (16, [(0, 3, DRIVE, strokes(7, 9, 8)), hand(8, 7), gate(9, 7, 5)]),
@@ -256,18 +354,23 @@ def crowd(kind):
 
 
 def longest_card():
-    """A chain of 32 subnets, 255 places and 255 transitions, these with all arcs there can be."""
+    """A chain of 32 subnets, 255 places and 255 transitions, these with all arcs there can be.
+
+    Place 0 of each odd subnet has capacity 1, so that it and its parent see just one such place. The others have 2, the weights of a loop.
+    """
     sizes = 31 * [8] + [7, 0]
 
+    def capacity(number, place):
+        return 1 if number % 2 and place == 0 else 2
+
     def ends(number):
-        return [(direction, number, place, 1)
-                for direction in (DRAW, FILL) for place in range(sizes[number])]
+        return [(direction, number, place, 1) for direction in (DRAW, FILL) for place in range(sizes[number])
+                if direction == DRAW or capacity(number, place) == 2]
 
     rows = []
     for number in range(32):
-        place = (IN_OUT if number else NORMAL, 1, 0)
-        arcs = (ends(number) + ends(number + 1))[:31]
-        rows.append((max(number - 1, 0), 0, sizes[number] * [place], sizes[number] * [(0, arcs)]))
+        places = [(IN_OUT if number else NORMAL, capacity(number, place), 0) for place in range(sizes[number])]
+        rows.append((max(number - 1, 0), 0, places, sizes[number] * [(0, ends(number) + ends(number + 1))]))
     return cards.tables(1, *rows)
 
 
@@ -275,13 +378,16 @@ def numbered():
     """Every card with its number."""
     longest = longest_card()
     yield from ((number, changed(tree(), *changes)) for number, *changes in ARCS)
+    yield from weighed_loops()
+    yield from ((number, looping(*transitions)) for number, *transitions in LOOPS)
     yield from ((number, changed(pair(), *changes)) for number, *changes in PAIR)
     yield from uneven_pairs() + larger_families()
     yield from [
-        (10, no_subnet()),
+        (10, no_subnet()), (0, far_loop(1)), (26, far_loop(2)), *inner_loops(),
         (0, samples.twins((3, 4), (5, 6))), (16, samples.twins((3, 4), (6, 5))),
+        (0, samples.twins((4,), (6,))), (16, samples.twins((4,), (5,))),
         (0, crowd(IN_OUT)), (16, crowd(OUT)), (15, crowd(NORMAL)),
-        (0, longest), (12, changed(longest, field("arcs", len(longest.arcs) - 1, "weight", 0))),
+        (0, longest), (26, changed(longest, field("arcs", len(longest.arcs) - 1, "weight", 2))),
     ]
 
 
@@ -307,8 +413,7 @@ def random_drawing(rng, type_, children):
     transitions = []
     for _ in range(rng.randint(1, 2)):
         chosen = [ends[0], *rng.sample(ends[1:], rng.randint(0, min(4, len(ends) - 1)))]
-        rng.shuffle(chosen)
-        transitions.append([(*end[:3], rng.randint(1, end[3])) for end in chosen])
+        transitions.append(samples.random_arcs(rng, chosen))
     return Drawing(type_, children, places, transitions)
 
 

@@ -12,6 +12,7 @@ MARKING, TRANSFER, DEGREE, PLACES, TRANSITIONS, SIGNALS = range(6)
 IDLE = 65535
 GUARD = b"\xa5"
 LONGEST = 300   # numbers of a call
+FULL_START = "full loop start"      # how a call is counted in which a loop starts whose weights add to just the capacity
 
 
 def led(kind, data):
@@ -32,6 +33,11 @@ def named(row, reply, before, after):
     if row or answer not in ("ok", 22):
         return answer
     return f"empty {answer}" if before == after else "empty start"
+
+
+def starts(transitions, reply, before, after):
+    """Whether a call is ok, and one of these transitions is idle before it and carries after it."""
+    return reply[0] == "ok" and any(before.progress[number] is None and after.progress[number] is not None for number in transitions)
 
 
 class Lent:

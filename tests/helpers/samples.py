@@ -1,21 +1,73 @@
 """Cards and rows for the tests: random ones, sound and damaged, large ones, and the paper's own."""
 
 from dataclasses import replace
+from typing import NamedTuple
 
 from cards import DRAW, FILL, IN_OUT, NORMAL, change, empty_row, encode, encode_row, encode_rows, fits, tables, widths
-from net import MOST
+from net import MOST, starts
 
 # The directions that a parent may use at a place, by kind.
 PARENT_MAY = ((), (FILL,), (DRAW,), (DRAW, FILL))
 
 
-def random_transition(rng, number, ends, places, signals):
-    """An arc at the capacity-1 place 0 of its subnet, then others that are allowed."""
-    chosen = {(rng.randrange(2), number, 0)}
-    chosen.update(rng.sample(ends, rng.randint(0, min(3, len(ends)))))
-    arcs = [(*end, rng.randint(1, places[end[1]][end[2]][1])) for end in chosen]
+class Loop(NamedTuple):
+    """Two arcs of a transition at one place, all by their numbers on the card; the sum of their weights, and the place's capacity."""
+    transition: int
+    arcs: tuple
+    weight: int
+    capacity: int
+
+
+def loops(card):
+    """The loops of tables whose arcs are at places that are there."""
+    first_place = starts(row.places for row in card.subnets)
+    first_arc = starts(row.arcs for row in card.transitions)
+    found = []
+    for transition in range(len(card.transitions)):
+        earlier = {}
+        for number in range(first_arc[transition], first_arc[transition + 1]):
+            direction, subnet, place, weight = card.arcs[number]
+            earlier[direction, subnet, place] = number
+            other = earlier.get((1 - direction, subnet, place))
+            if other is not None:
+                capacity = card.places[first_place[subnet] + place].capacity
+                found.append(Loop(transition, (other, number), card.arcs[other].weight + weight, capacity))
+    return found
+
+
+def full_loops(card):
+    """The transitions that have a loop whose weights add to just the capacity of its place."""
+    return {loop.transition for loop in loops(card) if loop.weight == loop.capacity}
+
+
+def loop_weights(rng, capacity):
+    """The weights of a loop: they add to the capacity, and in half of the cases to any number up to it."""
+    total = rng.choice((capacity, rng.randint(2, capacity)))
+    weight = rng.randint(1, total - 1)
+    return weight, total - weight
+
+
+def random_arcs(rng, ends):
+    """Arcs at different ends (direction, subnet, place, capacity), in a random order. Two at one place get the weights of a loop; at
+    capacity 1 the second of them is left out."""
+    directions = {}
+    for direction, *place in ends:
+        directions.setdefault(tuple(place), []).append(direction)
+    arcs = []
+    for (*place, capacity), both in directions.items():
+        weights = loop_weights(rng, capacity) if len(both) == 2 and capacity > 1 else [rng.randint(1, capacity)]
+        arcs += [(direction, *place, weight) for direction, weight in zip(both, weights)]
     rng.shuffle(arcs)
-    return (rng.randrange(signals), arcs)
+    return arcs
+
+
+def random_transition(rng, number, ends, signals):
+    """An arc at the capacity-1 place 0 of its subnet, then others that are allowed; in one of four a loop with the last of them."""
+    chosen = [(rng.randrange(2), number, 0, 1), *rng.sample(ends, rng.randint(0, min(3, len(ends))))]
+    if rng.randrange(4) == 0:
+        direction, *place = chosen[-1]
+        chosen += [end for end in ends if end == (1 - direction, *place)]
+    return (rng.randrange(signals), random_arcs(rng, list(dict.fromkeys(chosen))))
 
 
 def random_card(rng, most_subnets=5, most_rows=4, most_signals=4):
@@ -33,12 +85,12 @@ def random_card(rng, most_subnets=5, most_rows=4, most_signals=4):
     signals = rng.randint(1, most_signals)
     rows = []
     for number in range(subnets):
-        ends = [(direction, owner, local)
+        ends = [(direction, owner, local, place[1])
                 for owner in range(subnets) for local, place in enumerate(places[owner])
                 for direction in (DRAW, FILL)
                 if owner == number or owner != 0 and parents[owner] == number
                 and direction in PARENT_MAY[place[0]]]
-        transitions = [random_transition(rng, number, ends, places, signals)
+        transitions = [random_transition(rng, number, ends, signals)
                        for _ in range(rng.randint(1, most_rows))]
         rows.append((parents[number], 0, places[number], transitions))
     return tables(signals, *rows)
@@ -62,8 +114,17 @@ def twin_card(rng):
     return tables(2, main, drive(1, 3), drive(2, 4), inner(3, 1), inner(4, 2))
 
 
+def raised(rng, card, loop):
+    """Tables with a loop's weights one above the capacity together."""
+    number, other = rng.sample(loop.arcs, 2)
+    return change(card, "arcs", number, weight=loop.capacity + 1 - card.arcs[other].weight)
+
+
 def damaged(rng, card):
     """Tables with one field changed, of those that have bits, so that they may be refused."""
+    found = loops(card)
+    if found and rng.randrange(4) == 0:
+        return raised(rng, card, rng.choice(found))
     table = rng.choice(("header", "subnets", "places", "transitions", "arcs"))
     if table == "header":
         version, signals = rng.choice(((0, 1), (1, 0), (2, 1), (1, 1)))
@@ -121,17 +182,21 @@ def full_card(*subnets):
     """An accepted card of subnets (parent, type, places), with as many transitions as places.
 
     Each transition has as many arcs as the places that its subnet sees allow, 31 at most. The last is
-    at the subnet's place 0. Only places 0 have capacity 1.
+    at the subnet's place 0. Only places 0 have capacity 1; elsewhere the two directions are a loop,
+    whose weights add to the capacity.
     """
     def capacity(local):
         return 2 + 37 * local % 254 if local else 1
 
+    def weight(direction, local):
+        return (capacity(local) + (direction == DRAW)) // 2
+
     def transition(number, turn):
         owners = [number] + [child for child, row in enumerate(subnets) if child and row[0] == number]
         ends = [(direction, owner, local) for owner in owners for local in range(subnets[owner][2])
-                for direction in (DRAW, FILL)][1:]
+                for direction in ((DRAW, FILL) if local else (DRAW,))][1:]
         chosen = (ends[turn:] + ends[:turn])[:30] + [(DRAW, number, 0)]
-        return (turn % 63, [(*end, capacity(end[2])) for end in chosen])
+        return (turn % 63, [(*end, weight(end[0], end[2])) for end in chosen])
 
     rows = []
     for number, (parent, type_, count) in enumerate(subnets):
@@ -309,4 +374,24 @@ def telling_cards():
         ("the k-th children of both", twins((3, 4), (5, 6)), [(700,)]),
         ("not the other children", twins((3, 4), (6, 5)), []),
         ("a grandchild is not seen", grandchild, []),
+        ("a loop above the capacity", bench_card((FILL, 0, 0, 1)), []),
+        *(entry[:3] for entry in loop_runs()),
+    ]
+
+
+def loop_runs():
+    """Cards with rows for loops whose weights add to just the capacity of their place, and the lines that a run prints, worked out by hand."""
+    even = one_subnet(2, [(2, 1), (1, 1), (1, 0)],
+                      [(0, [(DRAW, 0, 1), (DRAW, 1, 1), (FILL, 0, 1)]), (1, [(DRAW, 0, 1), (FILL, 2, 1)])])
+    uneven = one_subnet(2, [(3, 3), (1, 0), (1, 1)],
+                        [(0, [(FILL, 0, 1), (DRAW, 0, 2), (FILL, 1, 1)]), (1, [(DRAW, 0, 1), (DRAW, 2, 1)])])
+    child = tables(2, (0, 0, [(NORMAL, 1, 1)], [(0, [(FILL, 1, 0, 2), (DRAW, 0, 0, 1), (DRAW, 1, 0, 1)])]),
+                   (0, 0, [(IN_OUT, 3, 1), (NORMAL, 1, 0)], [(1, [(DRAW, 1, 0, 1), (FILL, 1, 1, 1)])]))
+    return [
+        ("no taker starts while a loop of the whole capacity carries", even, [(400, 0), (400, 500), (1000, 500), (), (1000, 900)],
+         "1 ok 1000 600 0 | 400 -\n2 ok 1000 600 0 | 400 -\n3 ok 1000 0 0 | - -\n4 ok 1000 0 0 | - 0\n5 ok 600 0 400 | - 400\n"),
+        ("a loop of 2 and 1 starts with two tokens of three", uneven, [(500, 0), (500, 1000), (700, 1000), (900, 0), (1000, 0)],
+         "1 ok 3000 0 1000 | - -\n2 ok 2000 0 0 | - -\n3 ok 1800 200 0 | 200 -\n4 ok 1600 400 0 | 400 -\n5 ok 1500 500 0 | 500 -\n"),
+        ("a loop of 1 and 2 at a child's place", child, [(300, 500), (300, 0), (600, 500), (1000, 500), (1000, 900)],
+         "1 no 22 1\n2 ok 700 1300 0 | 300 -\n3 ok 400 1600 0 | 600 -\n4 ok 0 2000 0 | - 0\n5 ok 0 1600 400 | - 400\n"),
     ]

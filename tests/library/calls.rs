@@ -145,6 +145,20 @@ impl Tests {
         self.refused("subnet row, 1023", fresh_bench(), |state| subnet_row(&BENCH, state, &[1, 0], &[1023, 1023]), 21, 0);
     }
 
+    /// Bench card A with its second arc back to place (0,0): every call that tests a card refuses it there, before all else.
+    fn loops(&mut self) {
+        let mut card = BENCH;
+        card[12] = 0; // bit 98, the last of the arc's subnet
+        let mut tables = bench_tables();
+        tables.arcs[5] = 0;
+        self.refused("check, a loop", [7; 4], |counts| check(&card, counts), 26, 93);
+        self.refused("flatten, a loop", [7; 1], |out| flatten(&card, out), 26, 93);
+        self.refused("write, a loop", [7; 1], |out| write(&tables, out), 26, 93);
+        self.refused("fresh, a loop", blank_state(4, 2, 2), |state| fresh(&card, state), 26, 93);
+        self.refused("flat row, a loop", blank_state(3, 2, 2), |state| flat_row(&card, state, &[0]), 26, 93);
+        self.refused("subnet row, a loop", blank_state(3, 2, 2), |state| subnet_row(&card, state, &[1, 1], &[0]), 26, 93);
+    }
+
     /// Tables to a card, to its counts, to the flat card, and that one again.
     fn round_trip(&mut self) {
         let mut card = [0xa5; 64];
@@ -171,6 +185,7 @@ fn main() {
     tests.empty_rows("flat row", |state, row| flat_row(&BENCH, state, row));
     tests.empty_rows("subnet row", |state, row| subnet_row(&BENCH, state, &[1, 0], row));
     tests.refusals();
+    tests.loops();
     tests.round_trip();
     println!("{} passed, {} failed", tests.passed, tests.failed);
     std::process::exit(if tests.failed > 0 { 1 } else { 0 });

@@ -12,6 +12,10 @@ from cards import (DEGREE_BITS, DRAW, EMPTY_MARK, FILL, IN, IN_OUT, NORMAL, OUT,
 THOUSAND = 1000
 MOST = 255
 
+# The numbers of a refused card by pass. 26 is CR 2's, straight after 13.
+PASS_ONE = tuple(range(1, 10))
+PASS_TWO = (10, 11, 12, 13, 26, 14, 15, 16)
+
 
 class Refusal(NamedTuple):
     """Why a card is turned back: number and bit position."""
@@ -56,7 +60,7 @@ class BitReader:
 
 
 def read_card(data):
-    """Why a card is turned back, 1 to 9. A Card, or a Refusal."""
+    """Why a card is turned back, PASS_ONE. A Card, or a Refusal."""
     try:
         return read_fields(BitReader(data))
     except CardRefused as refused:
@@ -132,7 +136,7 @@ def read_fill(reader):
 
 
 def check_hierarchy(card):
-    """Why a card is turned back, 10 to 16. None, or a Refusal."""
+    """Why a card is turned back, PASS_TWO. None, or a Refusal."""
     return check_arcs(card) or check_interfaces(card) or check_types(card)
 
 
@@ -142,7 +146,7 @@ def check_arcs(card):
     arc = 0
     for subnet, row in enumerate(card.subnets):
         for _ in range(row.transitions):
-            earlier = set()
+            earlier = {}
             single = False
             for _ in range(card.transitions[transition].arcs):
                 number, place = check_arc(card, first_place, subnet, card.arcs[arc], earlier)
@@ -157,7 +161,7 @@ def check_arcs(card):
 
 
 def check_arc(card, first_place, subnet, arc, earlier):
-    """10 to 13 in turn. The number or None, and the arc's place."""
+    """10 to 13 and 26 in turn, beside the weights of the transition's earlier arcs. The number or None, and the arc's place."""
     place = seen_place(card, first_place, subnet, arc)
     if place is None:
         return 10, None
@@ -168,8 +172,16 @@ def check_arc(card, first_place, subnet, arc, earlier):
     end = (arc.direction, arc.subnet, arc.place)
     if end in earlier:
         return 13, place
-    earlier.add(end)
+    earlier[end] = arc.weight
+    if never_starts(arc, place.capacity, earlier):
+        return 26, place
     return None, place
+
+
+def never_starts(arc, capacity, earlier):
+    """CR 2: an earlier arc has the other direction at the same place, and the two weights together are above its capacity."""
+    back = (FILL if arc.direction == DRAW else DRAW, arc.subnet, arc.place)
+    return back in earlier and earlier[back] + arc.weight > capacity
 
 
 def seen_place(card, first_place, subnet, arc):
@@ -271,7 +283,7 @@ def check(data):
 
 
 def write_card(tables, buffer_length):
-    """17 first, then 2 to 16 as for the card it would write, 24 last."""
+    """17 first, then the card's own as for the card it would write, 24 last."""
     if not fits(tables):
         return ("refused", 17, 0)
     data = encode(tables)
@@ -308,7 +320,7 @@ def flatten(card):
 
 
 def flatten_call(data, buffer_length):
-    """Flattening into a lent buffer: 1 to 16, and 24 last."""
+    """Flattening into a lent buffer: the card's own, and 24 last."""
     card = accept(data)
     if isinstance(card, Refusal):
         return ("refused", card.number, card.bit)

@@ -37,7 +37,7 @@ class Fields(unittest.TestCase):
             self.assertEqual([field.bit for field in found[1:]], [field.bit + field.width for field in found[:-1]])
 
     def test_refused_cards(self):
-        """Where a refusal's bit is the first of a field, that field is in the row shown; a fault of 10 to 16 is that of the row."""
+        """Where a refusal's bit is the first of a field, that field is in the row shown; a fault of pass two is that of the row."""
         rng = random.Random(2)
         numbers = set()
         for _ in range(3000):
@@ -46,8 +46,8 @@ class Fields(unittest.TestCase):
             if answer == "refused":
                 numbers.add(number)
                 row = cards.row_at(data, bit)
-                self.assertIn(bit, [row[0].bit] if number >= 10 else [field.bit for field in row] if number != 9 else [bit])
-        self.assertTrue({1, 4, 7, 8, 9, 10, 12, 15} <= numbers, numbers)
+                self.assertIn(bit, [row[0].bit] if number in net.PASS_TWO else [field.bit for field in row] if number != 9 else [bit])
+        self.assertTrue({1, 4, 7, 8, 9, 10, 12, 15, 26} <= numbers, numbers)
 
 
 class Misfits(unittest.TestCase):

@@ -1,5 +1,6 @@
 """Cases of the paper and further ones, each expectation worked out by hand."""
 
+import itertools
 import random
 import unittest
 from dataclasses import replace
@@ -8,11 +9,16 @@ import cards
 import net
 from cards import DRAW, FILL, IN, IN_OUT, NORMAL, OUT, Subnet, change, tables, with_field
 from net import State, SubnetState
-from samples import empty_or, file_bytes, random_card, random_row
+from samples import empty_or, file_bytes, loop_runs, random_card, random_row
 
 
 def card_bytes(signals, *subnets):
     return cards.encode(tables(signals, *subnets))
+
+
+def row_bit(data, name):
+    """The first bit of a row of a card, by its name in tools/cards.py."""
+    return next(field.bit for field in cards.fields(data) if field.row == name)
 
 
 TABLES_A = tables(
@@ -387,6 +393,168 @@ class PassTwo(Cases):
         self.arc_refused(card, 3, 12, weight=2)
 
 
+UNIT = (DRAW, 0, 1, 1)      # at a place of capacity 1, which a transition needs
+
+
+def looped(capacity, *transitions):
+    """Place 0 of this capacity, place 1 of capacity 1, and transitions with these arcs."""
+    return card_bytes(1, (0, 0, [(NORMAL, capacity, 0), (NORMAL, 1, 0)],
+                          [(0, list(arcs)) for arcs in transitions]))
+
+
+def pair(draw, fill, subnet=0, place=0):
+    """The arcs of a loop, of these weights."""
+    return [(DRAW, subnet, place, draw), (FILL, subnet, place, fill)]
+
+
+class Loops(Cases):
+    """Refusal 26, of CR 2."""
+
+    def refused_at(self, data, number, name):
+        self.refused(data, number, row_bit(data, name))
+
+    def test_weights(self):
+        for capacity, draw, fill, number in [
+                (1, 1, 1, 26), (2, 1, 1, 0), (2, 2, 1, 26), (3, 2, 2, 26), (3, 2, 1, 0), (3, 1, 2, 0),
+                (3, 1, 1, 0), (3, 3, 1, 26), (3, 1, 3, 26), (255, 128, 127, 0), (255, 254, 1, 0),
+                (255, 128, 128, 26), (255, 255, 1, 26), (255, 255, 255, 26)]:
+            for arcs in itertools.permutations(pair(draw, fill)):
+                data = looped(capacity, [*arcs, UNIT])
+                if number:
+                    self.refused_at(data, 26, "transition 0, arc 1")
+                else:
+                    self.accepted(data, 1, 2, 1)
+
+    def test_bit(self):
+        # Arcs start at 16 + 26 + 36 + 11 = 89, 111 and 133.
+        self.refused(looped(2, [*pair(2, 1), UNIT]), 26, 111)
+        self.refused(looped(2, [UNIT, *pair(2, 1)]), 26, 133)
+        # Bench card A's second arc, filling (0,0) again.
+        self.refused(with_field(CARD_A, 94, 5, 0), 26, 93)
+
+    def test_refused_are_those_that_never_start(self):
+        """The two enabling conditions of document 000, tried on markings in quarters of a token."""
+        for capacity in range(1, 5):
+            for draw, fill in itertools.product(range(1, capacity + 1), repeat=2):
+                data = looped(capacity, [*pair(draw, fill), UNIT])
+                loaded = net.flat_net(net.read_card(data))
+                starting = [m for m in range(0, 1000 * capacity + 1, 250)
+                            if net.is_candidate(loaded, State((m, 1000), (None,), (0,)),
+                                                loaded.transitions[0], (1,), (0, 0), (0, 0))]
+                self.assertEqual(net.check(data)[0] == "accepted", starting != [])
+
+    def test_arcs_between(self):
+        draw, fill = pair(2, 2)
+        between = [(FILL, 0, place, 1) for place in range(1, 30)]
+        places = [(NORMAL, 3, 0)] + 29 * [(NORMAL, 1, 0)]
+        for first, second in ((draw, fill), (fill, draw)):
+            data = card_bytes(1, (0, 0, places, [(0, [first, *between, second])]))
+            self.refused_at(data, 26, "transition 0, arc 30")
+            data = card_bytes(1, (0, 0, places, [(0, [first, *between, second[:3] + (1,)])]))
+            self.accepted(data, 1, 30, 1)
+
+    def test_two_loops(self):
+        # The first that is complete and above the capacity, not the one that begins first.
+        def card(outer, inner):
+            return card_bytes(1, (0, 0, [(NORMAL, 3, 0), (NORMAL, 1, 0), (NORMAL, 2, 0)],
+                                  [(0, [UNIT, (DRAW, 0, 0, 1), (DRAW, 0, 2, 1), (FILL, 0, 2, inner),
+                                        (FILL, 0, 0, outer)])]))
+
+        self.refused_at(card(3, 2), 26, "transition 0, arc 3")
+        self.refused_at(card(3, 1), 26, "transition 0, arc 4")
+        self.accepted(card(2, 1), 1, 3, 1)
+
+    def test_no_loop(self):
+        # Two transitions with one direction each.
+        self.accepted(looped(2, [UNIT, (DRAW, 0, 0, 2)], [(FILL, 0, 0, 2), UNIT]), 1, 2, 2)
+        self.accepted(looped(1, [(DRAW, 0, 0, 1)], [(FILL, 0, 0, 1)]), 1, 2, 2)
+        # One number of a place in two subnets.
+        for arcs in ([(DRAW, 0, 0, 1), (FILL, 1, 0, 1)], [(FILL, 0, 0, 1), (DRAW, 1, 0, 1)]):
+            self.accepted(card_bytes(1, (0, 0, [(NORMAL, 1, 0)], [(0, arcs)]),
+                                     (0, 0, [(IN_OUT, 1, 0)], [(0, [(DRAW, 1, 0, 1)])])), 2, 2, 2)
+
+    def family(self, arcs, inner=((DRAW, 1, 0, 1),), kind=IN_OUT):
+        """Subnet 0 with these arcs, and its child with places of capacity 1 and 3."""
+        return card_bytes(1, (0, 0, [(NORMAL, 1, 0), (NORMAL, 1, 0)], [(0, list(arcs))]),
+                          (0, 0, [(IN_OUT, 1, 0), (kind, 3, 0)], [(0, list(inner))]))
+
+    def test_at_a_child_place(self):
+        for arcs in itertools.permutations(pair(1, 1, 1, 0)):
+            self.refused_at(self.family([UNIT, *arcs]), 26, "transition 0, arc 2")
+        for arcs in itertools.permutations(pair(2, 2, 1, 1)):
+            self.refused_at(self.family([UNIT, *arcs]), 26, "transition 0, arc 2")
+        for arcs in itertools.permutations(pair(1, 2, 1, 1)):
+            self.accepted(self.family([UNIT, *arcs]), 2, 4, 2)
+
+    def test_in_a_child(self):
+        # Within the owner both directions are free.
+        for kind in (NORMAL, IN, OUT, IN_OUT):
+            inner = [(DRAW, 1, 0, 1), *pair(2, 1, 1, 1)]
+            self.accepted(self.family([UNIT], inner, kind), 2, 4, 2)
+            inner = [(DRAW, 1, 0, 1), *pair(2, 2, 1, 1)]
+            self.refused_at(self.family([UNIT], inner, kind), 26, "transition 1, arc 2")
+        # The parent and the child each with one direction.
+        self.accepted(self.family([UNIT, (DRAW, 1, 1, 3)], [(DRAW, 1, 0, 1), (FILL, 1, 1, 3)]), 2, 4, 2)
+
+    def test_10_to_13_come_first_at_an_arc(self):
+        for weight in (0, 4):
+            self.refused_at(looped(3, [UNIT, *pair(1, weight)]), 12, "transition 0, arc 2")
+        data = self.family([UNIT, *pair(2, 2, 1, 1)[::-1]], kind=IN)
+        self.refused_at(data, 11, "transition 0, arc 2")
+        self.refused_at(self.family([UNIT, *pair(2, 2, 1, 1)], kind=NORMAL), 10, "transition 0, arc 1")
+        # The third arc repeats the second, and is a loop with the first.
+        self.refused_at(looped(3, [*pair(1, 2), (FILL, 0, 0, 3), UNIT]), 13, "transition 0, arc 2")
+
+    def test_the_earlier_arc_counts(self):
+        draw, fill = pair(2, 2)
+        self.refused_at(looped(3, [draw, draw, fill, UNIT]), 13, "transition 0, arc 1")
+        self.refused_at(looped(3, [draw, fill, draw, UNIT]), 26, "transition 0, arc 1")
+        self.refused_at(looped(3, [draw, fill, (DRAW, 0, 2, 1)]), 26, "transition 0, arc 1")
+        self.refused_at(looped(3, [draw, (DRAW, 0, 2, 1), fill]), 10, "transition 0, arc 1")
+        self.refused_at(looped(3, [UNIT], [draw, fill], [(DRAW, 0, 2, 1)]), 26, "transition 1, arc 1")
+
+    def test_14(self):
+        # After the arcs of its transition, before those of the next one.
+        self.refused_at(looped(3, pair(2, 2)), 26, "transition 0, arc 1")
+        self.refused_at(looped(3, pair(2, 1)), 14, "transition 0")
+        self.refused_at(looped(3, [(DRAW, 0, 0, 1)], pair(2, 2)), 14, "transition 0")
+        self.refused_at(looped(3, [UNIT], pair(2, 2), [(DRAW, 0, 0, 1)]), 26, "transition 1, arc 1")
+
+    def test_15_and_16_come_later(self):
+        # Subnet 1 has no interface place, subnet 2 is unlike it, and the loop is in subnet 2.
+        def card(kind, *arcs):
+            return card_bytes(1, (0, 0, [(NORMAL, 1, 0)], [(0, [(DRAW, 0, 0, 1)])]),
+                              (0, 3, [(kind, 1, 0)], [(0, [(DRAW, 1, 0, 1)])]),
+                              (0, 3, [(IN, 1, 0)], [(0, arcs)]))
+
+        for kind, number, subnet in ((NORMAL, 15, "subnet 1"), (IN, 16, "subnet 2")):
+            self.refused_at(card(kind, *pair(1, 1, 2)), 26, "transition 2, arc 1")
+            self.refused_at(card(kind, *pair(1, 1, 2)[1:]), number, subnet)
+
+    def test_pass_one_comes_first(self):
+        data = looped(1, pair(1, 1))
+        self.refused_at(data, 26, "transition 0, arc 1")
+        self.refused(data + b"\0", 9, 8 * len(data))
+
+    def test_every_call(self):
+        # Before 24; before 25, 23 and 20.
+        data = with_field(CARD_A, 94, 5, 0)
+        state = State((1001, 0, 0), (None, None), (0, 0))
+        self.assertEqual(net.flatten_call(data, 0), ("refused", 26, 93))
+        self.assertEqual(net.flatten_program(data), b"no 26 93\n")
+        self.assertEqual(net.run_program(data, b"\x64\0\0"), b"no 26 93\n")
+        self.assertEqual(net.row_call(data, state, (1, 2, 3)), (("refused", 26, 93), state))
+        split = net.split_state(net.load_subnets(CARD_A), state)
+        self.assertEqual(net.subnet_row_call(data, split, [], (1, 2, 3)), (("refused", 26, 93), split))
+
+    def test_runs(self):
+        for _, card, rows, lines in loop_runs():
+            data = cards.encode(card)
+            self.assertEqual(run(data, rows), lines)
+            both_runners(data, rows)
+            both_runners(net.flatten_program(data), rows)
+
+
 def twins():
     """Two alike subnets 1 and 2 of type 7. The children of 1 are 3 and 5, those of 2 are 4 and 6;
     3 and 4 are of type 8, 5 and 6 of type 9.
@@ -442,8 +610,11 @@ class Types(Cases):
         self.unlike(change(twins(), "arcs", 5, direction=FILL), 2)
         self.unlike(change(twins(), "arcs", 6, weight=1), 2)
         self.unlike(change(twins(), "arcs", 7, place=1), 2)
-        self.unlike(change(twins(), "arcs", 7, subnet=2, place=0), 2)
         self.unlike(change(twins(), "arcs", 7, subnet=6), 2)
+        # The own place of the same number, where both draw from a child's place 0.
+        card = change(change(twins(), "arcs", 4, place=0), "arcs", 8, place=0)
+        self.alike(card)
+        self.unlike(change(card, "arcs", 8, subnet=2), 2)
 
     def test_arc_order(self):
         card = twins()
@@ -617,7 +788,7 @@ class Writing(Cases):
         self.writes(tables(1, *[leaf] * 33), ("refused", 3, 4))
         self.writes(tables(1), ("refused", 3, 4))
 
-    def test_2_to_16(self):
+    def test_numbers_of_a_card(self):
         for number, bit, card in [
                 (2, 0, tables(1, version=2)),
                 (3, 10, tables(0, *[(0, 0, [(NORMAL, 1, 0)], [(0, [(DRAW, 0, 0, 1)])])])),
@@ -631,6 +802,7 @@ class Writing(Cases):
                 (11, 93, change(TABLES_A, "arcs", 1, direction=DRAW)),
                 (12, 93, change(TABLES_A, "arcs", 1, weight=2)),
                 (13, 93, change(TABLES_A, "arcs", 1, direction=DRAW, subnet=0)),
+                (26, 93, change(TABLES_A, "arcs", 1, subnet=0)),
                 (14, 177, change(TABLES_A, "places", 1, capacity=2)),
                 (15, 16 + 77, change(chain(), "places", 1, kind=NORMAL)),
                 (16, TWIN_BITS[2], change(twins(), "arcs", 6, weight=1))]:

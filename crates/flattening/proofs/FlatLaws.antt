@@ -1,7 +1,7 @@
 -- The flat card of a card that meets the conditions meets them, and flattening it changes nothing. Assumes nothing.
 use Prim.Native.Nat.{ℕ, suc, _+_, _-_, _≤_, _<_}
 use mathlib.Core.Path.{_≡_, refl, sym, ap, _∙_}
-use mathlib.Core.Logic.{inl, inr}
+use mathlib.Core.Logic.{_≢_, inl, inr}
 use mathlib.Core.List.{List, [], _∷_, map}
 use native.Mathlib.Omega.{arith}
 use native.Mathlib.Nat.{zero-add}
@@ -11,7 +11,7 @@ use Rattle.card.specs.Card.{Place, Arc, Card, subnetAt, placeAt, transitionAt, 
 use Rattle.card.specs.Writing.{encode}
 use Rattle.card.specs.Wellformed.{SubnetRow, PlaceRow, ArcRow, Rows}
 use Rattle.card.proofs.Sums.{sum-owner, sum-below, sum-unique, map-length, all-map, all-of, all-at}
-use Rattle.hierarchy.specs.Conditions.{IsPlace, Sees, Weighted, Repeats, TransitionConditions, Conditions, Meets}
+use Rattle.hierarchy.specs.Conditions.{IsPlace, Sees, Weighted, Repeats, SelfLoop, TransitionConditions, Conditions, Meets}
 use Rattle.hierarchy.specs.Judgement.{accepted, judge}
 use Rattle.hierarchy.proofs.Accepted.{accepted-meets, meets-accepted}
 use Rattle.flattening.specs.Flattening.{flatPlaceRow, flatArc, flatten, SameNet}
@@ -98,7 +98,7 @@ module _ (c : Card) (m : Meets c) where
     pub below : subnet < S
     pub sound : TransitionConditions c subnet t
 
-  home : (t : ℕ) → t < length (c .transitions) → Home t
+  pub home : (t : ℕ) → t < length (c .transitions) → Home t
   unfolding firstTransition
   home t l =
       let o = sum-owner S (λ r. (subnetAt c r) .transitions) t (omega (arith, rows .transitionCount)) in
@@ -118,18 +118,31 @@ module _ (c : Card) (m : Meets c) where
     flat-weighted : (j : ℕ) → j < (transitionAt c t) .arcs → Weighted (flatten c) (arcAt (flatten c) t j)
     flat-weighted j l =
         let w = h .sound .weighted j l in
-        let e : (arcAt (flatten c) t j) .weight ≡ (arcAt c t j) .weight = rw (arc-flat c t j) in
-        record { positive = omega (arith, w .positive); fits = omega (arith, w .fits, flat-capacity j) }
+        record { positive = omega (arith, w .positive, net-flat c .weights t j); fits = omega (arith, w .fits, flat-capacity j, net-flat c .weights t j) }
+
+    -- two arcs at one place of the flat card are at one place of the card
+    flat-met : (g j : ℕ) → g < (transitionAt c t) .arcs → j < (transitionAt c t) .arcs → (arcAt (flatten c) t g) .place ≡ (arcAt (flatten c) t j) .place
+        → ((arcAt c t g) .subnet ≡ (arcAt c t j) .subnet) × ((arcAt c t g) .place ≡ (arcAt c t j) .place)
+    unfolding firstPlace
+    flat-met g j l k e =
+        let a = there (h .subnet) _ _ (h .below) (h .sound .sees g l) in
+        let b = there (h .subnet) _ _ (h .below) (h .sound .sees j k) in
+        let p : flatPlace c (arcAt c t g) ≡ flatPlace c (arcAt c t j) = rw (arc-flat c t g, arc-flat c t j) at e in
+        sum-unique (λ s. (subnetAt c s) .places) ((arcAt c t g) .subnet) ((arcAt c t j) .subnet) ((arcAt c t g) .place) ((arcAt c t j) .place) (a .1) (b .1) p
 
     flat-single : (g j : ℕ) → g < j → j < (transitionAt c t) .arcs → ¬ Repeats (arcAt (flatten c) t g) (arcAt (flatten c) t j)
-    unfolding firstPlace
     flat-single g j l k r =
-        let a = there (h .subnet) _ _ (h .below) (h .sound .sees g (omega arith)) in
-        let b = there (h .subnet) _ _ (h .below) (h .sound .sees j k) in
+        let u = flat-met g j (omega arith) k (r .place) in
         let d : (arcAt c t g) .direction ≡ (arcAt c t j) .direction = rw (arc-flat c t g, arc-flat c t j) at (r .direction) in
-        let p : flatPlace c (arcAt c t g) ≡ flatPlace c (arcAt c t j) = rw (arc-flat c t g, arc-flat c t j) at (r .place) in
-        let u = sum-unique (λ s. (subnetAt c s) .places) ((arcAt c t g) .subnet) ((arcAt c t j) .subnet) ((arcAt c t g) .place) ((arcAt c t j) .place) (a .1) (b .1) p in
         h .sound .single g j l k (record { direction = d; subnet = u .0; place = u .1 })
+
+    flat-loops : (g j : ℕ) → g < j → j < (transitionAt c t) .arcs → SelfLoop (arcAt (flatten c) t g) (arcAt (flatten c) t j)
+        → (arcAt (flatten c) t g) .weight + (arcAt (flatten c) t j) .weight ≤ (placeOf (flatten c) (arcAt (flatten c) t j)) .capacity
+    flat-loops g j l k r =
+        let u = flat-met g j (omega arith) k (r .place) in
+        let d : (arcAt c t g) .direction ≢ (arcAt c t j) .direction = rw (arc-flat c t g, arc-flat c t j) at (r .directions) in
+        let w = h .sound .loops g j l k (record { directions = d; subnet = u .0; place = u .1 }) in
+        omega (arith, w, flat-capacity j, net-flat c .weights t g, net-flat c .weights t j)
 
     flat-sound : TransitionConditions (flatten c) 0 t
     unfolding flatten
@@ -139,6 +152,7 @@ module _ (c : Card) (m : Meets c) where
           incident = λ j l. record { from = λ e. inl (flat-own j l); to = λ e. inl (flat-own j l) };
           weighted = flat-weighted;
           single = flat-single;
+          loops = flat-loops;
           unit = (h .sound .unit .0, h .sound .unit .1, flat-capacity (h .sound .unit .0) ∙ h .sound .unit .2);
         }
 

@@ -8,8 +8,8 @@ use lib.ListN.{length}
 use Rattle.card.specs.Finite.{sumTo}
 use Rattle.card.proofs.Decides.{Decides, Clears, Some, eq-is, lt-is, le-is, not-is, and-is, or-is, implies-is, except-is, every-is, any-is, someUnless-is, otherwise-is, otherwise-given, firstOf-is}
 use Rattle.card.specs.Card.{Arc, Place, Card, normal, input, output, inOut, draws, fills, subnetAt, placeAt, transitionAt, arcAt, firstPlace, firstTransition, placeOf}
-use Rattle.hierarchy.specs.Conditions.{kindOf, IsPlace, isChild, Child, children, child, Own, OfKind, Sees, Incident, Weighted, Repeats, TransitionConditions, HasInterface, AlikePlaces, AlikeArcs, AlikeTransitions, SameType, Alike, Conditions}
-use Rattle.hierarchy.specs.Check.{seen, takes, directed, weighted, repeats, single, hasUnit, hasInterface, alikePlaces, alikeArcs, alikeTransitions, sameType, alike, likeLower, arcFault, transitionFault, subnetFault, check}
+use Rattle.hierarchy.specs.Conditions.{kindOf, IsPlace, isChild, Child, children, child, Own, OfKind, Sees, Incident, Weighted, Repeats, SelfLoop, TransitionConditions, HasInterface, AlikePlaces, AlikeArcs, AlikeTransitions, SameType, Alike, Conditions}
+use Rattle.hierarchy.specs.Check.{seen, takes, directed, weighted, repeats, single, selfLoop, loopsFit, hasUnit, hasInterface, alikePlaces, alikeArcs, alikeTransitions, sameType, alike, likeLower, arcFault, transitionFault, subnetFault, check}
 
 -- each condition
 child-is : (c : Card) (i j : ℕ) → Decides (isChild c i j) (Child c i j)
@@ -49,6 +49,20 @@ repeats-is a b =
 single-is : (c : Card) (t j : ℕ) → Decides (single c t j) ((i : ℕ) → i < j → ¬ Repeats (arcAt c t i) (arcAt c t j))
 unfolding single
 single-is c t j = every-is j _ _ (λ i. not-is _ _ (repeats-is (arcAt c t i) (arcAt c t j)))
+
+selfLoop-is : (a b : Arc) → Decides (selfLoop a b) (SelfLoop a b)
+selfLoop-is a b =
+    Iff·trans (and-is _ _ _ _ (and-is _ _ _ _ (not-is _ _ (eq-is (a .direction) (b .direction))) (eq-is (a .subnet) (b .subnet))) (eq-is (a .place) (b .place)))
+    (λ h. record { directions = h .0 .0; subnet = h .0 .1; place = h .1 }, λ h. ((h .directions, h .subnet), h .place))
+
+-- arc j is within the capacity together with each lower arc that is a self-loop with it
+abbrev Within : Card → (t j : ℕ) → Type 0
+Within c t j = (h : ℕ) → h < j → SelfLoop (arcAt c t h) (arcAt c t j) → (arcAt c t h) .weight + (arcAt c t j) .weight ≤ (placeOf c (arcAt c t j)) .capacity
+
+pub loopsFit-is : (c : Card) (t j : ℕ) → Decides (loopsFit c t j) (Within c t j)
+unfolding loopsFit
+loopsFit-is c t j =
+    every-is j _ _ (λ h. implies-is _ _ _ _ (selfLoop-is (arcAt c t h) (arcAt c t j)) (le-is ((arcAt c t h) .weight + (arcAt c t j) .weight) ((placeOf c (arcAt c t j)) .capacity)))
 
 unit-is : (c : Card) (t : ℕ) → Decides (hasUnit c t) (Some ((transitionAt c t) .arcs) (λ j. (placeOf c (arcAt c t j)) .capacity ≡ 1))
 unfolding hasUnit
@@ -144,12 +158,13 @@ likeLower-is c s = every-is s _ _ (λ r. implies-is _ _ _ _ (sameType-is c r s) 
 -- each search
 arcFault-is : (c : Card) (i t j : ℕ)
     → Clears (arcFault c i t j) (Sees c i ((arcAt c t j) .subnet) ((arcAt c t j) .place)
-    × (Incident c i (arcAt c t j) × (Weighted c (arcAt c t j) × ((h : ℕ) → h < j → ¬ Repeats (arcAt c t h) (arcAt c t j)))))
+    × (Incident c i (arcAt c t j) × (Weighted c (arcAt c t j) × (((h : ℕ) → h < j → ¬ Repeats (arcAt c t h) (arcAt c t j)) × Within c t j))))
 unfolding arcFault
 arcFault-is c i t j =
     otherwise-given _ _ _ _ (someUnless-is _ _ _ (seen-is c i (arcAt c t j)))
     (λ seen. otherwise-is _ _ _ _ (someUnless-is _ _ _ (directed-is c i (arcAt c t j) seen))
-    (otherwise-is _ _ _ _ (someUnless-is _ _ _ (weighted-is c (arcAt c t j))) (someUnless-is _ _ _ (single-is c t j))))
+    (otherwise-is _ _ _ _ (someUnless-is _ _ _ (weighted-is c (arcAt c t j)))
+    (otherwise-is _ _ _ _ (someUnless-is _ _ _ (single-is c t j)) (someUnless-is _ _ _ (loopsFit-is c t j)))))
 
 transitionFault-is : (c : Card) (i t : ℕ) → Clears (transitionFault c i t) (TransitionConditions c i t)
 unfolding transitionFault
@@ -159,10 +174,11 @@ transitionFault-is c i t =
         sees = λ j l. h .0 j (omega arith) (omega arith) .0;
         incident = λ j l. h .0 j (omega arith) (omega arith) .1 .0;
         weighted = λ j l. h .0 j (omega arith) (omega arith) .1 .1 .0;
-        single = λ g j l m. h .0 j (omega arith) (omega arith) .1 .1 .1 g l;
+        single = λ g j l m. h .0 j (omega arith) (omega arith) .1 .1 .1 .0 g l;
+        loops = λ g j l m. h .0 j (omega arith) (omega arith) .1 .1 .1 .1 g l;
         unit = h .1;
       },
-      λ h. (λ j a b. (h .sees j (omega arith), (h .incident j (omega arith), (h .weighted j (omega arith), λ g l. h .single g j l (omega arith)))), h .unit),
+      λ h. (λ j a b. (h .sees j (omega arith), (h .incident j (omega arith), (h .weighted j (omega arith), (λ g l. h .single g j l (omega arith), λ g l. h .loops g j l (omega arith))))), h .unit),
     )
 
 subnetFault-is : (c : Card) (s : ℕ) → Clears (subnetFault c s) ((t : ℕ) → firstTransition c s ≤ t → t < firstTransition c (suc s) → TransitionConditions c s t)

@@ -16,14 +16,14 @@ use Rattle.card.specs.Format.{size}
 use Rattle.card.specs.Grammar.{transition, arc}
 use Rattle.card.specs.Writing.{transitionBit, arcBit}
 use Rattle.card.specs.Finite.{sumTo, every, any, firstOf}
-use Rattle.hierarchy.proofs.WalkLaws.{every-none, any-one}
+use Rattle.hierarchy.proofs.WalkLaws.{and-no, and-yes, or-yes, any-one}
 use Rattle.hierarchy.proofs.LoadedLaws.{parent-of, places-of, kind-of, capacity-of}
-use Rattle.hierarchy.proofs.FirstLaws.{every-more, any-more, none-at, Walked, walk-start, walk-on, walk-found, walk-end}
+use Rattle.hierarchy.proofs.FirstLaws.{any-more, none-at, Walked, walk-start, walk-on, walk-found, walk-end}
 use Rattle.hierarchy.specs.Conditions.{IsPlace}
 use Rattle.card.specs.Index.{Begins}
 use Rattle.hierarchy.specs.inner.Arcs.{PlacesThere}
-use Rattle.hierarchy.specs.Check.{seen, takes, directed, weighted, repeats, single, hasUnit, Found, arcFault, transitionFault, subnetFault}
-use Rattle.hierarchy.specs.declared.CardFault.the-variants.{Unseen, Direction, Weight, Repeated, NoUnit}
+use Rattle.hierarchy.specs.Check.{seen, takes, directed, weighted, repeats, single, selfLoop, loopFits, loopsFit, hasUnit, Found, arcFault, transitionFault, subnetFault}
+use Rattle.hierarchy.specs.declared.CardFault.the-variants.{Unseen, Direction, Weight, Repeated, DeadLoop, NoUnit}
 
 -- a place that is there is one of a subnet that is there
 pub place-subnet : (c : Card) (s n : ℕ) → IsPlace c s n → s < length (c .subnets)
@@ -134,39 +134,65 @@ pub some-weight : (c : Card) (a : Arc) (k : ℕ) → 1 ≤ a .weight → k ≡ (
 unfolding weighted
 some-weight c a k l e = sym (rw (le-leb 1 (a .weight) l, ← e))
 
--- 13: two arcs of different places, of different subnets, and of one place
-other-place : (a b : Arc) → eqb (a .place) (b .place) ≡ false → false ≡ repeats a b
-other-place a b e = sym (rw e (go (eqb (a .direction) (b .direction) && eqb (a .subnet) (b .subnet))))
-  where
-    go : (x : Bool) → x && false ≡ false
-    go true = refl
-    go false = refl
+-- 13 and 26: two arcs of different places or of different subnets, and of one place
+abbrev pub Apart : (a b : Arc) → Type 0
+Apart a b = (repeats a b ≡ false) × (selfLoop a b ≡ false)
 
-other-subnet : (a b : Arc) → eqb (a .subnet) (b .subnet) ≡ false → false ≡ repeats a b
-other-subnet a b e = sym (rw e (go (eqb (a .direction) (b .direction))))
+other-place : (a b : Arc) → eqb (a .place) (b .place) ≡ false → Apart a b
+other-place a b e =
+    (rw e (and-no (eqb (a .direction) (b .direction) && eqb (a .subnet) (b .subnet))), rw e (and-no (not (eqb (a .direction) (b .direction)) && eqb (a .subnet) (b .subnet))))
+
+other-subnet : (a b : Arc) → eqb (a .subnet) (b .subnet) ≡ false → Apart a b
+other-subnet a b e = (rw e (go (eqb (a .direction) (b .direction))), rw e (go (not (eqb (a .direction) (b .direction)))))
   where
     go : (x : Bool) → x && false && eqb (a .place) (b .place) ≡ false
-    go true = refl
-    go false = refl
+    go x = rw (and-no x)
 
-same-place : (a b : Arc) → eqb (a .place) (b .place) ≡ true → eqb (a .subnet) (b .subnet) ≡ true → eqb (a .direction) (b .direction) ≡ repeats a b
-same-place a b e f = sym (rw (e, f) (go (eqb (a .direction) (b .direction))))
+same-place : (a b : Arc) (x : Bool) → eqb (a .place) (b .place) ≡ true → eqb (a .subnet) (b .subnet) ≡ true → eqb (a .direction) (b .direction) ≡ x
+    → (repeats a b ≡ x) × (selfLoop a b ≡ not x)
+same-place a b x e f g = (rw (e, f, g) (go x), rw (e, f, g) (go (not x)))
   where
-    go : (x : Bool) → x && true && true ≡ x
+    go : (y : Bool) → y && true && true ≡ y
     go true = refl
     go false = refl
 
 module _ {numbers : List ℕ} {row h : ℕ} (a : Arc) {b : Arc} (t : ArcThere numbers row h b) where
-  pub not-there : {p : ℕ} → p ≡ getD numbers (arcField row h 2) 0 → (p ≡ a .place → ⊥) → false ≡ repeats b a
+  pub not-there : {p : ℕ} → p ≡ getD numbers (arcField row h 2) 0 → (p ≡ a .place → ⊥) → Apart b a
   not-there e n = other-place b a (ne-eqb (b .place) (a .place) (λ q. n (e ∙ t .place ∙ q)))
 
-  pub not-in : {s : ℕ} → s ≡ getD numbers (arcField row h 1) 0 → (s ≡ a .subnet → ⊥) → false ≡ repeats b a
+  pub not-in : {s : ℕ} → s ≡ getD numbers (arcField row h 1) 0 → (s ≡ a .subnet → ⊥) → Apart b a
   not-in e n = other-subnet b a (ne-eqb (b .subnet) (a .subnet) (λ q. n (e ∙ t .subnet ∙ q)))
 
-  pub there-too : {p s d : ℕ} → p ≡ getD numbers (arcField row h 2) 0 → p ≡ a .place → s ≡ getD numbers (arcField row h 1) 0 → s ≡ a .subnet → d ≡ getD numbers (arcField row h 0) 0 → eqb d (a .direction) ≡ repeats b a
-  there-too ep p≡ es s≡ ed =
-      ap (λ (x : ℕ). eqb x (a .direction)) (ed ∙ t .direction)
-      ∙ same-place b a (eq-eqb (b .place) (a .place) (sym (t .place) ∙ sym ep ∙ p≡)) (eq-eqb (b .subnet) (a .subnet) (sym (t .subnet) ∙ sym es ∙ s≡))
+  module _ {p s d : ℕ} (ep : p ≡ getD numbers (arcField row h 2) 0) (p≡ : p ≡ a .place) (es : s ≡ getD numbers (arcField row h 1) 0) (s≡ : s ≡ a .subnet) (ed : d ≡ getD numbers (arcField row h 0) 0) where
+    there-too : (x : Bool) → eqb d (a .direction) ≡ x → (repeats b a ≡ x) × (selfLoop b a ≡ not x)
+    there-too x e =
+        same-place b a x (eq-eqb (b .place) (a .place) (sym (t .place) ∙ sym ep ∙ p≡)) (eq-eqb (b .subnet) (a .subnet) (sym (t .subnet) ∙ sym es ∙ s≡))
+        (ap (λ (y : ℕ). eqb y (a .direction)) (sym (ed ∙ t .direction)) ∙ e)
+
+    pub repeated : d ≡ a .direction → (repeats b a ≡ true) × (selfLoop b a ≡ false)
+    repeated e = there-too true (eq-eqb d (a .direction) e)
+
+    pub looped : (d ≡ a .direction → ⊥) → (repeats b a ≡ false) × (selfLoop b a ≡ true)
+    looped n = there-too false (ne-eqb d (a .direction) n)
+
+-- what is known of an arc, with an arc besides that leaves it as it is, that repeats it, and that is a self-loop with it
+module _ (x : Bool) (a b : Arc) where
+  pub still-single : repeats b a ≡ false → x ≡ (x && not (repeats b a))
+  still-single e = sym (rw e (and-yes x))
+
+  pub not-single : repeats b a ≡ true → false ≡ (x && not (repeats b a))
+  not-single e = sym (rw e (and-no x))
+
+  module _ (k : ℕ) where
+    pub no-loop : selfLoop b a ≡ false → x ≡ (x && loopFits k b a)
+    no-loop e = sym (rw e (and-yes x))
+
+    module _ {w : ℕ} (e : w ≡ b .weight) where
+      pub loop-fits : w + a .weight ≤ k → x ≡ (x && loopFits k b a)
+      loop-fits l = sym (rw (le-leb (b .weight + a .weight) k (omega arith)) (rw (or-yes (not (selfLoop b a))) (and-yes x)))
+
+      pub loop-over : selfLoop b a ≡ true → k < w + a .weight → false ≡ (x && loopFits k b a)
+      loop-over s l = sym (rw (s, lt-leb (b .weight + a .weight) k (omega arith)) (and-no x))
 
 -- arc j of a transition whose row begins there
 arc-there : {c : Card} {numbers : List ℕ} {row i t : ℕ} → Laid c numbers → Begins c row i t → (j : ℕ) → j < (transitionAt c t) .arcs → ArcThere numbers row j (arcAt c t j)
@@ -180,32 +206,41 @@ arc-is {c} {t = t} {j = j} {a = a} l b m h =
     let k = arc-there l b j m in
     same-arc a (arcAt c t j) (sym (h .direction) ∙ k .direction) (sym (h .subnet) ∙ k .subnet) (sym (h .place) ∙ k .place) (sym (h .weight) ∙ k .weight)
 
--- arc j, which is a, repeats none of the arcs below h
-pub record NoRepeat (numbers : List ℕ) (row j : ℕ) (a : Arc) (h : ℕ) : Type 0 where
+-- r tells whether a test of arc j, which is a, with a lower one holds for each arc below h
+pub record EachBelow (test : (b a : Arc) → Bool) (numbers : List ℕ) (row j : ℕ) (a : Arc) (r : Bool) (h : ℕ) : Type 0 where
   pub below : h ≤ j
-  pub clear : (c : Card) → Laid c numbers → (i t : ℕ) → Begins c row i t → j < (transitionAt c t) .arcs → a ≡ arcAt c t j
-      → every h (λ g. not (repeats (arcAt c t g) (arcAt c t j))) ≡ true
+  pub told : (c : Card) → Laid c numbers → (i t : ℕ) → Begins c row i t → j < (transitionAt c t) .arcs → a ≡ arcAt c t j
+      → r ≡ every h (λ g. test (arcAt c t g) (arcAt c t j))
 
-pub no-repeat-start : (numbers : List ℕ) (row j : ℕ) (a : Arc) → NoRepeat numbers row j a 0
+pub each-start : (test : (b a : Arc) → Bool) (numbers : List ℕ) (row j : ℕ) (a : Arc) → EachBelow test numbers row j a true 0
 unfolding every
-no-repeat-start numbers row j a = record { below = omega arith; clear = λ c l i t b m q. refl }
+each-start test numbers row j a = record { below = omega arith; told = λ c l i t b m q. refl }
 
-module _ {numbers : List ℕ} {row j : ℕ} {a : Arc} {h : ℕ} (n : NoRepeat numbers row j a h) where
-  module _ {r : Bool} (k : h < j) (e : (b : Arc) → ArcThere numbers row h b → r ≡ repeats b a) where
-    is-repeat : (c : Card) → Laid c numbers → (i t : ℕ) → Begins c row i t → j < (transitionAt c t) .arcs → a ≡ arcAt c t j → r ≡ repeats (arcAt c t h) (arcAt c t j)
-    is-repeat c l i t b m q = e (arcAt c t h) (arc-there l b h (omega arith)) ∙ ap (repeats (arcAt c t h)) q
+module _ {test : (b a : Arc) → Bool} {numbers : List ℕ} {row j : ℕ} {a : Arc} {r : Bool} {h : ℕ} (n : EachBelow test numbers row j a r h) where
+  pub each-more : {s : Bool} → h < j → ((b : Arc) → ArcThere numbers row h b → s ≡ (r && test b a)) → EachBelow test numbers row j a s (h + 1)
+  unfolding every
+  each-more k e =
+      record {
+        below = omega arith;
+        told = λ c l i t b m q. e (arcAt c t h) (arc-there l b h (omega arith)) ∙ rw (n .told c l i t b m q, q, add-one);
+      }
 
-    pub no-repeat-more : r ≡ false → NoRepeat numbers row j a (h + 1)
-    no-repeat-more f =
-        record { below = omega arith; clear = λ c l i t b m q. every-more h _ (n .clear c l i t b m q) (ap not (sym (is-repeat c l i t b m q) ∙ f)) }
+  each-end : j ≤ h → (c : Card) → Laid c numbers → (i t : ℕ) → Begins c row i t → j < (transitionAt c t) .arcs → a ≡ arcAt c t j
+      → r ≡ every j (λ g. test (arcAt c t g) (arcAt c t j))
+  each-end k c l i t b m q = let x : h ≡ j = omega (arith, n .below) in rw x at (n .told c l i t b m q)
 
-    pub repeat-found : r ≡ true → (c : Card) → Laid c numbers → (i t : ℕ) → Begins c row i t → j < (transitionAt c t) .arcs → a ≡ arcAt c t j → false ≡ single c t j
-    unfolding single
-    repeat-found f c l i t b m q = sym (every-none j h _ k (ap not (sym (is-repeat c l i t b m q) ∙ f)))
-
-  pub no-repeat-end : j ≤ h → (c : Card) → Laid c numbers → (i t : ℕ) → Begins c row i t → j < (transitionAt c t) .arcs → a ≡ arcAt c t j → true ≡ single c t j
+module _ {numbers : List ℕ} {row j : ℕ} {a : Arc} {r : Bool} {h : ℕ} where
+  pub each-single : EachBelow (λ b x. not (repeats b x)) numbers row j a r h → j ≤ h
+      → (c : Card) → Laid c numbers → (i t : ℕ) → Begins c row i t → j < (transitionAt c t) .arcs → a ≡ arcAt c t j → r ≡ single c t j
   unfolding single
-  no-repeat-end k c l i t b m q = let x : h ≡ j = omega (arith, n .below) in sym (rw x at (n .clear c l i t b m q))
+  each-single n k = each-end n k
+
+  pub each-fits : {k : ℕ} → EachBelow (loopFits k) numbers row j a r h → j ≤ h
+      → (c : Card) → Laid c numbers → (i t : ℕ) → Begins c row i t → j < (transitionAt c t) .arcs → a ≡ arcAt c t j → k ≡ (placeOf c a) .capacity → r ≡ loopsFit c t j
+  unfolding loopsFit
+  each-fits {k} n m c l i t b o q e =
+      let z : k ≡ (placeOf c (arcAt c t j)) .capacity = e ∙ ap (λ (x : Arc). (placeOf c x) .capacity) q in
+      each-end n m c l i t b o q ∙ ap (λ (y : ℕ). every j (λ g. loopFits y (arcAt c t g) (arcAt c t j))) z
 
 -- a test that the code made, and that it branched on
 pub passed : {r b : Bool} → r ≡ b → not r ≡ false → b ≡ true
@@ -214,7 +249,7 @@ passed {r} e n = sym e ∙ not-false r n
 pub failed : {r b : Bool} → r ≡ b → not r ≡ true → b ≡ false
 failed {r} e n = sym e ∙ not-true r n
 
--- 10 to 13 at arc j, which is a
+-- 10 to 13 and 26 at arc j, which is a
 module _ {c : Card} {i t : ℕ} (h : Lists c i t) (j : ℕ) {a : Arc} (q : a ≡ arcAt c t j) where
   module _ {starts : List ℕ} {bit : ℕ} {v : ℕ} (x : Indexed c starts) (ev : v ≡ c .version) (e : bit ≡ getD starts (transitionBitStart t) 0 + size (transition v 0) + size arc * j) where
     bit-is : bit ≡ arcBit c i t j
@@ -237,9 +272,14 @@ module _ {c : Card} {i t : ℕ} (h : Lists c i t) (j : ℕ) {a : Arc} (q : a ≡
     unfolding arcFault
     fault-repeated s d w o = rw (← q, s, d, w, o, bit-is)
 
-  pub fault-none : seen c i a ≡ true → directed c i a ≡ true → weighted c a ≡ true → single c t j ≡ true → none ≡ arcFault c i t j
+    pub fault-loop : seen c i a ≡ true → directed c i a ≡ true → weighted c a ≡ true → single c t j ≡ true → loopsFit c t j ≡ false
+        → some (record { why = DeadLoop; bit = bit }) ≡ arcFault c i t j
+    unfolding arcFault
+    fault-loop s d w o f = rw (← q, s, d, w, o, f, bit-is)
+
+  pub fault-none : seen c i a ≡ true → directed c i a ≡ true → weighted c a ≡ true → single c t j ≡ true → loopsFit c t j ≡ true → none ≡ arcFault c i t j
   unfolding arcFault
-  fault-none s d w o = rw (← q, s, d, w, o)
+  fault-none s d w o f = rw (← q, s, d, w, o, f)
 
 -- 14: the arcs below j are at places of other capacities than 1
 pub record NoUnitBelow (numbers starts : List ℕ) (row n j : ℕ) : Type 0 where
@@ -273,7 +313,7 @@ module _ {numbers starts : List ℕ} {row n j : ℕ} (u : NoUnitBelow numbers st
   unfolding hasUnit
   no-unit-end k c l i t b m p = let x : j ≡ (transitionAt c t) .arcs = omega (arith, u .below) in sym (rw x at (u .clear c l i t b m p))
 
--- 10 to 14 at a transition: its row is here, it has n arcs, and those below j have no fault
+-- 10 to 14 and 26 at a transition: its row is here, it has n arcs, and those below j have no fault
 pub record NoFaultBelow (c : Card) (i t row n j : ℕ) : Type 0 where
   pub begins : Begins c row i t
   pub count : n ≡ (transitionAt c t) .arcs

@@ -26,11 +26,20 @@ below-more n f y h e k l = go (eqb k n) refl
     go true q = subst (λ (i : ℕ). f i ≡ y) (sym (eqb-true k n q)) e
     go false q = h k (omega (arith, eqb-false k n q))
 
--- every
+-- the other part decides nothing, or all
+pub and-yes : (a : Bool) → (a && true) ≡ a
+and-yes true = refl
+and-yes false = refl
+
+pub or-yes : (a : Bool) → (a || true) ≡ true
+or-yes true = refl
+or-yes false = refl
+
 pub and-no : (a : Bool) → (a && false) ≡ false
 and-no true = refl
 and-no false = refl
 
+-- every
 pub every-none : (n i : ℕ) (f : ℕ → Bool) → i < n → f i ≡ false → every n f ≡ false
 unfolding every
 every-none zero i f l e = absurd (omega arith)
@@ -51,10 +60,6 @@ unfolding any
 any-one zero i f l e = absurd (omega arith)
 any-one (suc n) i f l e = go (eqb i n) refl (λ m. any-one n i f m e)
   where
-    or-yes : (a : Bool) → (a || true) ≡ true
-    or-yes true = refl
-    or-yes false = refl
-
     go : (t : Bool) → eqb i n ≡ t → (i < n → any n f ≡ true) → (any n f || f n) ≡ true
     go true q w = let z : f n ≡ true = subst (λ (k : ℕ). f k ≡ true) (eqb-true i n q) e in rw z (or-yes (any n f))
     go false q w = rw (w (omega (arith, eqb-false i n q)))

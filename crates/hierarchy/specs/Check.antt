@@ -11,7 +11,7 @@ use Rattle.hierarchy.specs.Conditions.{kindOf, isChild, children, child}
 use Rattle.hierarchy.specs.declared.Finding.{Finding}
 use Rattle.hierarchy.specs.declared.Finding.the-variants.{Nothing, Fault}
 use Rattle.hierarchy.specs.declared.CardFault.{CardFault}
-use Rattle.hierarchy.specs.declared.CardFault.the-variants.{Unseen, Direction, Weight, Repeated, NoUnit, NoInterface, Unlike}
+use Rattle.hierarchy.specs.declared.CardFault.the-variants.{Unseen, Direction, Weight, Repeated, DeadLoop, NoUnit, NoInterface, Unlike}
 
 -- the conditions of specs/Conditions.antt, as tests
 unfoldable pub seen : Card → (i : ℕ) → Arc → Bool
@@ -35,6 +35,17 @@ repeats a b = eqb (a .direction) (b .direction) && eqb (a .subnet) (b .subnet) &
 -- no lower arc of transition t has the place and the direction of arc j
 unfoldable pub single : Card → (t j : ℕ) → Bool
 single c t j = every j (λ h. not (repeats (arcAt c t h) (arcAt c t j)))
+
+abbrev pub selfLoop : (a b : Arc) → Bool
+selfLoop a b = not (eqb (a .direction) (b .direction)) && eqb (a .subnet) (b .subnet) && eqb (a .place) (b .place)
+
+-- two arcs that are a self-loop at a place of this capacity have their weights within it together
+abbrev pub loopFits : (capacity : ℕ) → (a b : Arc) → Bool
+loopFits capacity a b = not (selfLoop a b) || leb (a .weight + b .weight) capacity
+
+-- so has arc j with each lower arc of transition t
+unfoldable pub loopsFit : Card → (t j : ℕ) → Bool
+loopsFit c t j = every j (λ h. loopFits ((placeOf c (arcAt c t j)) .capacity) (arcAt c t h) (arcAt c t j))
 
 unfoldable pub hasUnit : Card → (t : ℕ) → Bool
 hasUnit c t = any ((transitionAt c t) .arcs) (λ j. eqb ((placeOf c (arcAt c t j)) .capacity) 1)
@@ -83,13 +94,15 @@ abbrev pub findingOf : Finding → Option Found
 findingOf Nothing = none
 findingOf (Fault f at) = some (record { why = f; bit = at })
 
--- 10 place not seen or not there; 11 direction; 12 weight; 13 repeated arc: the arc's first bit
+-- 10 place not seen or not there; 11 direction; 12 weight; 13 repeated arc; 26 (CR 2), straight after 13, a loop that can never start: the arc's
+-- first bit, of the second arc of the pair
 unfoldable pub arcFault : Card → (i t j : ℕ) → Option Found
 arcFault c i t j =
     faultUnless (arcBit c i t j) (seen c i (arcAt c t j)) Unseen
     otherwise faultUnless (arcBit c i t j) (directed c i (arcAt c t j)) Direction
     otherwise faultUnless (arcBit c i t j) (weighted c (arcAt c t j)) Weight
     otherwise faultUnless (arcBit c i t j) (single c t j) Repeated
+    otherwise faultUnless (arcBit c i t j) (loopsFit c t j) DeadLoop
 
 -- 14, after a transition's arcs, no place of capacity 1: the transition's first bit
 unfoldable pub transitionFault : Card → (i t : ℕ) → Option Found
@@ -100,7 +113,7 @@ transitionFault c i t =
 unfoldable pub subnetFault : Card → (i : ℕ) → Option Found
 subnetFault c i = firstOf (firstTransition c i) ((subnetAt c i) .transitions) (transitionFault c i)
 
--- by subnet, transition, arc 10 to 14; then by subnet 15, no interface place; then by subnet 16, unlike a lower subnet of its type (both: the
+-- by subnet, transition, arc 10 to 13, 26 and 14; then by subnet 15, no interface place; then by subnet 16, unlike a lower subnet of its type (both: the
 -- subnet's first bit)
 unfoldable pub check : Card → Option Found
 check c =

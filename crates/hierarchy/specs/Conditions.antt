@@ -68,6 +68,12 @@ pub record Repeats (a b : Arc) : Type 0 where
   pub subnet : a .subnet ≡ b .subnet
   pub place : a .place ≡ b .place
 
+-- Two arcs of one transition are a self-loop (document 02's term: a loop): an arc of each direction at one place, (p, t) ∈ Rᵢ and (t, p) ∈ Rᵢ.
+pub record SelfLoop (a b : Arc) : Type 0 where
+  pub directions : a .direction ≢ b .direction
+  pub subnet : a .subnet ≡ b .subnet
+  pub place : a .place ≡ b .place
+
 -- Transition t of Nᵢ.
 pub record TransitionConditions (c : Card) (i t : ℕ) : Type 0 where
   -- An arc names a place of its own subnet, or an interface place of a direct child.
@@ -76,6 +82,10 @@ pub record TransitionConditions (c : Card) (i t : ℕ) : Type 0 where
   pub weighted : (j : ℕ) → j < (transitionAt c t) .arcs → Weighted c (arcAt c t j)
   -- Rᵢ is a relation: one transition has at most one arc per place and direction.
   pub single : (h j : ℕ) → h < j → j < (transitionAt c t) .arcs → ¬ Repeats (arcAt c t h) (arcAt c t j)
+  -- CR 2: a transition may draw from and fill one place; it then needs both weights within the capacity together. By the two enabling conditions,
+  -- M(p) ≥ W(p,t)/K(p) and M(p) ≤ 1 - W(t,p)/K(p) (Definition 2, (1) and (2)), some marking of p must meet both.
+  pub loops : (h j : ℕ) → h < j → j < (transitionAt c t) .arcs → SelfLoop (arcAt c t h) (arcAt c t j)
+      → (arcAt c t h) .weight + (arcAt c t j) .weight ≤ (placeOf c (arcAt c t j)) .capacity
   -- (p′, t) ∈ R or (t, p′) ∈ R for a p′ ∈ P′, where K(p′) = 1 (Definition 1): every transition has an arc, of either direction, at a place of
   -- capacity 1.
   pub unit : (j : ℕ) × (j < (transitionAt c t) .arcs) × ((placeOf c (arcAt c t j)) .capacity ≡ 1)
@@ -119,7 +129,7 @@ pub record Conditions (c : Card) : Type 0 where
   pub interfaces : (i : ℕ) → i < length (c .subnets) → i ≢ 0 → HasInterface c i
   pub types : (r s : ℕ) → r < s → s < length (c .subnets) → SameType c r s → Alike c r s
 
--- all that document 01 asks of a card: 'The card' and 'Conditions on the hierarchy'
+-- all that is asked of a card: 'The card' and 'Conditions on the hierarchy' of document 01, and CR 2
 pub record Meets (c : Card) : Type 0 where
   pub wellformed : Wellformed c
   pub conditions : Conditions c

@@ -32,7 +32,7 @@ judged (Parsing.whole c end) = checked (check c) c
 unfoldable pub judge : (bytes : List ℕ) → Judgement
 judge bytes = judged (readCard bytes)
 
--- 17 first; then 2 to 16, as for the card that the tables would make
+-- 17 first; then 2 to 16 and 26, as for the card that the tables would make
 unfoldable pub judgeTables : (tables : Card) → Judgement
 judgeTables c = judged (readTables c)
 

@@ -1,8 +1,8 @@
--- The paper's number and values of each answer of this layer ('Why a card is turned back', and 24 of 'Why a call is turned back').
+-- The paper's number and values of each answer of this layer ('Why a card is turned back', 24 of 'Why a call is turned back', 26 of CR 2).
 use Prim.Native.Nat.{ℕ}
 use Rattle.card.specs.Numbers
 use Rattle.hierarchy.specs.declared.CardFault.{CardFault}
-use Rattle.hierarchy.specs.declared.CardFault.the-variants.{Format, Unseen, Direction, Weight, Repeated, NoUnit, NoInterface, Unlike}
+use Rattle.hierarchy.specs.declared.CardFault.the-variants.{Format, Unseen, Direction, Weight, Repeated, DeadLoop, NoUnit, NoInterface, Unlike}
 use Rattle.hierarchy.specs.declared.Answer.{Answer}
 use Rattle.hierarchy.specs.declared.Answer.the-variants.{Accepted, Refused}
 use Rattle.hierarchy.specs.declared.Written.{Written}
@@ -14,6 +14,7 @@ number Unseen = 10
 number Direction = 11
 number Weight = 12
 number Repeated = 13
+number DeadLoop = 26
 number NoUnit = 14
 number NoInterface = 15
 number Unlike = 16

@@ -1,4 +1,4 @@
-// Pass two over a card's arcs: 10 to 13 at an arc, 14 after a transition's arcs. The card is in its two tables, which any slices may be:
+// Pass two over a card's arcs: 10 to 13 and 26 at an arc, 14 after a transition's arcs. The card is in its two tables, which any slices may be:
 // what is found says something of a card only where they hold one.
 use crate::CardFault;
 use crate::Finding;
@@ -9,6 +9,7 @@ use card::tables::arc_count;
 use card::tables::arc_direction;
 use card::tables::arc_place;
 use card::tables::arc_subnet;
+use card::tables::arc_weight;
 use card::tables::capacity;
 use card::tables::first_transition;
 use card::tables::kind;
@@ -18,13 +19,14 @@ use card::tables::subnet_row;
 use card::tables::transition_bit;
 use card::tables::transition_row;
 ghost use mathlib.Core.Path.{_≡_};
+ghost use mathlib.Core.Bool.{not, _&&_};
 ghost use Prim.Native.Nat.{ℕ, suc, _<_};
 ghost use lib.ListN.{length};
 ghost use Rattle.card.specs.Card.{Card, Arc as CardArc, transitionAt, arcAt, firstTransition, placeOf};
 ghost use Rattle.card.specs.Finite.{firstOf};
 ghost use Rattle.card.specs.Index.{ArcThere, Lists, Laid, Loaded, arcOf, Begins};
 ghost use Rattle.hierarchy.specs.Conditions.{IsPlace};
-ghost use Rattle.hierarchy.specs.Check.{seen as isSeen, takes as takesIt, directed as isDirected, weighted as isWeighted, repeats as isRepeat, single as isSingle, hasUnit, findingOf, arcFault, transitionFault, subnetFault};
+ghost use Rattle.hierarchy.specs.Check.{seen as isSeen, takes as takesIt, directed as isDirected, weighted as isWeighted, repeats, single, loopFits, loopsFit, hasUnit, findingOf, arcFault, transitionFault, subnetFault};
 ghost use Rattle.hierarchy.specs.inner.Arcs.{PlacesThere};
 
 // Whether subnet i sees the place that the arc names.
@@ -94,31 +96,57 @@ fn weighted(numbers: &[u16], starts: &[u32], a: Arc) -> bool
     a.weight <= place_capacity(numbers, starts, a)
 }
 
-// Whether arc h of the transition has the place and the direction of a. Places differ most often, so they are compared first.
-fn repeats(numbers: &[u16], row: u32, h: u16, a: Arc) -> bool
-    ensures { λ r. ⌜ ((b : CardArc) → ArcThere (now (numbers .entry)) row h b → r ≡ isRepeat b (arcOf a)) ⌝ }
-{
-    if arc_place(numbers, row, h) != a.place {
-        return false;
-    }
-    if arc_subnet(numbers, row, h) != a.subnet {
-        return false;
-    }
-    arc_direction(numbers, row, h) == a.direction
+// What the lower arcs of a transition leave of an arc: whether none repeats it, and whether each that is a self-loop with it has its weight within
+// the capacity together with it.
+struct Beside {
+    single: bool,
+    fits: bool,
 }
 
-// Whether no lower arc of the transition has the place and the direction of its arc j, which is a.
-fn single(numbers: &[u16], row: u32, j: u16, a: Arc) -> bool
-    ensures { λ r. ⌜ ((c : Card) → Laid c (now (numbers .entry)) → (i t : ℕ) → Begins c row i t → j < (transitionAt c t) .arcs → arcOf a ≡ arcAt c t j → r ≡ isSingle c t j) ⌝ }
+// What is known of an arc that is a, at a place of this capacity, with arc h of its transition besides. Places differ most often, so they are
+// compared first.
+fn beside_arc(numbers: &[u16], row: u32, h: u16, a: Arc, capacity: u16, known: Beside) -> Beside
+    ensures { λ r. ⌜ ((b : CardArc) → ArcThere (now (numbers .entry)) row h b → r .single ≡ (known .single && not (repeats b (arcOf a)))) ⌝ }
+    ensures { λ r. ⌜ ((b : CardArc) → ArcThere (now (numbers .entry)) row h b → r .fits ≡ (known .fits && loopFits capacity b (arcOf a))) ⌝ }
 {
+    if arc_place(numbers, row, h) != a.place {
+        return known;
+    }
+    if arc_subnet(numbers, row, h) != a.subnet {
+        return known;
+    }
+    if arc_direction(numbers, row, h) == a.direction {
+        return Beside {
+            single: false,
+            fits: known.fits,
+        };
+    }
+    let sum = arc_weight(numbers, row, h) as u32 + a.weight as u32;
+    if sum <= capacity as u32 {
+        return known;
+    }
+    Beside {
+        single: known.single,
+        fits: false,
+    }
+}
+
+// The same with all lower arcs of the transition, for its arc j, which is a. One walk serves both tests, since it is most of what the check of
+// a card with many arcs costs.
+fn beside_lower(numbers: &[u16], row: u32, j: u16, a: Arc, capacity: u16) -> Beside
+    ensures { λ r. ⌜ ((c : Card) → Laid c (now (numbers .entry)) → (i t : ℕ) → Begins c row i t → j < (transitionAt c t) .arcs → arcOf a ≡ arcAt c t j → r .single ≡ single c t j) ⌝ }
+    ensures { λ r. ⌜ ((c : Card) → Laid c (now (numbers .entry)) → (i t : ℕ) → Begins c row i t → j < (transitionAt c t) .arcs → arcOf a ≡ arcAt c t j → capacity ≡ (placeOf c (arcOf a)) .capacity → r .fits ≡ loopsFit c t j) ⌝ }
+{
+    let mut known = Beside {
+        single: true,
+        fits: true,
+    };
     let mut h = 0;
     while h < j {
-        if repeats(numbers, row, h, a) {
-            return false;
-        }
+        known = beside_arc(numbers, row, h, a, capacity, known);
         h += 1;
     }
-    true
+    known
 }
 
 // Whether one of the n arcs of the transition is at a place of capacity 1.
@@ -136,7 +164,7 @@ fn has_unit(numbers: &[u16], starts: &[u32], row: u32, n: u16) -> bool
     false
 }
 
-// The first fault of 10 to 13 at arc j of transition t of subnet i. The transition's row begins at row.
+// The first fault of 10 to 13 and 26 at arc j of transition t of subnet i. The transition's row begins at row.
 fn arc_fault(
     numbers: &[u16],
     starts: &[u32],
@@ -158,13 +186,17 @@ fn arc_fault(
     if !weighted(numbers, starts, a) {
         return Finding::Fault(CardFault::Weight, arc_bit(numbers, starts, t, j));
     }
-    if !single(numbers, row, j, a) {
+    let lower = beside_lower(numbers, row, j, a, place_capacity(numbers, starts, a));
+    if !lower.single {
         return Finding::Fault(CardFault::Repeated, arc_bit(numbers, starts, t, j));
+    }
+    if !lower.fits {
+        return Finding::Fault(CardFault::DeadLoop, arc_bit(numbers, starts, t, j));
     }
     Finding::Nothing
 }
 
-// The first fault of 10 to 14 at transition t of subnet i.
+// The first fault of 10 to 14 and 26 at transition t of subnet i.
 fn transition_fault(numbers: &[u16], starts: &[u32], subnets: u16, i: u16, t: u32) -> Finding
     ensures { λ r. ⌜ ((c : Card) → Loaded c (now (numbers .entry)) (now (starts .entry)) → subnets ≡ length (c .subnets) → Lists c i t → findingOf r ≡ transitionFault c i t) ⌝ }
 {
@@ -212,8 +244,8 @@ fn subnet_fault(
     Finding::Nothing
 }
 
-// The first fault of 10 to 14 over all subnets, by subnet, transition and arc. Two wrong passes that this rules out: one that lets a subnet
-// see the interface places of its children's children, and one that tests weights before directions.
+// The first fault of 10 to 14 and 26 over all subnets, by subnet, transition and arc. Wrong passes that this rules out: one that lets a subnet see
+// the interface places of its children's children, one that tests weights before directions, and one that tells of a loop at its first arc.
 pub fn arcs_fault(numbers: &[u16], starts: &[u32], subnets: u16) -> Finding
     ensures { λ r. ⌜ ((c : Card) → Loaded c (now (numbers .entry)) (now (starts .entry)) → subnets ≡ length (c .subnets) → findingOf r ≡ firstOf 0 (length (c .subnets)) (subnetFault c)) ⌝ }
 {

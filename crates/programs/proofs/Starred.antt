@@ -10,7 +10,7 @@ use Rattle.card.specs.Grammar.{since, header, subnet, place, transition, arc, w
 use Rattle.card.specs.Parsing.{read, excess, readCard}
 use Rattle.card.specs.Writing.{fields, encode, subnetBit, transitionBit, arcBit}
 use Rattle.hierarchy.specs.Conditions.{children}
-use Rattle.hierarchy.specs.Check.{seen, directed, weighted, single, hasUnit, hasInterface, alike, likeLower, arcFault, transitionFault, subnetFault, check}
+use Rattle.hierarchy.specs.Check.{seen, directed, weighted, single, loopsFit, hasUnit, hasInterface, alike, likeLower, arcFault, transitionFault, subnetFault, check}
 use Rattle.hierarchy.specs.Judgement.{judge}
 use Rattle.flattening.specs.Flattening.{flatten}
 use Rattle.runners.specs.State.{scale, fresh, incidence, flow, owed, due, covered}
@@ -24,7 +24,7 @@ use Rattle.programs.specs.Cases.{cases, result}
 
 pub starred : map (λ k. result (k .given)) cases ≡ map (λ k. k .expected) cases
 unfolding ascii digits line filled cells unmarked pieces trace lines runProgram consistent validIn eachOnce flatCall subnetCall rowFault rowRefusal allows candidateOn candidate started conflict moves next scale fresh incidence flow owed due covered flatten
-    judge check seen directed weighted single hasUnit hasInterface alike likeLower arcFault transitionFault subnetFault children
+    judge check seen directed weighted single loopsFit hasUnit hasInterface alike likeLower arcFault transitionFault subnetFault children
     read excess readCard fields encode subnetBit transitionBit arcBit since header subnet place transition arc wholeTransition wholeSubnet card each grow size
     firstPlace firstTransition firstArc bit bitField pack sumTo every any firstOf table keep flatMap List.flatten
 starred = refl

@@ -120,7 +120,7 @@ lentCall way f ordered act l =
     let s = way .view l in
     settle (someUnless (validIn way f l) BadState otherwise someUnless ordered BadOrder otherwise act .refusal s) l (way .store l (act .next s))
 
--- A CALL, on a state that is lent in any way. A row call tests the card (1 to 16), 25, 23, 20, 21, 22.
+-- A CALL, on a state that is lent in any way. A row call tests the card (1 to 16, and 26), 25, 23, 20, 21, 22.
 abbrev pub callOn : {S : Type 0} → Lending S → Judgement → (Card → Given) → S → RowOutcome × S
 callOn way (refused n at) given l = (Numbers.RowOutcome.refused n (some at), l)
 callOn way (accepted c) given l = lentCall way (flatten c) ((given c) .ordered) (actOf (flatten c) ((given c) .ask)) l
