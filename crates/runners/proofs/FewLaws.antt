@@ -15,12 +15,11 @@ use Rattle.card.proofs.Sums.{sum-zero}
 use Rattle.card.proofs.Decides.{eq-is, and-is}
 use Rattle.hierarchy.specs.Conditions.{Meets}
 use Rattle.flattening.specs.Flattening.{flatten}
-use Rattle.flattening.proofs.FlatLaws.{arc-flat, flat-meets}
+use Rattle.flattening.proofs.FlatLaws.{arc-flat, home, flat-meets}
 use Rattle.runners.specs.State.{scale, remaining, incidence, flow}
 use Rattle.runners.specs.declared.Transfer.{Transfer}
 use Rattle.runners.specs.declared.Transfer.the-variants.{Idle, Carrying}
 use Rattle.runners.proofs.ScaleLaws.{scale-few}
-use Rattle.runners.proofs.OwnerLaws.{listed}
 
 sum-few : (n : ℕ) (a : ℕ → ℕ) (b : ℕ) → ((i : ℕ) → i < n → a i ≤ b) → sumTo n a ≤ n * b
 unfolding sumTo
@@ -28,18 +27,18 @@ sum-few zero a b h = omega arith
 sum-few (suc n) a b h = omega (arith, sum-few n a b (λ i l. h i (omega arith)), h n (omega arith))
 
 -- a sum of which at most one term counts
-sum-one : (n : ℕ) (hit : ℕ → Bool) (w : ℕ → ℕ) (b : ℕ) → ((i : ℕ) → w i ≤ b) → ((i j : ℕ) → i < j → j < n → hit i ≡ true → hit j ≡ true → ⊥)
+sum-one : (n : ℕ) (hit : ℕ → Bool) (w : ℕ → ℕ) (b : ℕ) → ((i : ℕ) → i < n → hit i ≡ true → w i ≤ b) → ((i j : ℕ) → i < j → j < n → hit i ≡ true → hit j ≡ true → ⊥)
     → sumTo n (λ i. cond (hit i) (w i) 0) ≤ b
 unfolding sumTo
 sum-one zero hit w b few one = omega arith
-sum-one (suc n) hit w b few one = go (hit n) refl (sum-one n hit w b few (λ i j k l. one i j k (omega arith)))
+sum-one (suc n) hit w b few one = go (hit n) refl (sum-one n hit w b (λ i l. few i (omega arith)) (λ i j k l. one i j k (omega arith)))
   where
     others : hit n ≡ true → (i : ℕ) → i < n → (x : Bool) → hit i ≡ x → cond x (w i) 0 ≡ 0
     others e i l true h = absurd (one i n l (omega arith) h e)
     others e i l false h = refl
 
     go : (x : Bool) → hit n ≡ x → sumTo n (λ i. cond (hit i) (w i) 0) ≤ b → sumTo n (λ i. cond (hit i) (w i) 0) + cond x (w n) 0 ≤ b
-    go true e r = omega (arith, few n, sum-zero n (λ i. cond (hit i) (w i) 0) (λ i l. others e i l (hit i) refl))
+    go true e r = omega (arith, few n (omega arith) e, sum-zero n (λ i. cond (hit i) (w i) 0) (λ i l. others e i l (hit i) refl))
     go false e r = omega arith
 
 weight-few : (xs : List Arc) → All ArcRow xs → (i : ℕ) → (getD xs i noArc) .weight ≤ 255
@@ -66,18 +65,26 @@ module _ (c : Card) (m : Meets c) where
   hit-is : (way p t j : ℕ) → hits way p t j ≡ true → ((arcAt f t j) .direction ≡ way) × ((arcAt f t j) .place ≡ p)
   hit-is way p t j = and-is _ _ _ _ (eq-is ((arcAt f t j) .direction) way) (eq-is ((arcAt f t j) .place) p) .0
 
+  -- all arcs of the flat card name subnet 0
+  pub one-subnet : (t i j : ℕ) → (arcAt f t i) .subnet ≡ (arcAt f t j) .subnet
+  one-subnet t i j = rw (arc-flat c t i, arc-flat c t j) refl
+
   single : (way p t i j : ℕ) → t < length (f .transitions) → i < j → j < (transitionAt f t) .arcs → hits way p t i ≡ true → hits way p t j ≡ true → ⊥
   single way p t i j l k b x y =
-      let o = listed f flat t l in
       let u = hit-is way p t i x in
       let v = hit-is way p t j y in
-      flat .conditions .transitions (o .0) t (o .2 .subnet) (o .2 .first) (o .2 .last) .single i j k b
-      (record { direction = u .0 ∙ sym (v .0); subnet = rw (arc-flat c t i, arc-flat c t j) refl; place = u .1 ∙ sym (v .1) })
+      home f flat t l .sound .single i j k b (record { direction = u .0 ∙ sym (v .0); subnet = one-subnet t i j; place = u .1 ∙ sym (v .1) })
+
+  -- the incidence is the weight of one arc, or 0
+  pub incidence-most : (way t p b : ℕ) → t < length (f .transitions)
+      → ((j : ℕ) → j < (transitionAt f t) .arcs → (arcAt f t j) .direction ≡ way → (arcAt f t j) .place ≡ p → (arcAt f t j) .weight ≤ b)
+      → incidence f way t p ≤ b
+  unfolding incidence
+  incidence-most way t p b l few =
+      sum-one ((transitionAt f t) .arcs) (hits way p t) (λ j. (arcAt f t j) .weight) b (λ j k h. let u = hit-is way p t j h in few j k (u .0) (u .1)) (λ i j. single way p t i j l)
 
   incidence-few : (way t p : ℕ) → t < length (f .transitions) → incidence f way t p ≤ 255
-  unfolding incidence
-  incidence-few way t p l =
-      sum-one ((transitionAt f t) .arcs) (hits way p t) (λ j. (arcAt f t j) .weight) 255 (λ j. weight-few (f .arcs) (flat .wellformed .rows .arcs) _) (λ i j. single way p t i j l)
+  incidence-few way t p l = incidence-most way t p 255 l (λ j k d q. weight-few (f .arcs) (flat .wellformed .rows .arcs) _)
 
   flow-few : (amount : ℕ → ℕ) (b : ℕ) → ((t : ℕ) → t < length (f .transitions) → amount t ≤ b) → (way p : ℕ) → flow f amount way p ≤ 65025 * b
   unfolding flow

@@ -16,6 +16,7 @@ pub mod MarkingLaws
 pub mod OnceLaws
 pub mod OrderLaws
 pub mod FewLaws
+pub mod LoopLaws
 pub mod BoardLaws
 pub mod GuardLaws
 pub mod FreshLaws

@@ -64,7 +64,7 @@ unfolding next
 next-sized f s row = sized-by f (candidate f s row) (moves f s row) s row
 
 -- IN A FRESH STATE EVERY PLACE IS COVERED
-no-flow : (f : Card) (xs : List Transfer) (way p : ℕ) → ((t : ℕ) → t < length (f .transitions) → transfer xs t ≡ Idle) → flow f (λ t. remaining f (transfer xs t)) way p ≡ 0
+pub no-flow : (f : Card) (xs : List Transfer) (way p : ℕ) → ((t : ℕ) → t < length (f .transitions) → transfer xs t ≡ Idle) → flow f (λ t. remaining f (transfer xs t)) way p ≡ 0
 unfolding flow
 no-flow f xs way p h = sum-zero (length (f .transitions)) _ (λ t l. rw (h t l) (omega arith))
 
