@@ -9,7 +9,7 @@ use Rattle.card.specs.Finite.{sumTo}
 use Rattle.card.proofs.Decides.{Decides, Clears, Some, eq-is, lt-is, le-is, not-is, and-is, or-is, implies-is, except-is, every-is, any-is, someUnless-is, otherwise-is, otherwise-given, firstOf-is}
 use Rattle.card.specs.Card.{Arc, Place, Card, normal, input, output, inOut, draws, fills, subnetAt, placeAt, transitionAt, arcAt, firstPlace, firstTransition, placeOf}
 use Rattle.hierarchy.specs.Conditions.{kindOf, IsPlace, isChild, Child, children, child, Own, OfKind, Sees, Incident, Weighted, Repeats, SelfLoop, TransitionConditions, HasInterface, AlikePlaces, AlikeArcs, AlikeTransitions, SameType, Alike, Conditions}
-use Rattle.hierarchy.specs.Check.{seen, takes, directed, weighted, repeats, single, selfLoop, loopsFit, hasUnit, hasInterface, alikePlaces, alikeArcs, alikeTransitions, sameType, alike, likeLower, arcFault, transitionFault, subnetFault, check}
+use Rattle.hierarchy.specs.Check.{seen, takes, directed, weighted, samePlace, repeats, single, selfLoop, loopsFit, hasUnit, hasInterface, alikePlaces, alikeArcs, alikeTransitions, sameType, alike, likeLower, arcFault, transitionFault, subnetFault, check}
 
 -- each condition
 child-is : (c : Card) (i j : ℕ) → Decides (isChild c i j) (Child c i j)
@@ -41,10 +41,13 @@ weighted-is c a =
     Iff·trans (and-is _ _ _ _ (le-is 1 (a .weight)) (le-is (a .weight) ((placeOf c a) .capacity)))
     (λ h. record { positive = h .0; fits = h .1 }, λ h. (h .positive, h .fits))
 
+samePlace-is : (a b : Arc) → Decides (samePlace a b) ((a .subnet ≡ b .subnet) × (a .place ≡ b .place))
+samePlace-is a b = and-is _ _ _ _ (eq-is (a .subnet) (b .subnet)) (eq-is (a .place) (b .place))
+
 repeats-is : (a b : Arc) → Decides (repeats a b) (Repeats a b)
 repeats-is a b =
-    Iff·trans (and-is _ _ _ _ (and-is _ _ _ _ (eq-is (a .direction) (b .direction)) (eq-is (a .subnet) (b .subnet))) (eq-is (a .place) (b .place)))
-    (λ h. record { direction = h .0 .0; subnet = h .0 .1; place = h .1 }, λ h. ((h .direction, h .subnet), h .place))
+    Iff·trans (and-is _ _ _ _ (eq-is (a .direction) (b .direction)) (samePlace-is a b))
+    (λ h. record { direction = h .0; subnet = h .1 .0; place = h .1 .1 }, λ h. (h .direction, (h .subnet, h .place)))
 
 single-is : (c : Card) (t j : ℕ) → Decides (single c t j) ((i : ℕ) → i < j → ¬ Repeats (arcAt c t i) (arcAt c t j))
 unfolding single
@@ -52,8 +55,8 @@ single-is c t j = every-is j _ _ (λ i. not-is _ _ (repeats-is (arcAt c t i) (ar
 
 selfLoop-is : (a b : Arc) → Decides (selfLoop a b) (SelfLoop a b)
 selfLoop-is a b =
-    Iff·trans (and-is _ _ _ _ (and-is _ _ _ _ (not-is _ _ (eq-is (a .direction) (b .direction))) (eq-is (a .subnet) (b .subnet))) (eq-is (a .place) (b .place)))
-    (λ h. record { directions = h .0 .0; subnet = h .0 .1; place = h .1 }, λ h. ((h .directions, h .subnet), h .place))
+    Iff·trans (and-is _ _ _ _ (not-is _ _ (eq-is (a .direction) (b .direction))) (samePlace-is a b))
+    (λ h. record { directions = h .0; subnet = h .1 .0; place = h .1 .1 }, λ h. (h .directions, (h .subnet, h .place)))
 
 -- arc j is within the capacity together with each lower arc that is a self-loop with it
 abbrev Within : Card → (t j : ℕ) → Type 0

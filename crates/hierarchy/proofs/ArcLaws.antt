@@ -22,7 +22,7 @@ use Rattle.hierarchy.proofs.FirstLaws.{any-more, none-at, Walked, walk-
 use Rattle.hierarchy.specs.Conditions.{IsPlace}
 use Rattle.card.specs.Index.{Begins}
 use Rattle.hierarchy.specs.inner.Arcs.{PlacesThere}
-use Rattle.hierarchy.specs.Check.{seen, takes, directed, weighted, repeats, single, selfLoop, loopFits, loopsFit, hasUnit, Found, arcFault, transitionFault, subnetFault}
+use Rattle.hierarchy.specs.Check.{seen, takes, directed, weighted, samePlace, repeats, single, selfLoop, loopFits, loopsFit, hasUnit, Found, arcFault, transitionFault, subnetFault}
 use Rattle.hierarchy.specs.declared.CardFault.the-variants.{Unseen, Direction, Weight, Repeated, DeadLoop, NoUnit}
 
 -- a place that is there is one of a subnet that is there
@@ -134,65 +134,52 @@ pub some-weight : (c : Card) (a : Arc) (k : ℕ) → 1 ≤ a .weight → k ≡ (
 unfolding weighted
 some-weight c a k l e = sym (rw (le-leb 1 (a .weight) l, ← e))
 
--- 13 and 26: two arcs of different places or of different subnets, and of one place
-abbrev pub Apart : (a b : Arc) → Type 0
-Apart a b = (repeats a b ≡ false) × (selfLoop a b ≡ false)
-
-other-place : (a b : Arc) → eqb (a .place) (b .place) ≡ false → Apart a b
-other-place a b e =
-    (rw e (and-no (eqb (a .direction) (b .direction) && eqb (a .subnet) (b .subnet))), rw e (and-no (not (eqb (a .direction) (b .direction)) && eqb (a .subnet) (b .subnet))))
-
-other-subnet : (a b : Arc) → eqb (a .subnet) (b .subnet) ≡ false → Apart a b
-other-subnet a b e = (rw e (go (eqb (a .direction) (b .direction))), rw e (go (not (eqb (a .direction) (b .direction)))))
-  where
-    go : (x : Bool) → x && false && eqb (a .place) (b .place) ≡ false
-    go x = rw (and-no x)
-
-same-place : (a b : Arc) (x : Bool) → eqb (a .place) (b .place) ≡ true → eqb (a .subnet) (b .subnet) ≡ true → eqb (a .direction) (b .direction) ≡ x
-    → (repeats a b ≡ x) × (selfLoop a b ≡ not x)
-same-place a b x e f g = (rw (e, f, g) (go x), rw (e, f, g) (go (not x)))
-  where
-    go : (y : Bool) → y && true && true ≡ y
-    go true = refl
-    go false = refl
-
+-- 13 and 26: whether arc h is at the place of an arc
 module _ {numbers : List ℕ} {row h : ℕ} (a : Arc) {b : Arc} (t : ArcThere numbers row h b) where
-  pub not-there : {p : ℕ} → p ≡ getD numbers (arcField row h 2) 0 → (p ≡ a .place → ⊥) → Apart b a
-  not-there e n = other-place b a (ne-eqb (b .place) (a .place) (λ q. n (e ∙ t .place ∙ q)))
+  pub other-place : {p : ℕ} → p ≡ getD numbers (arcField row h 2) 0 → (p ≡ a .place → ⊥) → samePlace b a ≡ false
+  other-place e n = rw (ne-eqb (b .place) (a .place) (λ q. n (e ∙ t .place ∙ q))) (and-no (eqb (b .subnet) (a .subnet)))
 
-  pub not-in : {s : ℕ} → s ≡ getD numbers (arcField row h 1) 0 → (s ≡ a .subnet → ⊥) → Apart b a
-  not-in e n = other-subnet b a (ne-eqb (b .subnet) (a .subnet) (λ q. n (e ∙ t .subnet ∙ q)))
+  pub other-subnet : {s : ℕ} → s ≡ getD numbers (arcField row h 1) 0 → (s ≡ a .subnet → ⊥) → samePlace b a ≡ false
+  other-subnet e n = rw (ne-eqb (b .subnet) (a .subnet) (λ q. n (e ∙ t .subnet ∙ q)))
 
-  module _ {p s d : ℕ} (ep : p ≡ getD numbers (arcField row h 2) 0) (p≡ : p ≡ a .place) (es : s ≡ getD numbers (arcField row h 1) 0) (s≡ : s ≡ a .subnet) (ed : d ≡ getD numbers (arcField row h 0) 0) where
-    there-too : (x : Bool) → eqb d (a .direction) ≡ x → (repeats b a ≡ x) × (selfLoop b a ≡ not x)
-    there-too x e =
-        same-place b a x (eq-eqb (b .place) (a .place) (sym (t .place) ∙ sym ep ∙ p≡)) (eq-eqb (b .subnet) (a .subnet) (sym (t .subnet) ∙ sym es ∙ s≡))
-        (ap (λ (y : ℕ). eqb y (a .direction)) (sym (ed ∙ t .direction)) ∙ e)
+  pub one-place : {p s : ℕ} → p ≡ getD numbers (arcField row h 2) 0 → s ≡ getD numbers (arcField row h 1) 0 → p ≡ a .place → s ≡ a .subnet → samePlace b a ≡ true
+  one-place ep es q r = rw (eq-eqb (b .place) (a .place) (sym (t .place) ∙ sym ep ∙ q), eq-eqb (b .subnet) (a .subnet) (sym (t .subnet) ∙ sym es ∙ r))
 
-    pub repeated : d ≡ a .direction → (repeats b a ≡ true) × (selfLoop b a ≡ false)
-    repeated e = there-too true (eq-eqb d (a .direction) e)
+-- what is known of an arc, with an arc besides at another place,
+module _ (x : Bool) (a b : Arc) (e : samePlace b a ≡ false) where
+  pub apart-single : x ≡ (x && not (repeats b a))
+  apart-single = sym (rw e (rw (and-no (eqb (b .direction) (a .direction))) (and-yes x)))
 
-    pub looped : (d ≡ a .direction → ⊥) → (repeats b a ≡ false) × (selfLoop b a ≡ true)
-    looped n = there-too false (ne-eqb d (a .direction) n)
+  pub apart-fits : (k : ℕ) → x ≡ (x && loopFits k b a)
+  apart-fits k = sym (rw e (rw (and-no (not (eqb (b .direction) (a .direction)))) (and-yes x)))
 
--- what is known of an arc, with an arc besides that leaves it as it is, that repeats it, and that is a self-loop with it
-module _ (x : Bool) (a b : Arc) where
-  pub still-single : repeats b a ≡ false → x ≡ (x && not (repeats b a))
-  still-single e = sym (rw e (and-yes x))
+-- and with one at its place, of its direction or of the other
+module _ (x : Bool) (a : Arc) {b : Arc} (e : samePlace b a ≡ true) {numbers : List ℕ} {row h : ℕ} (t : ArcThere numbers row h b) {d : ℕ} (ed : d ≡ getD numbers (arcField row h 0) 0) where
+  same-way : d ≡ a .direction → eqb (b .direction) (a .direction) ≡ true
+  same-way q = eq-eqb (b .direction) (a .direction) (sym (t .direction) ∙ sym ed ∙ q)
 
-  pub not-single : repeats b a ≡ true → false ≡ (x && not (repeats b a))
-  not-single e = sym (rw e (and-no x))
+  other-way : (d ≡ a .direction → ⊥) → eqb (b .direction) (a .direction) ≡ false
+  other-way n = ne-eqb (b .direction) (a .direction) (λ q. n (ed ∙ t .direction ∙ q))
+
+  pub not-single : d ≡ a .direction → false ≡ (x && not (repeats b a))
+  not-single q = sym (rw (same-way q, e) (and-no x))
+
+  pub still-single : (d ≡ a .direction → ⊥) → x ≡ (x && not (repeats b a))
+  still-single n = sym (rw (other-way n) (and-yes x))
 
   module _ (k : ℕ) where
-    pub no-loop : selfLoop b a ≡ false → x ≡ (x && loopFits k b a)
-    no-loop e = sym (rw e (and-yes x))
+    pub no-loop : d ≡ a .direction → x ≡ (x && loopFits k b a)
+    no-loop q = sym (rw (same-way q) (and-yes x))
 
-    module _ {w : ℕ} (e : w ≡ b .weight) where
+    module _ {w : ℕ} (ew : w ≡ getD numbers (arcField row h 3) 0) where
+      sum-is : w + a .weight ≡ b .weight + a .weight
+      sum-is = ap (λ (v : ℕ). v + a .weight) (ew ∙ t .weight)
+
       pub loop-fits : w + a .weight ≤ k → x ≡ (x && loopFits k b a)
-      loop-fits l = sym (rw (le-leb (b .weight + a .weight) k (omega arith)) (rw (or-yes (not (selfLoop b a))) (and-yes x)))
+      loop-fits l = sym (rw (le-leb (b .weight + a .weight) k (omega (arith, l, sum-is))) (rw (or-yes (not (selfLoop b a))) (and-yes x)))
 
-      pub loop-over : selfLoop b a ≡ true → k < w + a .weight → false ≡ (x && loopFits k b a)
-      loop-over s l = sym (rw (s, lt-leb (b .weight + a .weight) k (omega arith)) (and-no x))
+      pub loop-over : (d ≡ a .direction → ⊥) → k < w + a .weight → false ≡ (x && loopFits k b a)
+      loop-over n l = sym (rw (other-way n, e, lt-leb (b .weight + a .weight) k (omega (arith, l, sum-is))) (and-no x))
 
 -- arc j of a transition whose row begins there
 arc-there : {c : Card} {numbers : List ℕ} {row i t : ℕ} → Laid c numbers → Begins c row i t → (j : ℕ) → j < (transitionAt c t) .arcs → ArcThere numbers row j (arcAt c t j)

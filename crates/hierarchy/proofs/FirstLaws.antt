@@ -1,11 +1,11 @@
 -- Searching and testing number after number. Assumes nothing.
 use Prim.Native.Nat.{ℕ, suc, _+_, _-_, _≤_, _<_}
 use mathlib.Core.Path.{_≡_, sym, ap, _∙_}
-use mathlib.Core.Bool.{Bool, true, false}
+use mathlib.Core.Bool.{Bool, false}
 use mathlib.Core.Option.{Option, none, some}
 use native.Mathlib.Omega.{arith}
 use native.Mathlib.Numerals.{add-one}
-use Rattle.card.specs.Finite.{every, any, firstOf}
+use Rattle.card.specs.Finite.{any, firstOf}
 use Rattle.card.proofs.Decides.{firstOf-is}
 
 -- what a search finds is what it finds from k on, up to end
@@ -32,11 +32,7 @@ module _ {A : Type 0} {whole : Option A} {f : ℕ → Option A} {end k : ℕ} (h
 pub none-at : {A : Type 0} (from n : ℕ) (f : ℕ → Option A) → firstOf from n f ≡ none → (k : ℕ) → from ≤ k → k < from + n → f k ≡ none
 none-at from n f e = firstOf-is from n f (λ k. f k ≡ none) (λ k. (λ h. h, λ h. h)) .0 e
 
--- a test of all numbers below k, and of k; a test of some
-pub every-more : (k : ℕ) (f : ℕ → Bool) → every k f ≡ true → f k ≡ true → every (k + 1) f ≡ true
-unfolding every
-every-more k f h e = rw (add-one, h, e)
-
+-- a test of some number below k, and of k
 pub any-more : (k : ℕ) (f : ℕ → Bool) → any k f ≡ false → f k ≡ false → any (k + 1) f ≡ false
 unfolding any
 any-more k f h e = rw (add-one, h, e)

@@ -1,6 +1,7 @@
 pub mod Agree
 pub mod Sharing
 pub mod Accepted
+pub mod DeadLoopLaws
 pub mod FirstLaws
 pub mod WalkLaws
 pub mod LoadedLaws

@@ -29,15 +29,18 @@ directed c i a = eqb (a .subnet) i || takes ((placeOf c a) .kind) (a .direction)
 unfoldable pub weighted : Card → Arc → Bool
 weighted c a = leb 1 (a .weight) && leb (a .weight) ((placeOf c a) .capacity)
 
+abbrev pub samePlace : (a b : Arc) → Bool
+samePlace a b = eqb (a .subnet) (b .subnet) && eqb (a .place) (b .place)
+
 abbrev pub repeats : (a b : Arc) → Bool
-repeats a b = eqb (a .direction) (b .direction) && eqb (a .subnet) (b .subnet) && eqb (a .place) (b .place)
+repeats a b = eqb (a .direction) (b .direction) && samePlace a b
 
 -- no lower arc of transition t has the place and the direction of arc j
 unfoldable pub single : Card → (t j : ℕ) → Bool
 single c t j = every j (λ h. not (repeats (arcAt c t h) (arcAt c t j)))
 
 abbrev pub selfLoop : (a b : Arc) → Bool
-selfLoop a b = not (eqb (a .direction) (b .direction)) && eqb (a .subnet) (b .subnet) && eqb (a .place) (b .place)
+selfLoop a b = not (eqb (a .direction) (b .direction)) && samePlace a b
 
 -- two arcs that are a self-loop at a place of this capacity have their weights within it together
 abbrev pub loopFits : (capacity : ℕ) → (a b : Arc) → Bool

@@ -131,8 +131,8 @@ fn beside_arc(numbers: &[u16], row: u32, h: u16, a: Arc, capacity: u16, known: B
     }
 }
 
-// The same with all lower arcs of the transition, for its arc j, which is a. One walk serves both tests, since it is most of what the check of
-// a card with many arcs costs.
+// The same with all lower arcs of the transition, for its arc j, which is a. One walk serves both tests: on a card with many arcs it is most of
+// pass two.
 fn beside_lower(numbers: &[u16], row: u32, j: u16, a: Arc, capacity: u16) -> Beside
     ensures { λ r. ⌜ ((c : Card) → Laid c (now (numbers .entry)) → (i t : ℕ) → Begins c row i t → j < (transitionAt c t) .arcs → arcOf a ≡ arcAt c t j → r .single ≡ single c t j) ⌝ }
     ensures { λ r. ⌜ ((c : Card) → Laid c (now (numbers .entry)) → (i t : ℕ) → Begins c row i t → j < (transitionAt c t) .arcs → arcOf a ≡ arcAt c t j → capacity ≡ (placeOf c (arcOf a)) .capacity → r .fits ≡ loopsFit c t j) ⌝ }

@@ -121,9 +121,9 @@ fillers =
       arcs = from 0 1 1 ∷ to 0 0 1 ∷ from 0 2 1 ∷ to 0 0 1 ∷ [];
     })
 
--- CR 2: subnet 0's transition has two arcs more than the one that fills its place; place (1,0) is an in-out place with one token
-abbrev pub looped : (capacity : ℕ) → (first second : Arc) → List ℕ
-looped capacity first second =
+-- CR 2: the three arcs of subnet 0's transition; place (1,0) is an in-out place with one token
+abbrev pub looped : (capacity : ℕ) → (first second third : Arc) → List ℕ
+looped capacity first second third =
     encode (record {
       version = 1;
       signals = 2;
@@ -132,7 +132,7 @@ looped capacity first second =
       subnets = subnet 0 0 1 1 ∷ subnet 0 0 2 1 ∷ [];
       places = place normal 1 0 ∷ place inOut capacity 1 ∷ place normal 1 0 ∷ [];
       transitions = transition 0 3 ∷ transition 1 2 ∷ [];
-      arcs = first ∷ second ∷ to 0 0 1 ∷ from 1 0 1 ∷ to 1 1 1 ∷ [];
+      arcs = first ∷ second ∷ third ∷ from 1 0 1 ∷ to 1 1 1 ∷ [];
     })
 
 abbrev pub row : (a b : ℕ) → List ℕ
@@ -179,8 +179,8 @@ cases =
     ∷ call-of B (0 ∷ []) (state 1000 0 0 Idle Idle 500 500) empty gives both (RowOutcome.refused 22 (some 0)) (state 1000 0 0 Idle Idle 500 500)
     ∷ check-of (bench 0 input (to 0 0 1)) gives answers (refused 26 93)
     ∷ check-of (bench 0 input (to 0 0 2)) gives answers (refused 12 93)
-    ∷ check-of (looped 2 (from 1 0 1) (to 1 0 1)) gives answers (accepted 2 3 2)
-    ∷ check-of (looped 3 (from 1 0 2) (to 1 0 2)) gives answers (refused 26 93)
-    ∷ check-of (looped 3 (to 1 0 2) (from 1 0 2)) gives answers (refused 26 93)
-    ∷ run-of (looped 2 (from 1 0 1) (to 1 0 1)) (row 500 0 ∷ []) gives prints (ascii "1 ok 500 1000 0 | 500 -\n")
+    ∷ check-of (looped 2 (from 1 0 1) (to 1 0 1) (to 0 0 1)) gives answers (accepted 2 3 2)
+    ∷ check-of (looped 2 (from 1 0 1) (to 1 0 1) (from 1 0 2)) gives answers (refused 13 115)
+    ∷ check-of (looped 3 (from 1 0 2) (to 1 0 2) (to 0 0 1)) gives answers (refused 26 93)
+    ∷ check-of (looped 3 (to 1 0 2) (from 1 0 2) (to 0 0 1)) gives answers (refused 26 93)
     ∷ []

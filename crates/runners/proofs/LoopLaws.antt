@@ -1,5 +1,5 @@
--- CR 2 turns back the right cards: a transition with a loop that 26 turns back is never a candidate, a loop within the capacity has a marking at
--- which both arcs allow a start, and each transition of an accepted card can start. Assumes nothing.
+-- CR 2 turns back the right cards: a transition with a loop that fails the test of 26 is never a candidate, a loop within the capacity has a
+-- marking at which both arcs allow a start, and each transition of an accepted card can start. Assumes nothing.
 use Prim.Native.Nat.{ℕ, zero, suc, _+_, _-_, _*_, _≤_, _<_}
 use mathlib.Core.Path.{_≡_, refl, sym, ap, _∙_}
 use mathlib.Core.Bool.{Bool, true, false}
@@ -14,12 +14,17 @@ use borrow.Author.Tests.{eqb-true, eqb-false, eq-eqb, ltb-true, ltb-false}
 use Rattle.card.specs.Finite.{sumTo, table, All}
 use Rattle.card.specs.Card.{Arc, Card, draws, fills, placeAt, transitionAt, arcAt, firstPlace, firstArc, flatPlace, placeOf, noTransition, noArc}
 use Rattle.card.specs.Wellformed.{TransitionRow, ArcRow, Wellformed}
+use Rattle.card.specs.Parsing.{readCard}
+use Rattle.card.specs.Parsing
 use Rattle.card.proofs.TableLaws.{no-yes}
+use Rattle.card.proofs.Ranges.{read-wellformed}
 use Rattle.card.proofs.Sums.{sum-mono, table-at, table-length, all-at}
 use Rattle.card.proofs.Decides.{Decides, le-is, lt-is, and-is, every-is}
 use Rattle.hierarchy.specs.Conditions.{SelfLoop, Meets}
 use Rattle.hierarchy.specs.Check.{loopsFit}
+use Rattle.hierarchy.specs.Judgement.{refused, judge}
 use Rattle.hierarchy.proofs.Agree.{loopsFit-is}
+use Rattle.hierarchy.proofs.DeadLoopLaws.{DeadAt, told-26}
 use Rattle.flattening.specs.Flattening.{flatten}
 use Rattle.flattening.proofs.FlatLaws.{arc-flat, net-flat, Home, home, flat-below, flat-meets}
 use Rattle.runners.specs.State.{NetState, scale, entry, transfer, remaining, weightAt, incidence, flow, owed, due, fullMarking, Claims, claims}
@@ -45,7 +50,7 @@ unscaled : (u x k : ℕ) → 0 < u → u * x ≤ u * k → x ≤ k
 unscaled u x k p h = go (ltb k x) refl
   where
     go : (b : Bool) → ltb k x ≡ b → x ≤ k
-    go true e = absurd (omega (arith, p, h, mul-le-mul-left u (lt-is k x .0 e)))
+    go true e = absurd (omega (arith, p, h, mul-le-mul-left u (ltb-true k x e)))
     go false e = omega (arith, ltb-false k x e)
 
 -- what an arc asks of its place's marking
@@ -63,22 +68,25 @@ module _ (f : Card) (a b : Arc) (d : a .direction ≡ draws) (u : b .direction �
   abbrev p : ℕ
   p = a .place
 
-  -- allow a start together only where both weights are within the capacity together, whatever is claimed,
+  -- allow a start together only where both weights are within the capacity together, whatever is there and whatever is claimed,
   pub loop-within : (k : Claims) (ms : List ℕ) → allows f k ms a ≡ true → allows f k ms b ≡ true → a .weight + b .weight ≤ (placeAt f p) .capacity
   loop-within k ms x y =
       let v = draws-is f k ms a d .0 x in
       let w : entry ms p + k .due p + scale f * b .weight ≤ fullMarking f p = rw e at (fills-is f k ms b u .0 y) in
       unscaled (scale f) (a .weight + b .weight) ((placeAt f p) .capacity) (scale-some f) (omega (arith, v, w))
 
-  -- and there they do at a marking of as many tokens as are drawn, where nothing is claimed.
+  -- and there a marking of the place allows both, where nothing is claimed: as many tokens as are drawn.
   pub loop-allowed : a .weight + b .weight ≤ (placeAt f p) .capacity
-      → (k : Claims) (ms : List ℕ) → k .owed p ≡ 0 → k .due p ≡ 0 → entry ms p ≡ scale f * a .weight
-      → (allows f k ms a ≡ true) × (allows f k ms b ≡ true)
-  loop-allowed l k ms o n m =
-      let w : entry ms p + k .due p + scale f * b .weight ≤ fullMarking f p = omega (arith, n, m, mul-le-mul-left (scale f) l) in
-      (draws-is f k ms a d .1 (omega (arith, o, m)), fills-is f k ms b u .1 (rw e w))
+      → (m : ℕ) × (m ≤ fullMarking f p)
+      × ((k : Claims) (ms : List ℕ) → k .owed p ≡ 0 → k .due p ≡ 0 → entry ms p ≡ m → (allows f k ms a ≡ true) × (allows f k ms b ≡ true))
+  loop-allowed l = (scale f * a .weight, omega (arith, mul-le-mul-left (scale f) l), both)
+    where
+      both : (k : Claims) (ms : List ℕ) → k .owed p ≡ 0 → k .due p ≡ 0 → entry ms p ≡ scale f * a .weight → (allows f k ms a ≡ true) × (allows f k ms b ≡ true)
+      both k ms o n m =
+          let w : entry ms p + k .due p + scale f * b .weight ≤ fullMarking f p = omega (arith, n, m, mul-le-mul-left (scale f) l) in
+          (draws-is f k ms a d .1 (omega (arith, o, m)), fills-is f k ms b u .1 (rw e w))
 
--- A TRANSITION WITH A LOOP THAT 26 TURNS BACK IS A CANDIDATE IN NO STATE AND NO ROW, be they valid or not
+-- A TRANSITION WITH A LOOP THAT FAILS THE TEST OF 26 IS A CANDIDATE IN NO STATE AND NO ROW, be they valid or not
 direction-few : (xs : List Arc) → All ArcRow xs → (i : ℕ) → (getD xs i noArc) .direction ≤ fills
 direction-few [] h i = omega arith
 direction-few (x ∷ xs) h zero = h .0 .direction
@@ -138,6 +146,13 @@ module _ (c : Card) (t : ℕ) where
         go : (z : Bool) → candidate (flatten c) s row t ≡ z → candidate (flatten c) s row t ≡ false
         go true e = no-yes (sym f ∙ candidate-fits e)
         go false e = e
+
+-- BYTES THAT ARE REFUSED WITH 26 HAVE A TRANSITION THAT IS A CANDIDATE IN NO STATE AND NO ROW, and the bit is that of an arc of it
+pub refused-never : (bytes : List ℕ) (c : Card) (end at : ℕ) → readCard bytes ≡ Parsing.whole c end → judge bytes ≡ refused 26 at
+    → (d : DeadAt c at) × ((s : NetState) (row : List ℕ) → candidate (flatten c) s row (d .transition) ≡ false)
+refused-never bytes c end at p e =
+    let d = told-26 bytes c end at p e in
+    (d, λ s row. loop-never c (d .transition) (read-wellformed bytes c end p) (d .arc) (d .there) s row (d .fails))
 
 -- a valid state and a row in which a transition is a candidate
 pub record Starts (f : Card) (t : ℕ) : Type 0 where

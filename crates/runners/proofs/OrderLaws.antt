@@ -18,7 +18,7 @@ use borrow.Author.Tests.{eqb-true, eqb-false, eq-eqb, ne-eqb}
 use Rattle.card.specs.Finite.{sumTo, every, any}
 use Rattle.card.proofs.Sums.{sum-same, sum-zero, sum-front, sum-mono}
 use Rattle.card.specs.Finite.{one}
-use Rattle.hierarchy.proofs.WalkLaws.{and-no, any-one}
+use Rattle.hierarchy.proofs.WalkLaws.{and-no, and-yes, any-one}
 use Rattle.runners.specs.Calls.{names, eachOnce}
 
 -- the digit of a at place k
@@ -105,10 +105,6 @@ ones-le (suc n) f = go (f n) (ones-le n f)
     go : (b : Bool) → sumTo n (λ k. one (f k)) ≤ n → sumTo n (λ k. one (f k)) + one b ≤ suc n
     go true h = omega arith
     go false h = omega arith
-
-and-yes : (a : Bool) → (a && true) ≡ a
-and-yes true = refl
-and-yes false = refl
 
 suc-eqb : (a b : ℕ) → eqb (suc a) (suc b) ≡ eqb a b
 suc-eqb a b = go (eqb a b) refl

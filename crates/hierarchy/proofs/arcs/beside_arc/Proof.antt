@@ -1,7 +1,6 @@
 -- `hierarchy::arcs::beside_arc` meets its contract. Assumes nothing.
-use mathlib.Core.Path.{_∙_}
 use Rattle.card.specs.Index.{arcOf}
-use Rattle.hierarchy.proofs.ArcLaws.{not-there, not-in, repeated, looped, still-single, not-single, no-loop, loop-fits, loop-over}
+use Rattle.hierarchy.proofs.ArcLaws.{other-place, other-subnet, one-place, apart-single, apart-fits, not-single, still-single, no-loop, loop-fits, loop-over}
 use borrow.Author.Needs.{needs}
 use Rattle.hierarchy.proofs.arcs.beside_arc.Statement.{statement}
 use Rattle.hierarchy.proofs.arcs.beside_arc.Tie as tie
@@ -12,9 +11,9 @@ arc-place-requires c κs = search needs
 returns : tie.Need-returns
 returns c =
     let x = c .before .before .before .before .args in
-    let at = c .before .before .arc-place .ensures in (
-      λ b t. still-single (x .known .single) (arcOf (x .a)) b (not-there (arcOf (x .a)) t at (c .if1 .taken) .0),
-      λ b t. no-loop (x .known .fits) (arcOf (x .a)) b (x .capacity) (not-there (arcOf (x .a)) t at (c .if1 .taken) .1),
+    let p = c .before .before .arc-place .ensures in (
+      λ b t. apart-single (x .known .single) (arcOf (x .a)) b (other-place (arcOf (x .a)) t p (c .if1 .taken)),
+      λ b t. apart-fits (x .known .fits) (arcOf (x .a)) b (other-place (arcOf (x .a)) t p (c .if1 .taken)) (x .capacity),
     )
 
 arc-subnet-requires : tie.Need-arc-subnet-requires
@@ -23,9 +22,9 @@ arc-subnet-requires c κs = search needs
 returns-2 : tie.Need-returns-2
 returns-2 c =
     let x = c .before .before .before .before .before .before .before .args in
-    let at = c .before .before .arc-subnet .ensures in (
-      λ b t. still-single (x .known .single) (arcOf (x .a)) b (not-in (arcOf (x .a)) t at (c .if2 .taken) .0),
-      λ b t. no-loop (x .known .fits) (arcOf (x .a)) b (x .capacity) (not-in (arcOf (x .a)) t at (c .if2 .taken) .1),
+    let s = c .before .before .arc-subnet .ensures in (
+      λ b t. apart-single (x .known .single) (arcOf (x .a)) b (other-subnet (arcOf (x .a)) t s (c .if2 .taken)),
+      λ b t. apart-fits (x .known .fits) (arcOf (x .a)) b (other-subnet (arcOf (x .a)) t s (c .if2 .taken)) (x .capacity),
     )
 
 arc-direction-requires : tie.Need-arc-direction-requires
@@ -37,8 +36,8 @@ returns-3 c =
     let p = c .before .before .before .before .before .before .before .before .arc-place .ensures in
     let s = c .before .before .before .before .before .arc-subnet .ensures in
     let d = c .before .before .arc-direction .ensures in (
-      λ b t. not-single (x .known .single) (arcOf (x .a)) b (repeated (arcOf (x .a)) t p (c .before .before .before .before .before .before .if1 .left) s (c .before .before .before .if2 .left) d (c .if3 .taken) .0),
-      λ b t. no-loop (x .known .fits) (arcOf (x .a)) b (x .capacity) (repeated (arcOf (x .a)) t p (c .before .before .before .before .before .before .if1 .left) s (c .before .before .before .if2 .left) d (c .if3 .taken) .1),
+      λ b t. not-single (x .known .single) (arcOf (x .a)) (one-place (arcOf (x .a)) t p s (c .before .before .before .before .before .before .if1 .left) (c .before .before .before .if2 .left)) t d (c .if3 .taken),
+      λ b t. no-loop (x .known .fits) (arcOf (x .a)) (one-place (arcOf (x .a)) t p s (c .before .before .before .before .before .before .if1 .left) (c .before .before .before .if2 .left)) t d (x .capacity) (c .if3 .taken),
     )
 
 arc-weight-requires : tie.Need-arc-weight-requires
@@ -58,9 +57,10 @@ returns-4 c =
     let x = c .before .before .before .before .before .before .before .before .before .before .before .before .before .args in
     let p = c .before .before .before .before .before .before .before .before .before .before .before .arc-place .ensures in
     let s = c .before .before .before .before .before .before .before .before .arc-subnet .ensures in
-    let d = c .before .before .before .before .before .arc-direction .ensures in (
-      λ b t. still-single (x .known .single) (arcOf (x .a)) b (looped (arcOf (x .a)) t p (c .before .before .before .before .before .before .before .before .before .if1 .left) s (c .before .before .before .before .before .before .if2 .left) d (c .before .before .before .if3 .left) .0),
-      λ b t. loop-fits (x .known .fits) (arcOf (x .a)) b (x .capacity) (c .before .before .arc-weight .ensures ∙ t .weight) (c .if4 .taken),
+    let d = c .before .before .before .before .before .arc-direction .ensures in
+    let w = c .before .before .arc-weight .ensures in (
+      λ b t. still-single (x .known .single) (arcOf (x .a)) (one-place (arcOf (x .a)) t p s (c .before .before .before .before .before .before .before .before .before .if1 .left) (c .before .before .before .before .before .before .if2 .left)) t d (c .before .before .before .if3 .left),
+      λ b t. loop-fits (x .known .fits) (arcOf (x .a)) (one-place (arcOf (x .a)) t p s (c .before .before .before .before .before .before .before .before .before .if1 .left) (c .before .before .before .before .before .before .if2 .left)) t d (x .capacity) w (c .if4 .taken),
     )
 
 returns-5 : tie.Need-returns-5
@@ -68,9 +68,10 @@ returns-5 c =
     let x = c .before .before .before .before .before .before .before .before .before .before .before .before .before .args in
     let p = c .before .before .before .before .before .before .before .before .before .before .before .arc-place .ensures in
     let s = c .before .before .before .before .before .before .before .before .arc-subnet .ensures in
-    let d = c .before .before .before .before .before .arc-direction .ensures in (
-      λ b t. still-single (x .known .single) (arcOf (x .a)) b (looped (arcOf (x .a)) t p (c .before .before .before .before .before .before .before .before .before .if1 .left) s (c .before .before .before .before .before .before .if2 .left) d (c .before .before .before .if3 .left) .0),
-      λ b t. loop-over (x .known .fits) (arcOf (x .a)) b (x .capacity) (c .before .before .arc-weight .ensures ∙ t .weight) (looped (arcOf (x .a)) t p (c .before .before .before .before .before .before .before .before .before .if1 .left) s (c .before .before .before .before .before .before .if2 .left) d (c .before .before .before .if3 .left) .1) (c .if4 .left),
+    let d = c .before .before .before .before .before .arc-direction .ensures in
+    let w = c .before .before .arc-weight .ensures in (
+      λ b t. still-single (x .known .single) (arcOf (x .a)) (one-place (arcOf (x .a)) t p s (c .before .before .before .before .before .before .before .before .before .if1 .left) (c .before .before .before .before .before .before .if2 .left)) t d (c .before .before .before .if3 .left),
+      λ b t. loop-over (x .known .fits) (arcOf (x .a)) (one-place (arcOf (x .a)) t p s (c .before .before .before .before .before .before .before .before .before .if1 .left) (c .before .before .before .before .before .before .if2 .left)) t d (x .capacity) w (c .before .before .before .if3 .left) (c .if4 .left),
     )
 
 pub beside-arc-spec : {M : Type 1} → statement M
