@@ -191,7 +191,7 @@ module _ (c : Card) (m : Meets c) (t : ℕ) (l : t < length (c .transitions)) wh
   unfolding firstPlace sumTo
   own-capacity j = rw (arc-flat c t j, zero-add) refl
 
-  -- what it draws from a place is there at most, at least what an arc draws, and leaves room for what an arc fills
+  -- what it draws from a place is within the capacity, at least what one arc draws, and leaves room for what an arc fills
   drawn-most : (p : ℕ) → drawn p ≤ capacityAt p
   drawn-most p = incidence-most c m draws t p (capacityAt p) below (λ j k d q. let w = at .sound .weighted j k .fits in omega (arith, w, own-capacity j, ap capacityAt q))
 
@@ -226,7 +226,7 @@ module _ (c : Card) (m : Meets c) (t : ℕ) (l : t < length (c .transitions)) wh
       let x = incidence-most c m draws t p (capacityAt p - (arcAt f t j) .weight) below (λ i k d q. omega (arith, both i j k n d u q)) in
       omega (arith, w, x, own-capacity j)
 
-  -- the state in which it is: nothing carries, and each place has what the transition draws from it
+  -- the state and the row: nothing carries, each place has what the transition draws from it, and all signals are up
   ready : NetState
   ready =
       record {
