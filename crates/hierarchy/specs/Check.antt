@@ -116,8 +116,8 @@ transitionFault c i t =
 unfoldable pub subnetFault : Card → (i : ℕ) → Option Found
 subnetFault c i = firstOf (firstTransition c i) ((subnetAt c i) .transitions) (transitionFault c i)
 
--- by subnet, transition, arc 10 to 13, 26 and 14; then by subnet 15, no interface place; then by subnet 16, unlike a lower subnet of its type (both: the
--- subnet's first bit)
+-- by subnet, transition, arc 10 to 13 and 26, with 14 after a transition's arcs; then by subnet 15, no interface place; then by subnet 16, unlike
+-- a lower subnet of its type (both: the subnet's first bit)
 unfoldable pub check : Card → Option Found
 check c =
     firstOf 0 (length (c .subnets)) (subnetFault c)

@@ -9,7 +9,7 @@ use native.Mathlib.Nat.{mul-le-mul}
 use lib.ListN.{length, getD}
 use lib.Dec.{eqb}
 use Rattle.card.specs.Finite.{sumTo, All}
-use Rattle.card.specs.Card.{Arc, Card, transitionAt, arcAt, noArc}
+use Rattle.card.specs.Card.{Arc, Card, transitionAt, arcAt, firstArc, noArc}
 use Rattle.card.specs.Wellformed.{ArcRow}
 use Rattle.card.proofs.Sums.{sum-zero}
 use Rattle.card.proofs.Decides.{eq-is, and-is}
@@ -41,10 +41,11 @@ sum-one (suc n) hit w b few one = go (hit n) refl (sum-one n hit w b (λ i l. fe
     go true e r = omega (arith, few n (omega arith) e, sum-zero n (λ i. cond (hit i) (w i) 0) (λ i l. others e i l (hit i) refl))
     go false e r = omega arith
 
-weight-few : (xs : List Arc) → All ArcRow xs → (i : ℕ) → (getD xs i noArc) .weight ≤ 255
-weight-few [] h i = omega arith
-weight-few (x ∷ xs) h zero = omega (arith, h .0 .weight)
-weight-few (x ∷ xs) h (suc i) = weight-few xs (h .1) i
+-- an arc is in its ranges, past the last one too
+pub arc-row : (xs : List Arc) → All ArcRow xs → (i : ℕ) → ArcRow (getD xs i noArc)
+arc-row [] h i = record { direction = omega arith; subnet = omega arith; place = omega arith; weight = omega arith }
+arc-row (x ∷ xs) h zero = h .0
+arc-row (x ∷ xs) h (suc i) = arc-row xs (h .1) i
 
 -- what remains of a transfer is at most the whole
 pub remaining-few : (f : Card) (x : Transfer) → remaining f x ≤ scale f
@@ -84,7 +85,7 @@ module _ (c : Card) (m : Meets c) where
       sum-one ((transitionAt f t) .arcs) (hits way p t) (λ j. (arcAt f t j) .weight) b (λ j k h. let u = hit-is way p t j h in few j k (u .0) (u .1)) (λ i j. single way p t i j l)
 
   incidence-few : (way t p : ℕ) → t < length (f .transitions) → incidence f way t p ≤ 255
-  incidence-few way t p l = incidence-most way t p 255 l (λ j k d q. weight-few (f .arcs) (flat .wellformed .rows .arcs) _)
+  incidence-few way t p l = incidence-most way t p 255 l (λ j k d q. omega (arith, arc-row (f .arcs) (flat .wellformed .rows .arcs) (firstArc f t + j) .weight))
 
   flow-few : (amount : ℕ → ℕ) (b : ℕ) → ((t : ℕ) → t < length (f .transitions) → amount t ≤ b) → (way p : ℕ) → flow f amount way p ≤ 65025 * b
   unfolding flow

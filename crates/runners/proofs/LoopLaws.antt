@@ -1,19 +1,19 @@
 -- CR 2 turns back the right cards: a transition with a loop that fails the test of 26 is never a candidate, a loop within the capacity has a
 -- marking at which both arcs allow a start, and each transition of an accepted card can start. Assumes nothing.
-use Prim.Native.Nat.{ℕ, zero, suc, _+_, _-_, _*_, _≤_, _<_}
+use Prim.Native.Nat.{ℕ, suc, _+_, _-_, _*_, _≤_, _<_}
 use mathlib.Core.Path.{_≡_, refl, sym, ap, _∙_}
 use mathlib.Core.Bool.{Bool, true, false}
 use mathlib.Core.Logic.{_≢_, inr}
-use mathlib.Core.List.{List, [], _∷_}
+use mathlib.Core.List.{List}
 use mathlib.Core.Option.{none}
 use native.Mathlib.Omega.{arith}
-use native.Mathlib.Nat.{zero-add, mul-le-mul-left}
-use lib.ListN.{length, getD}
+use native.Mathlib.Nat.{zero-add, mul-le-mul-left, le-of-mul-le-mul-left}
+use lib.ListN.{length}
 use lib.Dec.{ltb, eqb}
 use borrow.Author.Tests.{eqb-true, eqb-false, eq-eqb, ltb-true, ltb-false}
-use Rattle.card.specs.Finite.{sumTo, table, All}
-use Rattle.card.specs.Card.{Arc, Card, draws, fills, placeAt, transitionAt, arcAt, firstPlace, firstArc, flatPlace, placeOf, noTransition, noArc}
-use Rattle.card.specs.Wellformed.{TransitionRow, ArcRow, Wellformed}
+use Rattle.card.specs.Finite.{sumTo, table}
+use Rattle.card.specs.Card.{Arc, Card, draws, fills, placeAt, transitionAt, arcAt, firstPlace, firstArc, flatPlace, placeOf, noTransition}
+use Rattle.card.specs.Wellformed.{TransitionRow, Wellformed}
 use Rattle.card.specs.Parsing.{readCard}
 use Rattle.card.specs.Parsing
 use Rattle.card.proofs.TableLaws.{no-yes}
@@ -35,7 +35,7 @@ use Rattle.runners.specs.declared.Transfer.the-variants.{Idle}
 use Rattle.runners.proofs.ScaleLaws.{scale-some}
 use Rattle.runners.proofs.StepLaws.{Covered}
 use Rattle.runners.proofs.StateLaws.{Consistent, consistent-is, Sized, no-flow, fault-is}
-use Rattle.runners.proofs.FewLaws.{one-subnet, incidence-most}
+use Rattle.runners.proofs.FewLaws.{arc-row, one-subnet, incidence-most}
 
 -- what a candidate is
 candidate-is : (f : Card) (s : NetState) (row : List ℕ) (t : ℕ)
@@ -44,14 +44,6 @@ candidate-is : (f : Card) (s : NetState) (row : List ℕ) (t : ℕ)
 unfolding candidate candidateOn
 candidate-is f s row t =
     and-is _ _ _ _ (and-is _ _ _ _ (λ e. e, λ e. e) (lt-is 0 (entry row ((transitionAt f t) .signal)))) (every-is _ _ _ (λ j. (λ e. e, λ e. e)))
-
--- whole tokens on both sides
-unscaled : (u x k : ℕ) → 0 < u → u * x ≤ u * k → x ≤ k
-unscaled u x k p h = go (ltb k x) refl
-  where
-    go : (b : Bool) → ltb k x ≡ b → x ≤ k
-    go true e = absurd (omega (arith, p, h, mul-le-mul-left u (ltb-true k x e)))
-    go false e = omega (arith, ltb-false k x e)
 
 -- what an arc asks of its place's marking
 module _ (f : Card) (k : Claims) (ms : List ℕ) (a : Arc) where
@@ -73,7 +65,8 @@ module _ (f : Card) (a b : Arc) (d : a .direction ≡ draws) (u : b .direction �
   loop-within k ms x y =
       let v = draws-is f k ms a d .0 x in
       let w : entry ms p + k .due p + scale f * b .weight ≤ fullMarking f p = rw e at (fills-is f k ms b u .0 y) in
-      unscaled (scale f) (a .weight + b .weight) ((placeAt f p) .capacity) (scale-some f) (omega (arith, v, w))
+      let x : scale f * (a .weight + b .weight) ≤ scale f * (placeAt f p) .capacity = omega (arith, v, w) in
+      le-of-mul-le-mul-left x (scale-some f)
 
   -- and there a marking of the place allows both, where nothing is claimed: as many tokens as are drawn.
   pub loop-allowed : a .weight + b .weight ≤ (placeAt f p) .capacity
@@ -87,11 +80,6 @@ module _ (f : Card) (a b : Arc) (d : a .direction ≡ draws) (u : b .direction �
           (draws-is f k ms a d .1 (omega (arith, o, m)), fills-is f k ms b u .1 (rw e w))
 
 -- A TRANSITION WITH A LOOP THAT FAILS THE TEST OF 26 IS A CANDIDATE IN NO STATE AND NO ROW, be they valid or not
-direction-few : (xs : List Arc) → All ArcRow xs → (i : ℕ) → (getD xs i noArc) .direction ≤ fills
-direction-few [] h i = omega arith
-direction-few (x ∷ xs) h zero = h .0 .direction
-direction-few (x ∷ xs) h (suc i) = direction-few xs (h .1) i
-
 module _ (c : Card) (t : ℕ) where
   abbrev flatArc : ℕ → Arc
   flatArc = arcAt (flatten c) t
@@ -138,7 +126,7 @@ module _ (c : Card) (t : ℕ) where
     unfolding flatten
     candidate-fits e =
         let x = candidate-is (flatten c) s row t .0 e .1 in
-        loopsFit-is c t j .1 (λ h m o. within h j o (claims (flatten c) (s .transfers)) (s .markings) (x h (omega arith)) (x j l) (direction-few (c .arcs) (w .rows .arcs) _) (direction-few (c .arcs) (w .rows .arcs) _))
+        loopsFit-is c t j .1 (λ h m o. within h j o (claims (flatten c) (s .transfers)) (s .markings) (x h (omega arith)) (x j l) (arc-row (c .arcs) (w .rows .arcs) _ .direction) (arc-row (c .arcs) (w .rows .arcs) _ .direction))
 
     pub loop-never : loopsFit c t j ≡ false → candidate (flatten c) s row t ≡ false
     loop-never f = go (candidate (flatten c) s row t) refl
@@ -288,7 +276,7 @@ module _ (c : Card) (m : Meets c) (t : ℕ) (l : t < length (c .transitions)) wh
             let w = mul-le-mul-left (scale f) (drawn-least j k d) in
             draws-is f (claims f (ready .transfers)) (ready .markings) (arcAt f t j) d .1 (omega (arith, no-claim draws place, marked place here, w))
         go false e =
-            let u : (arcAt f t j) .direction ≡ fills = omega (arith, direction-few (f .arcs) (flat .wellformed .rows .arcs) (firstArc f t + j), eqb-false ((arcAt f t j) .direction) draws e) in
+            let u : (arcAt f t j) .direction ≡ fills = omega (arith, arc-row (f .arcs) (flat .wellformed .rows .arcs) (firstArc f t + j) .direction, eqb-false ((arcAt f t j) .direction) draws e) in
             let w = mul-le-mul-left (scale f) (drawn-beside j k u) in
             fills-is f (claims f (ready .transfers)) (ready .markings) (arcAt f t j) u .1 (omega (arith, no-claim fills place, marked place here, w))
 
