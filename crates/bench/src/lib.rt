@@ -1,5 +1,7 @@
 // Reader, check and rows for the benchmark in tests/bench, which calls them from Rust. An answer of reader or check is one number: three
 // counts of 16 bits; or bit 47, then 7 bits for the fault and 40 for its position.
+#![tactic(auto)]
+
 mod rows;
 
 use card::reader::{ReadAnswer, read};

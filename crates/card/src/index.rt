@@ -19,6 +19,7 @@ use crate::{
 
 // Where a row begins: at which number, and at which bit.
 #[derive(Drop)]
+#[derive(Clone, Copy)]
 struct Position {
     pub row: u32,
     pub bit: u32,

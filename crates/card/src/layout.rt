@@ -13,6 +13,7 @@ use crate::{
 };
 
 #[derive(Drop)]
+#[derive(Clone, Copy)]
 pub enum Phase {
     Version,
     SubnetCount,
@@ -40,6 +41,7 @@ pub enum Phase {
 // the capacity of the place at hand. The phase stands last, so that in Move it does not lie over a count of Counts: else the compiled
 // reader keeps it in memory as one byte, loads two, and waits for that at each field.
 #[derive(Drop)]
+#[derive(Clone, Copy)]
 pub struct Layout {
     pub version: u16,
     pub signals: u16,
@@ -55,6 +57,7 @@ pub struct Layout {
 }
 
 #[derive(Drop)]
+#[derive(Clone, Copy)]
 pub enum Move {
     More(Layout),
     Done(Counts),

@@ -1,4 +1,5 @@
 // Layer 1: the card's format. specs/ says what a card is, how it is read and how it is written.
+#![tactic(auto)]
 
 mod bits;
 pub mod fields;
@@ -73,6 +74,7 @@ pub const STARTS: usize = TRANSITION_BITS + MOST_TRANSITIONS + 1;
 
 // What a card's tables have beside its rows. The limit and the scale are of later versions, and 0 below them.
 #[derive(Drop)]
+#[derive(Clone, Copy)]
 pub struct Head {
     pub version: u16,
     pub signals: u16,
@@ -82,6 +84,7 @@ pub struct Head {
 
 // How many subnets, places and transitions a card lists.
 #[derive(Drop)]
+#[derive(Clone, Copy)]
 pub struct Counts {
     pub subnets: u16,
     pub places: u16,
@@ -90,6 +93,7 @@ pub struct Counts {
 
 // Why bytes, or tables, are no card. specs/Numbers.antt gives the paper's number of each.
 #[derive(Drop)]
+#[derive(Clone, Copy)]
 pub enum FormatFault {
     Truncated,
     BadVersion,

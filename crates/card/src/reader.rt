@@ -16,6 +16,7 @@ use crate::{Counts, FormatFault, STARTS, TABLE};
 
 // Whole: how many subnets, places and transitions. Refused: why, and at which bit.
 #[derive(Drop)]
+#[derive(Clone, Copy)]
 pub enum ReadAnswer {
     Whole(Counts),
     Refused(FormatFault, usize),
@@ -23,12 +24,14 @@ pub enum ReadAnswer {
 
 // The answer, and where the card's rows begin among its numbers (see tables.rt).
 #[derive(Drop)]
+#[derive(Clone, Copy)]
 pub struct CardRead {
     pub answer: ReadAnswer,
     pub starts: [u32; STARTS],
 }
 
 #[derive(Drop)]
+#[derive(Clone, Copy)]
 pub enum Excess {
     Nothing,
     At(usize),
@@ -55,6 +58,7 @@ fn excess_at(card: &[u8], end: usize) -> Excess
 
 // An arc's fields before the weight.
 #[derive(Drop)]
+#[derive(Clone, Copy)]
 pub struct ArcHead {
     pub direction: u16,
     pub subnet: u16,

@@ -13,6 +13,7 @@ use crate::{CARD_BYTES, FormatFault, Head, TABLE};
 
 // Whole: how many bytes the card has. Refused: why, and at which bit.
 #[derive(Drop)]
+#[derive(Clone, Copy)]
 pub enum SpellAnswer {
     Whole(usize),
     Refused(FormatFault, usize),
@@ -20,6 +21,7 @@ pub enum SpellAnswer {
 
 // The answer, and the card's bytes with zeros behind them.
 #[derive(Drop)]
+#[derive(Clone, Copy)]
 pub struct CardSpelt {
     pub answer: SpellAnswer,
     pub bytes: [u8; CARD_BYTES],

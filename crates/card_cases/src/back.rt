@@ -8,6 +8,7 @@ use console::cases::wide;
 
 // How far the card is taken, and where the next row of each table goes.
 #[derive(Drop)]
+#[derive(Clone, Copy)]
 pub struct Cursor {
     pub at: usize,
     pub subnet: usize,

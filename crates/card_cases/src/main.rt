@@ -1,6 +1,8 @@
 // Reads cases from standard input, each led by its kind, a byte, and its length, a 16-bit number, and writes the answers of layers 1 and 2
 // as lines. Kind 0 is a card: the check's and the reader's answer, and if it is whole, the card written back. Any other kind is tables:
 // the writers' answers; 255 ends the run, and so does a case that is not all there.
+#![tactic(auto)]
+
 mod back;
 mod lines;
 mod tables;

@@ -11,6 +11,7 @@ pub const NO_CASE: u8 = 255;
 
 // A case's kind and length.
 #[derive(Drop)]
+#[derive(Clone, Copy)]
 pub struct Lead {
     pub kind: u8,
     pub length: usize,

@@ -2,6 +2,8 @@
 // which bytes the operating system hands over or takes. So that of a read is about lengths: it answers how many bytes it has put at the
 // buffer's start, which is at most the buffer's length, and that length is kept. A function that only writes has none. "Ruled out" names
 // wrong programs that a contract refuses.
+#![tactic(auto)]
+
 pub mod cases;
 
 ghost use Rattle.std.specs.Prelude.{◌≡◌, length};

@@ -1,4 +1,6 @@
 // Flattening: the flat card of a card, written into a lent buffer, or as tables beside the card's own. specs/ says which card it is.
+#![tactic(auto)]
+
 mod rows;
 mod tables;
 
@@ -123,6 +125,7 @@ pub fn flatten(card: &[u8], out: &mut [u8]) -> Written
 
 // The check's answer, and where the rows of the card and those of its flat card begin.
 #[derive(Drop)]
+#[derive(Clone, Copy)]
 pub struct FlatCard {
     pub answer: Answer,
     pub starts: [u32; STARTS],

@@ -19,6 +19,7 @@ use card::{Counts, SMALL_TABLE, STARTS, TABLE};
 
 // The answer, and where the rows of the card that pass one read begin among its numbers (see card::tables).
 #[derive(Drop)]
+#[derive(Clone, Copy)]
 pub struct CheckedCard {
     pub answer: Answer,
     pub starts: [u32; STARTS],

@@ -1,4 +1,5 @@
 // Layer 2: the conditions on a card's hierarchy. specs/ says what they are, what the check answers and what the writer leaves.
+#![tactic(auto)]
 
 mod arcs;
 pub mod check;
@@ -12,6 +13,7 @@ ghost use Rattle.hierarchy.specs.Numbers.{number};
 
 // Why a card is turned back: its format is at fault, or its hierarchy is. specs/Numbers.antt gives the paper's number of each.
 #[derive(Drop)]
+#[derive(Clone, Copy)]
 pub enum CardFault {
     Format(card::FormatFault),
     Unseen,
@@ -43,6 +45,7 @@ pub fn fault_number(f: CardFault) -> u64
 
 // What a pass over a card finds: nothing, or the first fault and its bit.
 #[derive(Drop)]
+#[derive(Clone, Copy)]
 pub enum Finding {
     Nothing,
     Fault(CardFault, usize),
@@ -50,6 +53,7 @@ pub enum Finding {
 
 // The check's answer. Accepted: how many subnets, places and transitions. Refused: why, and at which bit.
 #[derive(Drop)]
+#[derive(Clone, Copy)]
 pub enum Answer {
     Accepted(usize, usize, usize),
     Refused(CardFault, usize),
@@ -57,6 +61,7 @@ pub enum Answer {
 
 // What comes of writing into a lent buffer. Wrote: how many bytes. Refused: why, and at which bit. Short: how many bytes it needs.
 #[derive(Drop)]
+#[derive(Clone, Copy)]
 pub enum Written {
     Wrote(usize),
     Refused(CardFault, usize),

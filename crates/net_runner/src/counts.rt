@@ -9,6 +9,7 @@ use hierarchy::Answer;
 use hierarchy::check::load;
 
 #[derive(Drop)]
+#[derive(Clone, Copy)]
 pub struct CardCounts {
     pub answer: Answer,
     pub signals: u16,

@@ -1,5 +1,7 @@
 // The runner as a library for C and Rust: the entry points of the layers on numbers and slices. Every function takes any slices and answers 0
 // or the number of a refusal, with its value in a lent number; a refusal leaves every lent slice as it was. net_runner.h declares them for C.
+#![tactic(auto)]
+
 mod counts;
 mod lending;
 mod told;

@@ -9,6 +9,7 @@ use runners::Refusal;
 use runners::replies::refusal_code;
 
 #[derive(Drop)]
+#[derive(Clone, Copy)]
 pub struct Told {
     pub number: u64,
     pub value: usize,

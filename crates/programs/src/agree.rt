@@ -16,6 +16,7 @@ use runners::subnet_runner::subnet_row;
 
 // The states that a call of both runners leaves, and whether it answered alike and left equal ones.
 #[derive(Drop)]
+#[derive(Clone, Copy)]
 pub struct Both {
     pub same: bool,
     pub flat: State,

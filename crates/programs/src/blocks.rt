@@ -28,6 +28,7 @@ pub const LINES_BYTES: usize = LONGEST * BLOCK_BYTES;
 
 // The number of the next row, the state in front of it, and those of its bytes that are there. Only this crate makes one or looks into it.
 #[derive(Drop)]
+#[derive(Clone, Copy)]
 pub struct Progress {
     number: u64,
     state: State,
@@ -37,6 +38,7 @@ pub struct Progress {
 
 // The run behind a block, and how many bytes its lines have.
 #[derive(Drop)]
+#[derive(Clone, Copy)]
 pub struct Turn {
     pub progress: Progress,
     pub length: usize,
@@ -44,6 +46,7 @@ pub struct Turn {
 
 // The run behind a part of a block, where the next line goes, and how many bytes the part has.
 #[derive(Drop)]
+#[derive(Clone, Copy)]
 struct Part {
     progress: Progress,
     length: usize,
@@ -53,6 +56,7 @@ struct Part {
 // The net of a card's flat card, the run in front of the first row, and what is written before it: of a refused card its one line, and no row
 // is run.
 #[derive(Drop)]
+#[derive(Clone, Copy)]
 pub struct Start {
     pub runs: bool,
     pub net: Net,

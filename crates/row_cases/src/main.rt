@@ -6,6 +6,8 @@
 // 3: the card is flattened into a buffer of so many bytes, all of which are written.
 // 4: a rows file, run from the fresh state.
 // Any other kind ends the run, and so does a case that is not all there.
+#![tactic(auto)]
+
 mod calls;
 mod files;
 mod lines;

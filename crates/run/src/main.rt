@@ -2,6 +2,8 @@
 // line: no, number, position. No such file: no bytes. What is written, block by block, is proved in crate `programs`; here it is read and written.
 // Of a longer card the first INPUT_BYTES decide (run-reads in programs/proofs/LongCard.antt), so no more are read. A row is answered as soon as it
 // is there, so that rows can come from a pipe that stays open.
+#![tactic(auto)]
+
 ghost use Rattle.std.specs.Prelude.{◌≡◌, ◌*◌, ◌≤◌, length};
 ghost use Rattle.hierarchy.specs.Judgement.{Judgement};
 ghost use Rattle.runners.specs.Nets.{IsNet};

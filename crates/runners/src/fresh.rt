@@ -13,6 +13,7 @@ use hierarchy::check::load;
 
 // The check's answer, and a state: of an accepted card its fresh one, else the blank state of no net.
 #[derive(Drop)]
+#[derive(Clone, Copy)]
 pub struct FreshState {
     pub answer: Answer,
     pub state: State,

@@ -1,4 +1,6 @@
 // Layer 3: the step and the two runners. specs/ says what they do.
+#![tactic(auto)]
+
 use card::{MOST_PLACES, MOST_SIGNALS, MOST_TRANSITIONS, STARTS, TABLE};
 
 mod claims;
@@ -21,6 +23,7 @@ mod visits;
 
 // A transition is idle, or carrying and has come so many thousandths of its way.
 #[derive(Drop)]
+#[derive(Clone, Copy)]
 pub enum Transfer {
     Idle,
     Carrying(u16),
@@ -28,6 +31,7 @@ pub enum Transfer {
 
 // An array of enums is held through a struct.
 #[derive(Drop)]
+#[derive(Clone, Copy)]
 pub struct Slot {
     pub transfer: Transfer,
 }
@@ -35,6 +39,7 @@ pub struct Slot {
 // A lent state: markings by flat place, transfers by flat transition, each signal's last degree. Of each array the net uses as many entries,
 // from the first on, as the number below says.
 #[derive(Drop)]
+#[derive(Clone, Copy)]
 pub struct State {
     pub markings: [u32; MOST_PLACES],
     pub slots: [Slot; MOST_TRANSITIONS],
@@ -46,6 +51,7 @@ pub struct State {
 
 // How many subnets, places, transitions and signals a card has.
 #[derive(Drop)]
+#[derive(Clone, Copy)]
 pub struct Sizes {
     pub subnets: u16,
     pub places: u16,
@@ -55,6 +61,7 @@ pub struct Sizes {
 
 // Why a call is turned back. specs/Numbers.antt gives the paper's number and values of each.
 #[derive(Drop)]
+#[derive(Clone, Copy)]
 pub enum Refusal {
     BadCard(hierarchy::CardFault, usize),
     BadState,
@@ -65,6 +72,7 @@ pub enum Refusal {
 }
 
 #[derive(Drop)]
+#[derive(Clone, Copy)]
 pub enum Reply {
     Ok,
     No(Refusal),
@@ -72,6 +80,7 @@ pub enum Reply {
 
 // The reply, and the next state; where the row is refused, the state as it was.
 #[derive(Drop)]
+#[derive(Clone, Copy)]
 pub struct RowAnswer {
     pub reply: Reply,
     pub state: State,
@@ -80,6 +89,7 @@ pub struct RowAnswer {
 // A card that was loaded: the check's answer, its two tables, the full marking of each place, and its sizes. Only this crate makes one or looks
 // into it.
 #[derive(Drop)]
+#[derive(Clone, Copy)]
 pub struct Net {
     answer: hierarchy::Answer,
     numbers: [u16; TABLE],
@@ -90,6 +100,7 @@ pub struct Net {
 
 // What a net has beside a card's two tables.
 #[derive(Drop)]
+#[derive(Clone, Copy)]
 struct NetSizes {
     full: [u32; MOST_PLACES],
     sizes: Sizes,

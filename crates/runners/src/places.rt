@@ -13,6 +13,7 @@ use card::tables::{capacity, first_place, narrow, place_count, put_wide, subnet_
 
 // Which number of a place.
 #[derive(Drop)]
+#[derive(Clone, Copy)]
 pub enum PlaceNumber {
     Capacity,
     Tokens,
