@@ -22,7 +22,7 @@ use Rattle.card.specs.declared.FormatFault.TheVariants.{BadTable}
 use Rattle.card.proofs.Decides.{Decides, Clears, eq_is, lt-is, and_is, someIf-is, otherwise-is, firstOf-is}
 use Rattle.card.proofs.Yields.{bit-small, not-whole}
 use Rattle.card.proofs.Ranges.{read-wellformed}
-use Rattle.card.proofs.Walk.{bits, built, walk, NoFault, Fits, Spelt, every_more, fits_all, read-spelt, clean-walk, walk-clean}
+use Rattle.card.proofs.Walk.{bits, built, walk, NoFault, Fits, Proper, Spelt, every_more, fits_all, read-spelt, clean-walk, walk-clean}
 use Rattle.card.proofs.Prefix.{Counted, built-card}
 use Rattle.card.proofs.Sound.{rows-counted, clean-card}
 use Rattle.card.proofs.Tied.{Spells, read-get, tied-card}
@@ -92,12 +92,12 @@ read-write c d end e = go (counted c && all_fit (fields card c)) refl e
 
 -- EVERY WELL-FORMED CARD IS ONE THAT THE WRITER TAKES
 pub wellformed-fits : (c : Card) → Wellformed c → all_fit (fields card c) ≡ true
-wellformed-fits c w = fits_all card c (every_more _ Fits (λ n v f h. h.1) card c (clean-card c w))
+wellformed-fits c w = fits_all card c (every_more Proper Fits (λ n v f h. h.1) card c (clean-card c w))
 
 pub wellformed-reads : (c : Card) → Wellformed c → readCard (encode c) ≡ whole c (bits (fields card c))
 wellformed-reads c w =
     read-encode c (wellformed-fits c w)
-    ∙ clean-walk card c 0 (every_more _ NoFault (λ n v f h. h.0) card c (clean-card c w))
+    ∙ clean-walk card c 0 (every_more Proper NoFault (λ n v f h. h.0) card c (clean-card c w))
     ∙ rw (built-card c (rows-counted c w.rows), zero-add)
 
 pub wellformed-tables : (c : Card) → Wellformed c → read_tables c ≡ whole c (bits (fields card c))
