@@ -18,7 +18,6 @@ use crate::{
 };
 
 // Where a row begins: at which number, and at which bit.
-#[derive(Drop)]
 #[derive(Clone, Copy)]
 struct Position {
     pub row: u32,

@@ -12,7 +12,6 @@ use crate::{
     PLACE_FIELDS, SUBNET_FIELDS, TRANSITION_FIELDS,
 };
 
-#[derive(Drop)]
 #[derive(Clone, Copy)]
 pub enum Phase {
     Version,
@@ -40,7 +39,6 @@ pub enum Phase {
 // come after this one, and its number; how many places and transitions are listed so far; how many rows of each kind come after this one;
 // the capacity of the place at hand. The phase stands last, so that in Move it does not lie over a count of Counts: else the compiled
 // reader keeps it in memory as one byte, loads two, and waits for that at each field.
-#[derive(Drop)]
 #[derive(Clone, Copy)]
 pub struct Layout {
     pub version: u16,
@@ -56,7 +54,6 @@ pub struct Layout {
     pub phase: Phase,
 }
 
-#[derive(Drop)]
 #[derive(Clone, Copy)]
 pub enum Move {
     More(Layout),

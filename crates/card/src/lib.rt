@@ -73,7 +73,6 @@ pub const TRANSITION_BITS: usize = TRANSITION_ROWS + MOST_TRANSITIONS + 1;
 pub const STARTS: usize = TRANSITION_BITS + MOST_TRANSITIONS + 1;
 
 // What a card's tables have beside its rows. The limit and the scale are of later versions, and 0 below them.
-#[derive(Drop)]
 #[derive(Clone, Copy)]
 pub struct Head {
     pub version: u16,
@@ -83,7 +82,6 @@ pub struct Head {
 }
 
 // How many subnets, places and transitions a card lists.
-#[derive(Drop)]
 #[derive(Clone, Copy)]
 pub struct Counts {
     pub subnets: u16,
@@ -92,7 +90,6 @@ pub struct Counts {
 }
 
 // Why bytes, or tables, are no card. specs/Numbers.antt gives the paper's number of each.
-#[derive(Drop)]
 #[derive(Clone, Copy)]
 pub enum FormatFault {
     Truncated,

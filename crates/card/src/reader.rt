@@ -15,7 +15,6 @@ use crate::tables::clear;
 use crate::{Counts, FormatFault, STARTS, TABLE};
 
 // Whole: how many subnets, places and transitions. Refused: why, and at which bit.
-#[derive(Drop)]
 #[derive(Clone, Copy)]
 pub enum ReadAnswer {
     Whole(Counts),
@@ -23,14 +22,12 @@ pub enum ReadAnswer {
 }
 
 // The answer, and where the card's rows begin among its numbers (see tables.rt).
-#[derive(Drop)]
 #[derive(Clone, Copy)]
 pub struct CardRead {
     pub answer: ReadAnswer,
     pub starts: [u32; STARTS],
 }
 
-#[derive(Drop)]
 #[derive(Clone, Copy)]
 pub enum Excess {
     Nothing,
@@ -57,7 +54,6 @@ fn excess_at(card: &[u8], end: usize) -> Excess
 }
 
 // An arc's fields before the weight.
-#[derive(Drop)]
 #[derive(Clone, Copy)]
 pub struct ArcHead {
     pub direction: u16,

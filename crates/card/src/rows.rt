@@ -193,7 +193,6 @@ fn push(numbers: &mut [u16], n: usize, run: &[u16]) -> usize
 }
 
 // How many numbers the table holds, and the number of the next arc.
-#[derive(Drop)]
 #[derive(Clone, Copy)]
 pub struct Cursor {
     pub n: usize,

@@ -200,7 +200,6 @@ pub fn arc_weight(numbers: &[u16], row: u32, j: u16) -> u16
 }
 
 // A whole arc.
-#[derive(Drop)]
 #[derive(Clone, Copy)]
 pub struct Arc {
     pub direction: u16,

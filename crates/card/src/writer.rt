@@ -12,7 +12,6 @@ use crate::rows::{counts_match, gather, values_fit, whole_rows};
 use crate::{CARD_BYTES, FormatFault, Head, TABLE};
 
 // Whole: how many bytes the card has. Refused: why, and at which bit.
-#[derive(Drop)]
 #[derive(Clone, Copy)]
 pub enum SpellAnswer {
     Whole(usize),
@@ -20,7 +19,6 @@ pub enum SpellAnswer {
 }
 
 // The answer, and the card's bytes with zeros behind them.
-#[derive(Drop)]
 #[derive(Clone, Copy)]
 pub struct CardSpelt {
     pub answer: SpellAnswer,

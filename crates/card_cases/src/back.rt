@@ -7,7 +7,6 @@ use card::{ARC_FIELDS, Counts, HEADER_FIELDS, PLACE_FIELDS, SUBNET_FIELDS, TRANS
 use console::cases::wide;
 
 // How far the card is taken, and where the next row of each table goes.
-#[derive(Drop)]
 #[derive(Clone, Copy)]
 pub struct Cursor {
     pub at: usize,

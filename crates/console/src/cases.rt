@@ -1,7 +1,7 @@
 // Cases on standard input, as the programs for the tests read them: a kind, a byte, and a length, a 16-bit number, and then so many bytes.
 // Numbers are of 16 bits, most significant byte first.
 ghost use Rattle.std.specs.Prelude.{◌≡◌, ◌/◌, ◌<◌, min, length, get_or};
-ghost use Rattle.io.specs.Counts.{IsPrefixLen};
+ghost use Rattle.console.specs.Counts.{IsPrefixLen};
 ghost use Rattle.console.specs.Cases.{number_at, IsNumbers, IsRest};
 
 use crate::read_input;
@@ -10,7 +10,6 @@ use crate::read_input;
 pub const NO_CASE: u8 = 255;
 
 // A case's kind and length.
-#[derive(Drop)]
 #[derive(Clone, Copy)]
 pub struct Lead {
     pub kind: u8,
@@ -97,11 +96,11 @@ fn lead_of(head: &[u8]) -> Lead
 
 // The next case's kind and length. Ruled out: a length of three bytes; the length with those of the lead, which for the longest case is too
 // much.
-pub fn read_lead() -> Lead
+pub fn read_lead(rt: &HostRuntime) -> Lead
     ensures { result.length < 65536 }
 {
     let mut head = [0; 3];
-    let n = read_input(&mut head);
+    let n = read_input(rt, &mut head);
     if n < 3 {
         return no_case();
     }
@@ -110,7 +109,7 @@ pub fn read_lead() -> Lead
 
 // The bytes of the case that is led so, at the buffer's start; no case if they are not all there, or do not fit. Ruled out: a length that
 // passes the buffer's; the case with another kind.
-pub fn read_rest(lead: Lead, buffer: &mut [u8]) -> Lead
+pub fn read_rest(rt: &HostRuntime, lead: Lead, buffer: &mut [u8]) -> Lead
     ensures prefix_len { IsPrefixLen result.length buffer.new }
     ensures buffer_len_unchanged { length buffer.new ≡ length buffer.old }
     ensures rest { IsRest lead.kind lead.length result.kind result.length }
@@ -119,7 +118,7 @@ pub fn read_rest(lead: Lead, buffer: &mut [u8]) -> Lead
     if buffer.len() < n {
         return no_case();
     }
-    if read_input(&mut buffer[..n]) < n {
+    if read_input(rt, &mut buffer[..n]) < n {
         return no_case();
     }
     lead

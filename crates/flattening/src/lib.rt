@@ -124,7 +124,6 @@ pub fn flatten(card: &[u8], out: &mut [u8]) -> Written
 }
 
 // The check's answer, and where the rows of the card and those of its flat card begin.
-#[derive(Drop)]
 #[derive(Clone, Copy)]
 pub struct FlatCard {
     pub answer: Answer,

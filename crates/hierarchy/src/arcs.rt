@@ -83,7 +83,6 @@ fn weighted(numbers: &[u16], starts: &[u32], a: Arc) -> bool
 
 // What the lower arcs of a transition leave of an arc: whether none repeats it, and whether each that is a self-loop with it has its weight within
 // the capacity together with it.
-#[derive(Drop)]
 #[derive(Clone, Copy)]
 struct Beside {
     single: bool,

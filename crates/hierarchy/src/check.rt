@@ -18,7 +18,6 @@ use card::reader::{ReadAnswer, has_room, read};
 use card::{Counts, SMALL_TABLE, STARTS, TABLE};
 
 // The answer, and where the rows of the card that pass one read begin among its numbers (see card::tables).
-#[derive(Drop)]
 #[derive(Clone, Copy)]
 pub struct CheckedCard {
     pub answer: Answer,

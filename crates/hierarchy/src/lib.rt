@@ -12,7 +12,6 @@ ghost use Rattle.std.specs.Prelude.{◌≡◌};
 ghost use Rattle.hierarchy.specs.Numbers.{number};
 
 // Why a card is turned back: its format is at fault, or its hierarchy is. specs/Numbers.antt gives the paper's number of each.
-#[derive(Drop)]
 #[derive(Clone, Copy)]
 pub enum CardFault {
     Format(card::FormatFault),
@@ -44,7 +43,6 @@ pub fn fault_number(f: CardFault) -> u64
 }
 
 // What a pass over a card finds: nothing, or the first fault and its bit.
-#[derive(Drop)]
 #[derive(Clone, Copy)]
 pub enum Finding {
     Nothing,
@@ -52,7 +50,6 @@ pub enum Finding {
 }
 
 // The check's answer. Accepted: how many subnets, places and transitions. Refused: why, and at which bit.
-#[derive(Drop)]
 #[derive(Clone, Copy)]
 pub enum Answer {
     Accepted(usize, usize, usize),
@@ -60,7 +57,6 @@ pub enum Answer {
 }
 
 // What comes of writing into a lent buffer. Wrote: how many bytes. Refused: why, and at which bit. Short: how many bytes it needs.
-#[derive(Drop)]
 #[derive(Clone, Copy)]
 pub enum Written {
     Wrote(usize),

@@ -8,7 +8,6 @@ use card::{SMALL_CARD, SMALL_TABLE, TABLE};
 use hierarchy::Answer;
 use hierarchy::check::load;
 
-#[derive(Drop)]
 #[derive(Clone, Copy)]
 pub struct CardCounts {
     pub answer: Answer,

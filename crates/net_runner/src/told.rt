@@ -8,7 +8,6 @@ use hierarchy::{Answer, SHORT_BUFFER, Written, fault_number};
 use runners::Refusal;
 use runners::replies::refusal_code;
 
-#[derive(Drop)]
 #[derive(Clone, Copy)]
 pub struct Told {
     pub number: u64,

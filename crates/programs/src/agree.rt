@@ -15,7 +15,6 @@ use runners::fresh::fresh;
 use runners::subnet_runner::subnet_row;
 
 // The states that a call of both runners leaves, and whether it answered alike and left equal ones.
-#[derive(Drop)]
 #[derive(Clone, Copy)]
 pub struct Both {
     pub same: bool,

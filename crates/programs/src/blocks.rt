@@ -27,7 +27,6 @@ pub const BLOCK_BYTES: usize = 64;
 pub const LINES_BYTES: usize = LONGEST * BLOCK_BYTES;
 
 // The number of the next row, the state in front of it, and those of its bytes that are there. Only this crate makes one or looks into it.
-#[derive(Drop)]
 #[derive(Clone, Copy)]
 pub struct Progress {
     number: u64,
@@ -37,7 +36,6 @@ pub struct Progress {
 }
 
 // The run behind a block, and how many bytes its lines have.
-#[derive(Drop)]
 #[derive(Clone, Copy)]
 pub struct Turn {
     pub progress: Progress,
@@ -45,7 +43,6 @@ pub struct Turn {
 }
 
 // The run behind a part of a block, where the next line goes, and how many bytes the part has.
-#[derive(Drop)]
 #[derive(Clone, Copy)]
 struct Part {
     progress: Progress,
@@ -55,7 +52,6 @@ struct Part {
 
 // The net of a card's flat card, the run in front of the first row, and what is written before it: of a refused card its one line, and no row
 // is run.
-#[derive(Drop)]
 #[derive(Clone, Copy)]
 pub struct Start {
     pub runs: bool,

@@ -18,7 +18,6 @@ const DEGREE_BITS: usize = 10;
 const EMPTY_MARK: u16 = 1023;
 
 // A row, where the bytes hold one: how many degrees it has, the degrees, and zeros behind them. An empty row has none.
-#[derive(Drop)]
 #[derive(Clone, Copy)]
 pub struct FileRow {
     pub whole: bool,

@@ -9,7 +9,6 @@ use hierarchy::{SHORT_BUFFER, Written, fault_number};
 
 // The flat card's bytes, or a refused card's line, and zeros behind them. There is room for the longest card, and a line of a refused card is
 // shorter.
-#[derive(Drop)]
 #[derive(Clone, Copy)]
 pub struct FlatText {
     pub bytes: [u8; CARD_BYTES],

@@ -18,7 +18,6 @@ use runners::{Reply, State, Transfer};
 pub const LONGEST: usize = 4361;
 
 // A line's bytes, newline and all, and zeros behind them.
-#[derive(Drop)]
 #[derive(Clone, Copy)]
 pub struct Line {
     pub bytes: [u8; LONGEST],

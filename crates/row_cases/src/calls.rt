@@ -12,7 +12,6 @@ use runners::fresh::fresh;
 use runners::subnet_runner::subnet_row;
 
 // The states of the two runners, and the number of the next call.
-#[derive(Drop)]
 #[derive(Clone, Copy)]
 pub struct Held {
     pub flat: State,

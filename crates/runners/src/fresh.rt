@@ -12,7 +12,6 @@ use hierarchy::Answer;
 use hierarchy::check::load;
 
 // The check's answer, and a state: of an accepted card its fresh one, else the blank state of no net.
-#[derive(Drop)]
 #[derive(Clone, Copy)]
 pub struct FreshState {
     pub answer: Answer,

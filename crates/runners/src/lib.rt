@@ -22,7 +22,6 @@ mod verdict;
 mod visits;
 
 // A transition is idle, or carrying and has come so many thousandths of its way.
-#[derive(Drop)]
 #[derive(Clone, Copy)]
 pub enum Transfer {
     Idle,
@@ -30,7 +29,6 @@ pub enum Transfer {
 }
 
 // An array of enums is held through a struct.
-#[derive(Drop)]
 #[derive(Clone, Copy)]
 pub struct Slot {
     pub transfer: Transfer,
@@ -38,7 +36,6 @@ pub struct Slot {
 
 // A lent state: markings by flat place, transfers by flat transition, each signal's last degree. Of each array the net uses as many entries,
 // from the first on, as the number below says.
-#[derive(Drop)]
 #[derive(Clone, Copy)]
 pub struct State {
     pub markings: [u32; MOST_PLACES],
@@ -50,7 +47,6 @@ pub struct State {
 }
 
 // How many subnets, places, transitions and signals a card has.
-#[derive(Drop)]
 #[derive(Clone, Copy)]
 pub struct Sizes {
     pub subnets: u16,
@@ -60,7 +56,6 @@ pub struct Sizes {
 }
 
 // Why a call is turned back. specs/Numbers.antt gives the paper's number and values of each.
-#[derive(Drop)]
 #[derive(Clone, Copy)]
 pub enum Refusal {
     BadCard(hierarchy::CardFault, usize),
@@ -71,7 +66,6 @@ pub enum Refusal {
     Conflict(usize),
 }
 
-#[derive(Drop)]
 #[derive(Clone, Copy)]
 pub enum Reply {
     Ok,
@@ -79,7 +73,6 @@ pub enum Reply {
 }
 
 // The reply, and the next state; where the row is refused, the state as it was.
-#[derive(Drop)]
 #[derive(Clone, Copy)]
 pub struct RowAnswer {
     pub reply: Reply,
@@ -88,7 +81,6 @@ pub struct RowAnswer {
 
 // A card that was loaded: the check's answer, its two tables, the full marking of each place, and its sizes. Only this crate makes one or looks
 // into it.
-#[derive(Drop)]
 #[derive(Clone, Copy)]
 pub struct Net {
     answer: hierarchy::Answer,
@@ -99,7 +91,6 @@ pub struct Net {
 }
 
 // What a net has beside a card's two tables.
-#[derive(Drop)]
 #[derive(Clone, Copy)]
 struct NetSizes {
     full: [u32; MOST_PLACES],

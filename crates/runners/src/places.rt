@@ -12,7 +12,6 @@ use card::MOST_PLACES;
 use card::tables::{capacity, first_place, narrow, place_count, put_wide, subnet_row, tokens};
 
 // Which number of a place.
-#[derive(Drop)]
 #[derive(Clone, Copy)]
 pub enum PlaceNumber {
     Capacity,

@@ -7,7 +7,6 @@ use crate::{Refusal, Reply};
 use hierarchy::fault_number;
 
 // A reply as three numbers: its kind, which is 0 for ok, 1 for a refusal that gives its number only and 2 for one with a value, and both.
-#[derive(Drop)]
 #[derive(Clone, Copy)]
 pub struct Code {
     pub kind: u8,

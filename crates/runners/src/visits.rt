@@ -83,7 +83,6 @@ pub fn post_span(
 }
 
 // Where the own transitions of a subnet begin, and where the next subnet's do.
-#[derive(Drop)]
 #[derive(Clone, Copy)]
 struct Span {
     first: u16,
