@@ -10,32 +10,32 @@ use programs::agree::agree;
 use programs::line::{Line, card_line};
 use runners::fresh::fresh;
 
-fn put_line(l: Line) {
+fn put_line(rt: &HostRuntime, l: Line) {
     let bytes = l.bytes;
-    put_first(&bytes, l.length);
+    put_first(rt, &bytes, l.length);
 }
 
-fn put_agreed(yes: bool) {
+fn put_agreed(rt: &HostRuntime, yes: bool) {
     if yes {
-        put(b"yes\n");
+        put(rt, b"yes\n");
         return;
     }
-    put(b"no\n");
+    put(rt, b"no\n");
 }
 
-fn put_answer(card: &[u8], calls: &[u8]) {
+fn put_answer(rt: &HostRuntime, card: &[u8], calls: &[u8]) {
     let f = fresh(card);
     let a = f.answer;
     match a {
-        Answer::Refused(why, at) => put_line(card_line(why, at)),
-        Answer::Accepted(_s, _p, _t) => put_agreed(agree(card, calls)),
+        Answer::Refused(why, at) => put_line(rt, card_line(why, at)),
+        Answer::Accepted(_s, _p, _t) => put_agreed(rt, agree(card, calls)),
     }
 }
 
-fn main() {
+fn main(rt: HostRuntime) {
     let mut card = [0; INPUT_BYTES];
     let mut calls = [0; 65536];
-    let n = read_file(b"net.card", &mut card);
-    let m = read_input(&mut calls);
-    put_answer(&card[..n], &calls[..m]);
+    let n = read_file(&rt, "net.card", &mut card);
+    let m = read_input(&rt, &mut calls);
+    put_answer(&rt, &card[..n], &calls[..m]);
 }

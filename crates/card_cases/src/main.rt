@@ -18,68 +18,73 @@ use console::put;
 use hierarchy::Answer;
 use hierarchy::check::check;
 
-fn put_check(a: Answer) {
-    put(b"check");
+fn put_check(rt: &HostRuntime, a: Answer) {
+    put(rt, b"check");
     match a {
-        Answer::Accepted(s, p, t) => put_counts(s as u64, p as u64, t as u64),
-        Answer::Refused(f, at) => put_refusal(hierarchy::fault_number(f), at),
+        Answer::Accepted(s, p, t) => put_counts(rt, s as u64, p as u64, t as u64),
+        Answer::Refused(f, at) => put_refusal(rt, hierarchy::fault_number(f), at),
     }
-    put(b"\n");
+    put(rt, b"\n");
 }
 
-fn put_read(a: ReadAnswer) {
-    put(b"read");
+fn put_read(rt: &HostRuntime, a: ReadAnswer) {
+    put(rt, b"read");
     match a {
-        ReadAnswer::Whole(k) => put_counts(k.subnets as u64, k.places as u64, k.transitions as u64),
-        ReadAnswer::Refused(f, at) => put_refusal(card::fault_number(f), at),
+        ReadAnswer::Whole(k) => put_counts(
+            rt,
+            k.subnets as u64,
+            k.places as u64,
+            k.transitions as u64,
+        ),
+        ReadAnswer::Refused(f, at) => put_refusal(rt, card::fault_number(f), at),
     }
-    put(b"\n");
+    put(rt, b"\n");
 }
 
-fn put_card_case(card: &[u8]) {
-    put_check(check(card));
+fn put_card_case(rt: &HostRuntime, card: &[u8]) {
+    put_check(rt, check(card));
     let mut numbers = [0; TABLE];
     let r = read(card, &mut numbers);
     let a = r.answer;
-    put_read(a);
+    put_read(rt, a);
     let ReadAnswer::Whole(k) = a else {
         return;
     };
     let tables = tables_of(k, &numbers, card.len());
-    put_tables(&tables);
+    put_tables(rt, &tables);
 }
 
 // The numbers behind the case's end are 0, so that a case of many arcs can be short.
-fn put_tables_case(case: &[u8]) {
+fn put_tables_case(rt: &HostRuntime, case: &[u8]) {
     let mut tables = [0; 40000];
     numbers_in(case, &mut tables);
-    put_tables(&tables);
+    put_tables(rt, &tables);
 }
 
-fn put_case(kind: u8, case: &[u8]) {
+fn put_case(rt: &HostRuntime, kind: u8, case: &[u8]) {
     if kind == 0 {
-        put_card_case(case);
+        put_card_case(rt, case);
     } else {
-        put_tables_case(case);
+        put_tables_case(rt, case);
     }
 }
 
 // Ends where the input does, or at a case that is not all there. Nothing says that an input ends, so the turns are counted, from a number that
 // no run uses up.
-fn put_cases(case: &mut [u8]) {
+fn put_cases(rt: &HostRuntime, case: &mut [u8]) {
     let mut turns = u64::MAX;
     while 0 < turns {
-        let lead = read_rest(read_lead(), case);
+        let lead = read_rest(rt, read_lead(rt), case);
         if lead.kind == NO_CASE {
             return;
         }
         let n = lead.length;
-        put_case(lead.kind, &case[..n]);
+        put_case(rt, lead.kind, &case[..n]);
         turns -= 1;
     }
 }
 
-fn main() {
+fn main(rt: HostRuntime) {
     let mut case = [0; 65536];
-    put_cases(&mut case);
+    put_cases(&rt, &mut case);
 }

@@ -7,7 +7,7 @@ use console::cases::wide;
 pub const LED: usize = 9;
 
 // Slices that are not all there have no line.
-pub fn put_tables(t: &[u16]) {
+pub fn put_tables(rt: &HostRuntime, t: &[u16]) {
     if t.len() < LED {
         return;
     }
@@ -25,6 +25,7 @@ pub fn put_tables(t: &[u16]) {
         scale: t[3],
     };
     put_writers(
+        rt,
         head,
         &t[LED..places],
         &t[places..transitions],

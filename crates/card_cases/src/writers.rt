@@ -8,58 +8,59 @@ use console::{put, put_number};
 use hierarchy::write::write;
 use hierarchy::{SHORT_BUFFER, Written};
 
-fn put_outcome(done: bool, n: usize) {
+fn put_outcome(rt: &HostRuntime, done: bool, n: usize) {
     if done {
-        put_length(n);
+        put_length(rt, n);
     } else {
-        put(b" short");
-        put_number(n as u64);
+        put(rt, b" short");
+        put_number(rt, n as u64);
     }
 }
 
 // Whether the card had room, and its length.
-fn put_into(card: &[u8], out: &mut [u8]) {
+fn put_into(rt: &HostRuntime, card: &[u8], out: &mut [u8]) {
     let done = put_card(card, out);
-    put_outcome(done, card.len());
-    put_bytes(out);
+    put_outcome(rt, done, card.len());
+    put_bytes(rt, out);
 }
 
 // A card of n bytes. That n is not past the end follows from no single contract, so it is tested.
-fn put_whole_card(bytes: &[u8], n: usize, room: usize)
+fn put_whole_card(rt: &HostRuntime, bytes: &[u8], n: usize, room: usize)
     requires { room < 65536 }
 {
     if bytes.len() < n {
         return;
     }
     let mut out = [165; 65536];
-    put_into(&bytes[..n], &mut out[..room]);
+    put_into(rt, &bytes[..n], &mut out[..room]);
 }
 
-fn put_spelt(s: CardSpelt, room: usize)
+fn put_spelt(rt: &HostRuntime, s: CardSpelt, room: usize)
     requires { room < 65536 }
 {
-    put(b"spell");
+    put(rt, b"spell");
     let bytes = s.bytes;
     let a = s.answer;
     match a {
-        SpellAnswer::Whole(n) => put_whole_card(&bytes, n, room),
-        SpellAnswer::Refused(f, at) => put_refusal(card::fault_number(f), at),
+        SpellAnswer::Whole(n) => put_whole_card(rt, &bytes, n, room),
+        SpellAnswer::Refused(f, at) => put_refusal(rt, card::fault_number(f), at),
     }
-    put(b"\n");
+    put(rt, b"\n");
 }
 
-fn put_written(w: Written, out: &[u8]) {
-    put(b"write");
+fn put_written(rt: &HostRuntime, w: Written, out: &[u8]) {
+    put(rt, b"write");
     match w {
-        Written::Wrote(n) => put_length(n),
-        Written::Refused(f, at) => put_refusal(hierarchy::fault_number(f), at),
-        Written::Short(n) => put_refusal(SHORT_BUFFER, n),
+        Written::Wrote(n) => put_length(rt, n),
+        Written::Refused(f, at) => put_refusal(rt, hierarchy::fault_number(f), at),
+        Written::Short(n) => put_refusal(rt, SHORT_BUFFER, n),
     }
-    put_bytes(out);
-    put(b"\n");
+    put_bytes(rt, out);
+    put(rt, b"\n");
 }
 
 fn put_write(
+    rt: &HostRuntime,
     head: Head,
     subnets: &[u16],
     places: &[u16],
@@ -68,10 +69,11 @@ fn put_write(
     out: &mut [u8],
 ) {
     let w = write(head, subnets, places, transitions, arcs, out);
-    put_written(w, out);
+    put_written(rt, w, out);
 }
 
 pub fn put_writers(
+    rt: &HostRuntime,
     head: Head,
     subnets: &[u16],
     places: &[u16],
@@ -81,7 +83,15 @@ pub fn put_writers(
 )
     requires { room < 65536 }
 {
-    put_spelt(spell(head, subnets, places, transitions, arcs), room);
+    put_spelt(rt, spell(head, subnets, places, transitions, arcs), room);
     let mut out = [165; 65536];
-    put_write(head, subnets, places, transitions, arcs, &mut out[..room]);
+    put_write(
+        rt,
+        head,
+        subnets,
+        places,
+        transitions,
+        arcs,
+        &mut out[..room],
+    );
 }

@@ -7,10 +7,10 @@ use card::INPUT_BYTES;
 use console::{put_first, read_input};
 use programs::flat::flat_text;
 
-fn main() {
+fn main(rt: HostRuntime) {
     let mut card = [0; INPUT_BYTES];
-    let n = read_input(&mut card);
+    let n = read_input(&rt, &mut card);
     let t = flat_text(&card[..n]);
     let bytes = t.bytes;
-    put_first(&bytes, t.length);
+    put_first(&rt, &bytes, t.length);
 }

@@ -19,37 +19,37 @@ fn end_of(bytes: &[u8], at: usize) -> usize
 }
 
 // Asks for the room without which `answer_block` takes nothing.
-fn put_block(net: Net, p: Progress, block: &[u8], lines: &mut [u8]) -> Progress
+fn put_block(rt: &HostRuntime, net: Net, p: Progress, block: &[u8], lines: &mut [u8]) -> Progress
     requires { longest * length block.now ≤ length lines.old }
     ensures { length lines.new ≡ length lines.old }
 {
     let t = answer_block(net, p, block, lines);
     let next = t.progress;
-    put_first(lines, t.length);
+    put_first(rt, lines, t.length);
     next
 }
 
-fn put_blocks(net: Net, first: Progress, bytes: &[u8], lines: &mut [u8])
+fn put_blocks(rt: &HostRuntime, net: Net, first: Progress, bytes: &[u8], lines: &mut [u8])
     requires { longest * 64 ≤ length lines.old }
 {
     let mut p = first;
     let mut at: usize = 0;
     while at < bytes.len() {
         let end = end_of(bytes, at);
-        p = put_block(net, p, &bytes[at..end], lines);
+        p = put_block(rt, net, p, &bytes[at..end], lines);
         at = end;
     }
-    put_line(last_line(net, p));
+    put_line(rt, last_line(net, p));
 }
 
-pub fn put_file(card: &[u8], bytes: &[u8]) {
+pub fn put_file(rt: &HostRuntime, card: &[u8], bytes: &[u8]) {
     let s = begin(card);
     let line = s.line;
-    put_line(line);
+    put_line(rt, line);
     if s.runs {
         let mut lines = [0; LINES_BYTES];
         let net = s.net;
         let progress = s.progress;
-        put_blocks(net, progress, bytes, &mut lines);
+        put_blocks(rt, net, progress, bytes, &mut lines);
     }
 }

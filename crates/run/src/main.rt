@@ -17,55 +17,55 @@ use programs::blocks::{BLOCK_BYTES, LINES_BYTES, Progress, answer_block, begin, 
 use programs::line::Line;
 use runners::Net;
 
-fn put_line(l: Line) {
+fn put_line(rt: &HostRuntime, l: Line) {
     let bytes = l.bytes;
-    put_first(&bytes, l.length);
+    put_first(rt, &bytes, l.length);
 }
 
 // Writes the lines of a block, and gives the run behind it. It asks for the room without which `answer_block` takes nothing.
-fn put_block(net: Net, p: Progress, block: &[u8], lines: &mut [u8]) -> Progress
+fn put_block(rt: &HostRuntime, net: Net, p: Progress, block: &[u8], lines: &mut [u8]) -> Progress
     requires { longest * length block.now ≤ length lines.old }
     ensures lines_len_unchanged { length lines.new ≡ length lines.old }
     ensures result_value { (j : Judgement) → IsNet j net → runIn result ≡ (fedBlock (rowSizeIn j) (fileCall j) (length lines.old) (runIn p) block.now).1 }
 {
     let t = answer_block(net, p, block, lines);
     let next = t.progress;
-    put_first(lines, t.length);
+    put_first(rt, lines, t.length);
     next
 }
 
 // Ends where the input does. Nothing says that an input ends, so the turns are counted, from a number that no run uses up.
-fn put_blocks(net: Net, first: Progress, block: &mut [u8], lines: &mut [u8])
+fn put_blocks(rt: &HostRuntime, net: Net, first: Progress, block: &mut [u8], lines: &mut [u8])
     requires { longest * length block.old ≤ length lines.old }
 {
     let mut p = first;
     let mut turns = u64::MAX;
     while 0 < turns {
-        let n = read_some(block);
+        let n = read_some(rt, block);
         if n == 0 {
-            put_line(last_line(net, p));
+            put_line(rt, last_line(net, p));
             return;
         }
-        p = put_block(net, p, &block[..n], lines);
+        p = put_block(rt, net, p, &block[..n], lines);
         turns -= 1;
     }
 }
 
-fn put_rows(net: Net, first: Progress) {
+fn put_rows(rt: &HostRuntime, net: Net, first: Progress) {
     let mut block = [0; BLOCK_BYTES];
     let mut lines = [0; LINES_BYTES];
-    put_blocks(net, first, &mut block, &mut lines);
+    put_blocks(rt, net, first, &mut block, &mut lines);
 }
 
-fn main() {
+fn main(rt: HostRuntime) {
     let mut card = [0; INPUT_BYTES];
-    let n = read_file(b"net.card", &mut card);
+    let n = read_file(&rt, "net.card", &mut card);
     let s = begin(&card[..n]);
     let line = s.line;
-    put_line(line);
+    put_line(&rt, line);
     if s.runs {
         let net = s.net;
         let progress = s.progress;
-        put_rows(net, progress);
+        put_rows(&rt, net, progress);
     }
 }

@@ -1,0 +1,20 @@
+use Rattle.std.proofs.Common.{rules}
+use borrow.Author.Tests.{lt-ltb, le-ltb, eq-eqb, ne_eqb}
+use Rattle.card.specs.Grammar.{subnet}
+use Rattle.card.proofs.layout.after_parent.Goals as goal
+
+pub returns-then-v-eq0 : goal.returns-then-v-eq0
+unfolding subnet
+returns-then-v-eq0 c = search (rules, lt-ltb, le-ltb, eq-eqb, ne_eqb)
+
+pub returns-then-l-eq0 : goal.returns-then-l-eq0
+unfolding subnet
+returns-then-l-eq0 c = search (rules, lt-ltb, le-ltb, eq-eqb, ne_eqb)
+
+pub returns-then-v-l : goal.returns-then-v-l
+unfolding subnet
+returns-then-v-l c = search (rules, lt-ltb, le-ltb, eq-eqb, ne_eqb)
+
+pub returns : goal.returns
+unfolding subnet
+returns c = search (rules, lt-ltb, le-ltb, eq-eqb, ne_eqb)

@@ -1,0 +1,16 @@
+use Rattle.std.proofs.Common.{rules}
+use borrow.Author.Tests.{le-leb, lt-leb}
+use Rattle.card.specs.Grammar.{header}
+use Rattle.card.proofs.layout.after_version.Goals as goal
+
+pub returns-then-v-lt1 : goal.returns-then-v-lt1
+unfolding header
+returns-then-v-lt1 c = search (rules, le-leb, lt-leb)
+
+pub returns-then-v-gt-MAX_VERSION : goal.returns-then-v-gt-MAX_VERSION
+unfolding header
+returns-then-v-gt-MAX_VERSION c = search (rules, le-leb, lt-leb)
+
+pub returns : goal.returns
+unfolding header
+returns c = search (rules, le-leb, lt-leb)
