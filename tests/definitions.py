@@ -24,8 +24,6 @@ import row_calls
 import samples
 
 SIZES = {"most_subnets": 3, "most_rows": 3, "most_signals": 3}
-# What `rt check` leaves of them: layers that have not changed since are not proved again.
-PROVED = ("log", "rlib", "stamp")
 
 # How many cases of each outcome.
 CARDS = {"accepted": 12, **{number: 2 for number in (*net.PASS_ONE, *net.PASS_TWO)}}
@@ -196,44 +194,40 @@ def unfolded():
     text = (root / "crates/programs/proofs/Starred.antt").read_text()
     uses = re.findall(r"^use .*$", text, re.M)
     lines = re.search(r"^unfolding (.*?)\nstarred =", text, re.M | re.S).group(1)
-    return "\n".join(uses).replace("Rattle·programs·specs.specs.", "Rattle·programs.specs."), lines
+    return "\n".join(uses), lines
 
 
 def theorems(statements):
     uses, names = unfolded()
-    parts = ["""use Prim.Native.Nat.{ℕ}
-use mathlib.Core.List.{List, [], _∷_}
-use mathlib.Core.Option.{Option, none, some}
-use Rattle·card.specs.Writing.{allFit, counted, readTables}
-use Rattle·card.specs.Rows.{tablesIn, wholeRows, readRows}
-use Rattle·card.specs.Spelling.{putInto}
-use Rattle·hierarchy.specs.Numbers as checks
-use Rattle·hierarchy.specs.Judgement.{answer}
-use Rattle·hierarchy.specs.Output.{writeRows}
-use Rattle·runners.specs.Numbers as replies
-use Rattle·programs.specs.Programs.{flattenProgram}
-use Rattle·runners.specs.Calls.{slot}
-use Rattle·runners.specs.declared.Transfer.the-variants.{Idle, Carrying}""", uses]
+    parts = ["""use Rattle.std.proofs.Common.{ℕ, List, [], ◌∷◌}
+use Rattle.std.proofs.Math.Option.{Option, none, some}
+use Rattle.card.specs.Writing.{all_fit, counted, read_tables}
+use Rattle.card.specs.Rows.{tablesIn, wholeRows, readRows}
+use Rattle.card.specs.Spelling.{putInto}
+use Rattle.hierarchy.specs.Numbers as checks
+use Rattle.hierarchy.specs.Judgement.{answer}
+use Rattle.hierarchy.specs.Output.{writeRows}
+use Rattle.runners.specs.Numbers as replies
+use Rattle.programs.specs.Programs.{flattenProgram}
+use Rattle.runners.specs.Calls.{slot}
+use Rattle.runners.specs.declared.Transfer.TheVariants.{Idle, Carrying}""", uses]
     text = "\n".join(dict.fromkeys("\n".join(parts).split("\n"))) + "\n"
-    more = "allFit counted readTables tablesIn wholeRows readRows putInto writeRows flattenProgram"
+    more = "all_fit counted read_tables tablesIn wholeRows readRows putInto writeRows flattenProgram"
     for number, statement in enumerate(statements, start=1):
         text += f"\ncase-{number} : {statement}\nunfolding {names} {more}\ncase-{number} = refl\n"
     return text
 
 
 def copied(folder, statements):
-    """A copy of the layers, with what was proved of them, and the crate of the theorems over them."""
+    """A copy of the layers, with what checks have kept of them, and the crate of the theorems over them."""
     for layer in layers():
         shutil.copytree(root / "crates" / layer, folder / "crates" / layer)
     shutil.copy(root / "crates.txt", folder)
-    for part in PROVED:
-        if (root / "target" / part).is_dir():
-            shutil.copytree(root / "target" / part, folder / "target" / part)
     with open(folder / "crates.txt", "a") as listing:
         listing.write(f"computed: {' '.join(layers())}\n")
     for part in ("src", "specs", "proofs"):
         (folder / "crates/computed" / part).mkdir(parents=True)
-    (folder / "crates/computed/src/lib.rt").write_text("pub enum Computed {\n    Case,\n}\n")
+    (folder / "crates/computed/src/lib.rt").write_text("#![tactic(auto)]\n\npub enum Computed {\n    Case,\n}\n")
     (folder / "crates/computed/specs/Lib.antt").write_text("\n")
     (folder / "crates/computed/proofs/Lib.antt").write_text("mod Cases\n")
     (folder / "crates/computed/proofs/Cases.antt").write_text(theorems(statements))
@@ -249,7 +243,7 @@ def main():
         statements += sample(rng, make, wanted)
     with tempfile.TemporaryDirectory() as folder:
         copied(pathlib.Path(folder), statements)
-        run = subprocess.run(["rt", "check", "computed"], cwd=folder, capture_output=True, text=True)
+        run = subprocess.run(["rt", "check"], cwd=pathlib.Path(folder) / "crates" / "computed", capture_output=True, text=True)
     output = run.stdout + run.stderr
     wrong = sorted(set(map(int, re.findall(r"`case-(\d+)`", output))))
     if run.returncode != 0 and not wrong:

@@ -4,7 +4,7 @@ and visiting orders; then the Rust program that calls it, and the example for us
 
     library.py [SEED]
 
-The seed is printed. The environment variable LIBRARY may name an archive to be tested in place of the one that rt builds.
+The seed is printed. The environment variable LIBRARY may name an archive to be tested in place of the one that tools/build makes.
 """
 
 import collections
@@ -519,8 +519,8 @@ def built():
         archive = pathlib.Path(os.environ["LIBRARY"]).resolve()
     else:
         report.need_commands("rt")
-        command("rt", "staticlib", "net_runner")
-    report.need_built(archive, "rt staticlib net_runner")
+        command(root / "tools" / "build", "net_runner")
+    report.need_built(archive, "tools/build net_runner")
     folder.mkdir(parents=True, exist_ok=True)
     return archive
 

@@ -1,4 +1,4 @@
-"""The proved programs, as rt built them."""
+"""The proved programs, as tools/build built them."""
 
 import contextlib
 import os
@@ -17,7 +17,7 @@ folder = pathlib.Path(os.environ.get("PROGRAMS", root / "target" / "bin")).resol
 def need(*names):
     """Ends the script if one of these programs is not built."""
     for name in names:
-        report.need_built(folder / name, f"rt check {name}")
+        report.need_built(folder / name, f"tools/build {name}")
 
 
 def printed(program, stdin, where="/"):
