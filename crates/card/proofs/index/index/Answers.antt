@@ -1,0 +1,46 @@
+-- The walk stores where each subnet begins and indexes its transitions, and stays where a card can have rows.
+use Rattle.std.proofs.Common.{ℕ, List, length, sym, ap, subst, ◌∙◌, arith}
+use Rattle.std.proofs.lemmas.List.{length-replicate}
+use Rattle.card.specs.Index.{startsSize}
+use Rattle.card.specs.inner.Indexing.{AtSubnet, TransitionsIndexed}
+use Rattle.card.proofs.TableLaws.{no-yes}
+use Rattle.card.proofs.IndexLaws.{put_same, index-start, index_on, index_at, index-more, index-done}
+use Rattle.card.proofs.index.index.Goals as goal
+
+pub loop-s-init : goal.loop-s-init
+loop-s-init c = record {
+  long = length-replicate {A = ℕ} startsSize 0;
+  low = omega arith;
+  places = omega arith;
+  transitions = omega arith;
+  indexed = λ k w d e. index-start k w c.args.numbers.now d _ c.version.result c.version.ensures c.header_fields.ensures.0 c.header_width.ensures.0;
+}
+
+pub returns-then-not-on_card : goal.returns-then-not-on_card
+returns-then-not-on_card c =
+    let x = c.loop-s in
+    λ k w d e. absurd (no-yes (sym c.if-not-on_card.true ∙ c.on_card.ensures.1 (index_on k w _ d _ _ _ _ _ (x.invariant.indexed k w d e) (omega arith))))
+
+pub loop-s-preserved : goal.loop-s-preserved
+loop-s-preserved c =
+    let x = c.loop-s in
+    let one = c.put_subnet in
+    let n = c.place_count-n in
+    let m = c.transition_count-k in
+    let q = c.after_places in
+    let t = c.index_transitions-p in record {
+      long = t.ensures.starts_len_unchanged ∙ ap length one.ensures ∙ put_same x.starts x.s x.p.row x.p.bit x.place x.transition ∙ x.invariant.long;
+      low = omega arith;
+      places = omega (arith, x.invariant.places);
+      transitions = omega (arith, x.invariant.transitions);
+      indexed = λ k w d e.
+          let v = x.invariant.indexed k w d e in
+          let at = index_at k w _ d _ _ _ _ _ v (omega arith) n.result m.result n.ensures m.ensures q.result q.ensures in
+          index-more k w _ d _ _ _ _ _ v (omega arith) n.result m.result n.ensures m.ensures q.result q.ensures t.new.starts t.result
+          (subst (λ (xs : List ℕ). TransitionsIndexed k x.s xs t.new.starts t.result) one.ensures (t.ensures.by_index k x.s (subst (λ (xs : List ℕ). AtSubnet k x.s c.args.numbers.now xs q.result x.transition m.result) (sym one.ensures) at)));
+    }
+
+pub returns : goal.returns
+returns c =
+    let x = c.loop-s in
+    λ k w d e. c.put_subnet-2.ensures ∙ index-done k w _ d _ _ _ _ _ (x.invariant.indexed k w d e) (omega arith)

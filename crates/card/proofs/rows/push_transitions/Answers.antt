@@ -1,0 +1,52 @@
+-- Each transition's row and its arcs lie within the slices, and are put behind what the table holds.
+use Rattle.std.proofs.Common.{ℕ, ◌≡◌, ◌+◌, ◌-◌, ◌*◌, take, drop, ap, ◌∙◌, arith}
+use Rattle.card.specs.Card.{transitionFields, arcFields}
+use Rattle.card.specs.inner.Runs.{arcsBefore}
+use Rattle.card.proofs.RunLaws.{place-start, place-arcs, place-more, place-done}
+use Rattle.card.proofs.rows.push_transitions.Goals as goal
+
+pub loop-t-init : goal.loop-t-init
+loop-t-init c =
+    λ p. place-start _ _ _ _ _ _ _ p
+
+pub overflow_mul-low : goal.overflow_mul-low
+overflow_mul-low c =
+    omega (arith, place-arcs _ _ _ _ _ _ _ c.requires _ _ _ _ (c.loop-t.invariant c.requires) c.loop-t-test.true)
+
+pub overflow_add-b : goal.overflow_add-b
+overflow_add-b c =
+    omega (arith, place-arcs _ _ _ _ _ _ _ c.requires _ _ _ _ (c.loop-t.invariant c.requires) c.loop-t-test.true, c.wide-b.ensures)
+
+pub overflow_mul-high : goal.overflow_mul-high
+overflow_mul-high c =
+    omega (arith, place-arcs _ _ _ _ _ _ _ c.requires _ _ _ _ (c.loop-t.invariant c.requires) c.loop-t-test.true, c.wide-b.ensures)
+
+pub offset_bounds-arcs-low : goal.offset_bounds-arcs-low
+offset_bounds-arcs-low c =
+    omega (arith, place-arcs _ _ _ _ _ _ _ c.requires _ _ _ _ (c.loop-t.invariant c.requires) c.loop-t-test.true, c.wide-b.ensures)
+
+pub slice_bounds-push-end-in-loop-t : goal.slice_bounds-push-end-in-loop-t
+slice_bounds-push-end-in-loop-t c =
+    omega (arith, place-arcs _ _ _ _ _ _ _ c.requires _ _ _ _ (c.loop-t.invariant c.requires) c.loop-t-test.true, c.wide-b.ensures)
+
+pub loop-t-preserved : goal.loop-t-preserved
+loop-t-preserved c =
+    let a = c.args in
+    let x = c.loop-t in
+    let f = c.push-m in
+    let g = c.push-m-in-loop-t in
+    let k = c.wide-b in
+    let y : transitionFields * x.t + transitionFields - transitionFields * x.t ≡ transitionFields = omega arith in
+    let z : arcFields * (x.b + k.result) - arcFields * x.b ≡ arcFields * k.result = omega arith in
+    λ p. place-more _ _ _ _ _ _ _ p _ _ _ _ (x.invariant p) c.loop-t-test.true f.new.numbers g.new.numbers _ _ f.result g.result k.result k.ensures
+    (ap (λ (i : ℕ). take i (drop (transitionFields * x.t) a.transitions.now)) y) (ap (λ (i : ℕ). take i (drop (arcFields * x.b) a.arcs.now)) z)
+    f.ensures.numbers_len_unchanged g.ensures.numbers_len_unchanged f.ensures.by_index g.ensures.by_index
+
+pub returns-clause-arc_value : goal.returns-clause-arc_value
+returns-clause-arc_value c =
+    let x = c.loop-t.invariant c.requires in
+    x.is ∙ ap (arcsBefore c.args.transitions.now) (place-done _ _ _ _ _ _ _ c.requires _ _ _ _ x c.loop-t-test.false).0
+
+pub returns-clause-by_index : goal.returns-clause-by_index
+returns-clause-by_index c =
+    (place-done _ _ _ _ _ _ _ c.requires _ _ _ _ (c.loop-t.invariant c.requires) c.loop-t-test.false).1
