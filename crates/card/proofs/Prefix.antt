@@ -8,7 +8,7 @@ use lib.ListN.{length, get_or, take, drop}
 use lib.Seq.{take-suc, take-add, take_all, drop-cons, length-take-le}
 use Rattle.card.specs.Finite.{sum_to, table}
 use Rattle.card.specs.Card.{Header, Subnet, Place, Transition, Arc, Card, headerOf, subnetAt, placeAt, transitionAt, arcAt, firstPlace, firstTransition, firstArc, noSubnet, noPlace, noTransition, noArc}
-use Rattle.card.specs.Format.{of, each, grow, ◌>>=◌}
+use Rattle.card.specs.Format.{of, each, grow}
 use Rattle.card.specs.Grammar.{header, subnet, place, transition, arc, wholeTransition, with, wholeSubnet, card, headerAlone}
 use Rattle.card.proofs.Sums.{sum_mono}
 use Rattle.card.proofs.Walk.{built, built-then, built_of, built-each}

@@ -5,7 +5,6 @@ use Rattle.card.specs.Numbers.{number}
 use Rattle.card.specs.Card.{Card}
 use Rattle.card.specs.Grammar.{card}
 use Rattle.card.specs.Parsing.{Parsing}
-use Rattle.card.specs.Parsing
 use Rattle.card.specs.Writing.{fields, encode, all_fit, counted}
 use Rattle.card.specs.Tables.{tableSize, cardBytes, numbersOf}
 use Rattle.card.specs.declared.FormatFault.{FormatFault}

@@ -5,7 +5,6 @@ use Rattle.card.specs.Numbers.{number}
 use Rattle.card.specs.Card.{Card, headerFields, subnetFields, placeFields, transitionFields, arcFields}
 use Rattle.card.specs.Grammar.{maxSubnets, maxCount, maxArcs, card}
 use Rattle.card.specs.Parsing.{Parsing}
-use Rattle.card.specs.Parsing
 use Rattle.card.specs.Writing.{fields}
 use Rattle.card.specs.Index.{startsSize, startsOf}
 use Rattle.card.specs.declared.reader.ReadAnswer.{ReadAnswer}

@@ -2,7 +2,6 @@
 use Rattle.std.specs.Prelude.{ℕ, ◌+◌, ◌*◌, ◌/◌, ◌%◌, ◌^◌, ◌≤◌, ◌<◌, ◌≡◌, Bool, true, length, get_or, take, drop}
 use mathlib.Core.List.{List, [], ◌∷◌, ◌++◌, flatten}
 use Rattle.card.specs.Finite.{table, sum_to}
-use Rattle.card.specs.Numbers.{number}
 use Rattle.card.specs.Rows.{entry}
 use Rattle.card.specs.Card.{subnetFields, placeFields, transitionFields, arcFields}
 use Rattle.card.specs.Tables.{tableSize}
