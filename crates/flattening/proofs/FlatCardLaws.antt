@@ -12,7 +12,6 @@ use borrow.Author.Tests.{eqb-true}
 use Rattle.card.specs.Card.{Card}
 use Rattle.card.specs.Index.{startsSize, Loaded}
 use Rattle.card.specs.Parsing.{Parsing, readCard}
-use Rattle.card.specs.Parsing
 use Rattle.card.specs.Tables.{numbersOf, numbersTable, hasRoom, IsTable}
 use Rattle.card.proofs.Sums.{table-length, table_at}
 use Rattle.card.proofs.Turn.{zero_in}

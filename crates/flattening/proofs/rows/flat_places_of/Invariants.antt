@@ -1,0 +1,16 @@
+use Rattle.std.proofs.Common.{◌-◌, ◌≡◌, ℕ, ◌+◌, ◌<◌, List, ◌≤◌, length}
+use Rattle.card.specs.Card.{Card, firstPlace}
+use Rattle.card.specs.Index.{Loaded, subnetRow}
+use Rattle.hierarchy.specs.Conditions.{Meets}
+use Rattle.flattening.specs.inner.FlatRows.{PlacesTo}
+use Rattle.flattening.proofs.rows.flat_places_of.Given as goal
+
+abbrev pub invariant-loop-n : goal.invariant-loop-n
+invariant-loop-n l = record {
+  in_range : l.n ≤ l.count;
+  stored : (c : Card) (starts : List ℕ) (s : ℕ) → Meets c → Loaded c l.numbers starts → s < length c.subnets → l.row ≡ subnetRow c s → l.first ≡ firstPlace c s → PlacesTo c l.initial.rows (firstPlace c s)
+      → PlacesTo c l.rows (firstPlace c s + l.n);
+}
+
+abbrev pub decreases-loop-n : goal.decreases-loop-n
+decreases-loop-n l = l.count - l.n

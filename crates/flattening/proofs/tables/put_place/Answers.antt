@@ -1,0 +1,5 @@
+use Rattle.flattening.proofs.FlatPut.{place-put}
+use Rattle.flattening.proofs.tables.put_place.Goals as goal
+
+pub returns : goal.returns
+returns c = search place-put
