@@ -9,7 +9,6 @@ use lib.ListN.{get_or}
 use Rattle.card.specs.Card.{Card}
 use Rattle.card.specs.Index.{Loaded}
 use Rattle.card.specs.Parsing.{Parsing, readCard}
-use Rattle.card.specs.Parsing
 use Rattle.card.specs.Tables.{IsTable}
 use Rattle.card.specs.Writing.{encode, read_tables}
 use Rattle.card.proofs.Ranges.{read-wellformed}

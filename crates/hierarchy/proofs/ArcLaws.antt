@@ -8,7 +8,7 @@ use native.Mathlib.Omega.{arith}
 use native.Mathlib.Numerals.{add-one}
 use lib.ListN.{length, get_or, get_or-eq_default}
 use lib.Dec.{ltb, leb, eqb}
-use borrow.Author.Tests.{ltb-true, ltb-false, lt-ltb, le-ltb, lt-leb, le-leb, eq-eqb, ne_eqb, not-true, not-false}
+use borrow.Author.Tests.{ltb-true, ltb-false, lt-ltb, le-ltb, lt-leb, le-leb, eq-eqb, ne_eqb}
 use Rattle.card.proofs.TableLaws.{no-yes}
 use Rattle.card.specs.Card.{Arc, Subnet, Card, subnetAt, placeAt, transitionAt, arcAt, firstPlace, firstTransition, place_of, noSubnet}
 use Rattle.card.specs.Index.{ArcThere, Lists, Laid, Indexed, Loaded, placeField, arcField, transitionBitStart, transitionRowStart, firstTransitionStart}
@@ -228,13 +228,6 @@ module _ {numbers : List ℕ} {row j : ℕ} {a : Arc} {r : Bool} {h : ℕ} where
   each_fits {k} n m c l i t b o q e =
       let z : k ≡ (place_of c (arcAt c t j)).capacity = e ∙ ap (λ (x : Arc). (place_of c x).capacity) q in
       each-end n m c l i t b o q ∙ ap (λ (y : ℕ). every j (λ g. loopFits y (arcAt c t g) (arcAt c t j))) z
-
--- a test that the code made, and that it branched on
-pub passed : {r b : Bool} → r ≡ b → not r ≡ false → b ≡ true
-passed {r} e n = sym e ∙ not-false r n
-
-pub failed : {r b : Bool} → r ≡ b → not r ≡ true → b ≡ false
-failed {r} e n = sym e ∙ not-true r n
 
 -- 10 to 13 and 26 at arc j, which is a
 module _ {c : Card} {i t : ℕ} (h : Lists c i t) (j : ℕ) {a : Arc} (q : a ≡ arcAt c t j) where

@@ -9,7 +9,6 @@ use Rattle.card.specs.Finite.{◌otherwise◌}
 use Rattle.card.specs.Card.{Card}
 use Rattle.card.specs.Index.{Loaded}
 use Rattle.card.specs.Parsing.{Parsing, readCard}
-use Rattle.card.specs.Parsing
 use Rattle.card.specs.Tables.{readOutcome, outcomeOf, IsRead, IsTable}
 use Rattle.card.specs.Numbers
 use Rattle.card.specs.declared.Counts.{Counts}

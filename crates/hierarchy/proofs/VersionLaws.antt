@@ -16,7 +16,6 @@ use Rattle.card.specs.Card.{Card, Subnet, Place, Transition, Arc, subnetAt, plac
 use Rattle.card.specs.Format.{Format, done, get, of, each, grow, size, sizeFrom, ◌>>=◌}
 use Rattle.card.specs.Grammar.{header, subnet, place, transition, wholeTransition, with, wholeSubnet, headerAlone, card}
 use Rattle.card.specs.Parsing.{Parsing, read, unlessFault, excess, closed, ended, readCard}
-use Rattle.card.specs.Parsing
 use Rattle.card.specs.Writing.{subnetBit, transitionBit, arcBit}
 use Rattle.card.specs.declared.FormatFault.{FormatFault}
 use Rattle.card.specs.declared.FormatFault.TheVariants.{Truncated}

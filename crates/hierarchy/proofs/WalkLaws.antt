@@ -2,11 +2,11 @@
 -- it has passed the last. Assumes nothing.
 use Prim.Native.Nat.{ℕ, zero, suc, ◌+◌, ◌≤◌, ◌<◌}
 use mathlib.Core.Path.{◌≡◌, refl, sym, subst, ◌∙◌}
-use mathlib.Core.Bool.{Bool, true, false, not, ◌&&◌, ◌||◌}
+use mathlib.Core.Bool.{Bool, true, false, ◌&&◌, ◌||◌}
 use mathlib.Core.Option.{Option, none, some}
 use native.Mathlib.Omega.{arith}
 use lib.Dec.{eqb}
-use borrow.Author.Tests.{eqb-true, eqb-false, eq-eqb, ne_eqb, not-true, not-false}
+use borrow.Author.Tests.{eqb-true, eqb-false, eq-eqb, ne_eqb}
 use Rattle.card.specs.Finite.{every, any, first_of}
 use Rattle.hierarchy.specs.Check.{faultUnless, findingOf}
 use Rattle.hierarchy.specs.declared.CardFault.{CardFault}
@@ -94,20 +94,11 @@ pub first-none : {A : Type 0} (n i : ℕ) (f : ℕ → Option A) → Below i f n
 first-none n i f h l = none_from 0 n f (λ k a b. h k (omega arith))
 
 -- the parts of a test
-pub part-fails : (x a b : Bool) → x ≡ a → not x ≡ true → false ≡ a && b
-part-fails x a b e n = rw (← e, not-true x n)
+pub part-fails : (a b : Bool) → false ≡ a → false ≡ a && b
+part-fails a b e = rw (← e)
 
-pub part-holds : (x y a b : Bool) → x ≡ a → not x ≡ false → y ≡ b → y ≡ a && b
-part-holds x y a b e n f = rw (← e, not-false x n, f)
-
-pub found : (x a b : Bool) → x ≡ a → x ≡ b → a ≡ b
-found x a b e f = sym e ∙ f
-
-pub test-fails : (x a : Bool) → x ≡ a → not x ≡ true → a ≡ false
-test-fails x a e n = sym e ∙ not-true x n
-
-pub test-holds : (x a : Bool) → x ≡ a → not x ≡ false → a ≡ true
-test-holds x a e n = sym e ∙ not-false x n
+pub part-holds : (y a b : Bool) → true ≡ a → y ≡ b → y ≡ a && b
+part-holds y a b e f = rw (← e, f)
 
 -- As many, and each two alike: both counts a and b are n, and the test has held at each number below i.
 pub record Compared (a b n i : ℕ) (f : ℕ → Bool) : Type 0 where

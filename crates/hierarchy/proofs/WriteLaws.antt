@@ -12,7 +12,6 @@ use Rattle.card.specs.Finite.{table}
 use Rattle.card.specs.Card.{Card}
 use Rattle.card.specs.Numbers
 use Rattle.card.specs.Parsing.{Parsing, readCard}
-use Rattle.card.specs.Parsing
 use Rattle.card.specs.Writing.{encode, read_tables}
 use Rattle.card.specs.Tables.{cardBytes}
 use Rattle.card.specs.Rows.{tablesIn, wholeRows, readRows}

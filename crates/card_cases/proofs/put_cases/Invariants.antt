@@ -1,0 +1,4 @@
+use Rattle.card_cases.proofs.put_cases.Given as goal
+
+abbrev pub decreases-loop-turns : goal.decreases-loop-turns
+decreases-loop-turns l = l.turns
