@@ -5,7 +5,6 @@ use Rattle.card.specs.Card.{Card}
 use Rattle.card.specs.Tables.{readOutcome, startsRead, IsTable}
 use Rattle.card.specs.Tables
 use Rattle.card.specs.Parsing.{Parsing, readCard}
-use Rattle.card.specs.Parsing
 use Rattle.card.specs.Writing.{read_tables}
 use Rattle.hierarchy.specs.Numbers.{number, CheckOutcome, checkOutcome}
 use Rattle.hierarchy.specs.Numbers

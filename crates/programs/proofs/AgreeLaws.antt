@@ -17,7 +17,6 @@ use Rattle.card.specs.Card.{Card}
 use Rattle.card.proofs.BitLaws.{lt-or-ge}
 use Rattle.card.proofs.Sums.{map-length}
 use Rattle.hierarchy.specs.Judgement.{Judgement, accepted, judge, outcomeOf}
-use Rattle.hierarchy.specs.Judgement
 use Rattle.hierarchy.specs.Numbers.{checkOutcome}
 use Rattle.hierarchy.specs.declared.CardFault.{CardFault}
 use Rattle.hierarchy.specs.declared.Answer.TheVariants.{Accepted, Refused}
