@@ -10,7 +10,8 @@ use Rattle.card.specs.Card.{Card, draws, fills}
 use Rattle.card.proofs.Sums.{map-length}
 use Rattle.card.proofs.BitLaws.{lt-or-ge}
 use Rattle.hierarchy.specs.Conditions.{Meets}
-use Rattle.hierarchy.proofs.WalkLaws.{Below, every-none, every-all, and_no, test-fails, test-holds}
+use Rattle.hierarchy.proofs.WalkLaws.{Below, every-none, every-all, and_no}
+use Rattle.runners.proofs.TestLaws.{test-fails, test-holds}
 use Rattle.flattening.specs.Flattening.{flatPlaceRow, flatten}
 use Rattle.runners.specs.State.{scale, entry, transfer, remaining, flow, owed, due, covered}
 use Rattle.runners.specs.Rows.{rowFault}

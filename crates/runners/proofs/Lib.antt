@@ -18,6 +18,7 @@ pub mod OrderLaws
 pub mod FewLaws
 pub mod LoopLaws
 pub mod BoardLaws
+pub mod TestLaws
 pub mod GuardLaws
 pub mod FreshLaws
 pub mod TraceLaws

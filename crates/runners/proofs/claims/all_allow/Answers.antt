@@ -2,7 +2,8 @@
 use Rattle.std.proofs.Common.{true, not, sym, ap, arith}
 use Rattle.card.specs.Card.{transitionAt, arcAt}
 use Rattle.flattening.specs.Flattening.{flatten}
-use Rattle.hierarchy.proofs.WalkLaws.{below-start, below_more, every-none, every-all, test-fails, test-holds}
+use Rattle.hierarchy.proofs.WalkLaws.{below-start, below_more, every-none, every-all}
+use Rattle.runners.proofs.TestLaws.{test-fails, test-holds}
 use Rattle.runners.specs.Step.{allows}
 use Rattle.runners.specs.Columns.{posted}
 use Rattle.runners.proofs.ClaimLaws.{counted, in-arcs, arc-is}

@@ -1,6 +1,7 @@
 -- `runners::guards::transfers_in_range` meets its contract.
 use Rattle.std.proofs.Common.{true, not, sym, ap, ◌∙◌, arith}
-use Rattle.hierarchy.proofs.WalkLaws.{below-start, below_more, test-holds}
+use Rattle.hierarchy.proofs.WalkLaws.{below-start, below_more}
+use Rattle.runners.proofs.TestLaws.{test-holds}
 use Rattle.runners.specs.Calls.{in_range}
 use Rattle.runners.specs.inner.Storing.{slot_at}
 use Rattle.runners.proofs.TransferLaws.{slot-at}
