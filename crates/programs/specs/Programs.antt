@@ -5,7 +5,6 @@ use Rattle.card.specs.Bits.{bytesFor}
 use Rattle.card.specs.Card.{Card}
 use Rattle.card.specs.Writing.{encode}
 use Rattle.hierarchy.specs.Judgement.{Judgement, accepted, judge}
-use Rattle.hierarchy.specs.Judgement
 use Rattle.flattening.specs.Flattening.{flatten}
 use Rattle.runners.specs.Numbers.{RowOutcome, ok, refused, progress}
 use Rattle.runners.specs.State.{NetState, fresh}

@@ -1,7 +1,6 @@
 -- Two visits that are equal in all they may read post, start and move the same, whatever stands elsewhere. Assumes nothing.
-use Rattle.std.proofs.Common.{◌≡◌, ℕ, ◌+◌, ◌%◌, ◌<◌, List, length, sym, refl, ap, ◌∙◌, subst, arith}
+use Rattle.std.proofs.Common.{◌≡◌, ℕ, ◌%◌, List, sym, refl, ap, ◌∙◌, subst, arith}
 use Rattle.card.specs.Card.{Card, draws, fills, subnetAt, firstTransition}
-use Rattle.runners.specs.State.{entry}
 use Rattle.runners.specs.Columns.{word, nothing, Columns}
 use Rattle.runners.specs.Visits.{OwnsTransition, Round, posting, finding, moving, Turn, effect, SameView, Does, turnIn, SameChange, SameOutcome, VisitsAlike}
 use Rattle.runners.proofs.OwnerLaws.{next-first}

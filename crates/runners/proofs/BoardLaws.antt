@@ -1,5 +1,5 @@
 -- What the columns of the board hold of a state and of the step. Assumes nothing.
-use Rattle.std.proofs.Common.{◌≡◌, ℕ, ◌+◌, ◌-◌, ◌*◌, ◌<◌, ◌≤◌, List, map, length, sym, refl, ap, ◌∙◌, zero-add, arith, get_or-take}
+use Rattle.std.proofs.Common.{◌≡◌, ℕ, ◌+◌, ◌*◌, ◌<◌, ◌≤◌, List, map, length, sym, refl, ap, ◌∙◌, zero-add, arith, get_or-take}
 use Rattle.card.specs.Finite.{sum_to}
 use Rattle.card.specs.Card.{Card}
 use Rattle.card.proofs.Sums.{sum_same}

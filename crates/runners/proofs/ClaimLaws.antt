@@ -1,7 +1,7 @@
 -- What the arcs of a transition post and move, and whether they allow it to start, out of a card's tables. Assumes nothing.
 use Rattle.std.proofs.Common.{◌≡◌, ℕ, ◌+◌, ◌*◌, ◌<◌, ◌≤◌, Bool, true, false, cond, ◌&&◌, eqb, leb, List, length, get_or, sym, refl, ap, ◌∙◌, ap₂, mul-le-mul_left, add-one, arith, eq-eqb, ne_eqb}
 use Rattle.card.specs.Finite.{sum_to}
-use Rattle.card.specs.Card.{Arc, Card, draws, fills, placeAt, transitionAt, arcAt, firstPlace, flatPlace}
+use Rattle.card.specs.Card.{Arc, Card, draws, fills, placeAt, transitionAt, arcAt, flatPlace}
 use Rattle.card.specs.Index.{Lists, ArcThere, firstPlaceStart, transitionRowStart, placeField, transitionRow}
 use Rattle.card.specs.Index.{arcOf, Begins}
 use Rattle.hierarchy.specs.Conditions.{IsPlace}

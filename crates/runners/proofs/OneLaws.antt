@@ -1,5 +1,5 @@
 -- What one transition posts, whether it is a candidate, and how far it moves, out of a card's tables and the columns. Assumes nothing.
-use Rattle.std.proofs.Common.{◌≡◌, ℕ, suc, ◌+◌, ◌-◌, ◌*◌, ◌<◌, ◌≤◌, Bool, true, false, cond, ◌&&◌, ltb, List, length, get_or, sym, refl, ap, ◌∙◌, subst, add-one, arith, lt-ltb}
+use Rattle.std.proofs.Common.{◌≡◌, ℕ, suc, ◌+◌, ◌*◌, ◌<◌, ◌≤◌, Bool, true, false, cond, ◌&&◌, ltb, List, length, get_or, sym, refl, ap, ◌∙◌, subst, add-one, arith, lt-ltb}
 use Rattle.card.specs.Finite.{every}
 use Rattle.card.specs.Card.{Card, transitionAt, arcAt, firstTransition}
 use Rattle.card.specs.Index.{firstTransitionStart, transitionRowStart}

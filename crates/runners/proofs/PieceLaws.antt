@@ -1,5 +1,5 @@
 -- A list piece by piece. Assumes nothing.
-use Rattle.std.proofs.Common.{◌≡◌, ℕ, suc, ◌+◌, ◌-◌, ◌*◌, ◌/◌, ◌<◌, ◌≤◌, min, ◌⊎◌, List, [], ◌∷◌, length, take, drop, sym, refl, ap, ◌∙◌, ap₂, inl, inr, arith, length-drop, drop_of_length-le, length-take, length-take-le, take_all, drop-drop, take-add, drop_at}
+use Rattle.std.proofs.Common.{◌≡◌, ℕ, suc, ◌+◌, ◌-◌, ◌*◌, ◌/◌, ◌<◌, ◌≤◌, min, ◌⊎◌, List, [], ◌∷◌, length, take, drop, sym, ap, ◌∙◌, ap₂, inl, inr, arith, length-drop, drop_of_length-le, length-take, length-take-le, take_all, drop-drop, take-add, drop_at}
 use native.Mathlib.Nat.{div-eq_of_lt, add-div_right}
 use lib.Seq.{slice, take-nil}
 use Rattle.card.specs.Finite.{table}

@@ -1,6 +1,6 @@
 -- The rounds, visit by visit in the order that was lent: each visit is in its turn, after the first n visits their subnets' part of the step is
 -- done and nothing else, and after all of them the whole round's. Assumes nothing.
-use Rattle.std.proofs.Common.{◌≡◌, ℕ, ◌+◌, ◌<◌, ◌≤◌, Bool, true, false, ◌⊎◌, List, map, length, get_or, sym, refl, ap, ◌∙◌, subst, inl, inr, add-one, arith}
+use Rattle.std.proofs.Common.{◌≡◌, ℕ, ◌+◌, ◌<◌, ◌≤◌, true, false, ◌⊎◌, List, map, length, get_or, sym, refl, ap, ◌∙◌, subst, inl, inr, add-one, arith}
 use Rattle.card.specs.Finite.{sum_to}
 use Rattle.card.specs.Card.{Card, draws, fills}
 use Rattle.card.proofs.BitLaws.{lt-or-ge}
@@ -10,7 +10,7 @@ use Rattle.flattening.specs.Flattening.{flatten}
 use Rattle.runners.specs.State.{NetState, transfer, flow}
 use Rattle.runners.specs.Step.{candidateOn, arrivesOn}
 use Rattle.runners.specs.Calls.{eachOnce}
-use Rattle.runners.specs.Columns.{Moved, Grown, nothing, idleCode, code_of, transferOf, code_at, noted, Columns, withStanding, withCandidates, withState}
+use Rattle.runners.specs.Columns.{Moved, Grown, nothing, idleCode, code_of, transferOf, Columns, withStanding, withCandidates, withState}
 use Rattle.runners.specs.Visits.{OwnsTransition, Round, posting, finding, moving, Turn, amount, effect, stepTurn, InTurn, Does, SameElsewhere, InTables, turnIn, IsVisit}
 use Rattle.runners.specs.inner.Rounds.{DoesAll}
 use Rattle.runners.proofs.OwnerLaws.{owner-unique, owner}

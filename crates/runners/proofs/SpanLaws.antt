@@ -1,17 +1,17 @@
 -- What a visit does for its transitions, one after another. Assumes nothing.
-use Rattle.std.proofs.Common.{◌≡◌, ℕ, suc, ◌+◌, ◌-◌, ◌*◌, ◌<◌, ◌≤◌, min, Bool, cond, ◌⊎◌, List, map, length, get_or, set, sym, refl, ap, ◌∙◌, subst, subst₂, inl, inr, add-one, arith, length-set, get_or-set_other, get_or-set_same}
+use Rattle.std.proofs.Common.{◌≡◌, ℕ, suc, ◌+◌, ◌-◌, ◌*◌, ◌<◌, ◌≤◌, min, Bool, cond, ◌⊎◌, List, map, length, get_or, set, sym, refl, ap, ◌∙◌, subst, subst₂, inl, inr, arith, length-set, get_or-set_other, get_or-set_same}
 use Rattle.card.specs.Finite.{sum_to}
 use Rattle.card.specs.Card.{Card, draws, fills, subnetAt, firstTransition}
 use Rattle.card.proofs.BitLaws.{lt-or-ge}
 use Rattle.hierarchy.specs.Conditions.{Meets}
 use Rattle.flattening.specs.Flattening.{flatten}
 use Rattle.runners.specs.State.{entry, transfer, remaining, incidence}
-use Rattle.runners.specs.Step.{candidateOn, startedOn, askedOn, movesOn, advanced, arrivesOn}
+use Rattle.runners.specs.Step.{candidateOn, askedOn, advanced, arrivesOn}
 use Rattle.runners.specs.Columns.{Moved, Grown, nothing, idleCode, code_of, transferOf, code_at, noted, posted, Columns, stateIn, withStanding, withCandidates, withState}
-use Rattle.runners.specs.Visits.{OwnsTransition, Round, posting, finding, moving, Turn, amount, effect, Does, SameElsewhere, InTables, turnIn, IsVisit}
+use Rattle.runners.specs.Visits.{Round, posting, finding, moving, Turn, amount, effect, Does, SameElsewhere, InTables, turnIn, IsVisit}
 use Rattle.runners.specs.inner.Transitions.{part, DoesOne, spanSum, DoesSpan, IsSpan}
 use Rattle.runners.specs.declared.Transfer.{Transfer}
-use Rattle.runners.specs.declared.Transfer.TheVariants.{Idle, Carrying}
+use Rattle.runners.specs.declared.Transfer.TheVariants.{Carrying}
 use Rattle.runners.proofs.TransferLaws.{transfer-code}
 use Rattle.runners.proofs.OwnerLaws.{next-first, firsts-below}
 use Rattle.runners.proofs.MovedLaws.{moved_none, moved-join, moved_same}

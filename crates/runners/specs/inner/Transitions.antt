@@ -1,7 +1,7 @@
 -- What a visit does for one of its transitions, and for some of them in a row: the contracts of the functions that a visit is made of.
-use Rattle.std.specs.Prelude.{◌≡◌, ℕ, ◌+◌, ◌-◌, ◌*◌, ◌<◌, ◌≤◌, Bool, cond, ◌&&◌, List, length, ◌==◌, slice_set}
+use Rattle.std.specs.Prelude.{◌≡◌, ℕ, ◌+◌, ◌-◌, ◌*◌, ◌<◌, ◌≤◌, cond, ◌&&◌, List, length, ◌==◌, slice_set}
 use Rattle.card.specs.Finite.{sum_to}
-use Rattle.card.specs.Card.{Card, draws, fills, firstTransition}
+use Rattle.card.specs.Card.{Card, draws, fills}
 use Rattle.flattening.specs.Flattening.{flatten}
 use Rattle.runners.specs.State.{incidence}
 use Rattle.runners.specs.Step.{candidateOn, arrivesOn}
