@@ -87,8 +87,8 @@ def programs(data, rows):
     """The check, the flatten program and the run program on a card's bytes and a rows file."""
     return [
         f"answer {bytes_(data)} ≡ {check_outcome(net.check(data))}",
-        f"flattenProgram {bytes_(data)} ≡ {bytes_(net.flatten_program(data))}",
-        f"runProgram {bytes_(data)} {bytes_(rows)} ≡ {bytes_(net.run_program(data, rows))}",
+        f"flatten_program {bytes_(data)} ≡ {bytes_(net.flatten_program(data))}",
+        f"run_program {bytes_(data)} {bytes_(rows)} ≡ {bytes_(net.run_program(data, rows))}",
     ]
 
 
@@ -151,8 +151,8 @@ def call_case(rng):
     l = lent(s, counts)
     from_zero = row_calls.FROM_ZERO in row_calls.starts(loaded, (), row, sub, s, sub_after)
     return row_calls.FROM_ZERO if from_zero else row_calls.named(row, sub, s, sub_after), [
-        f"flatCall {bytes_(data)} ({l}) {bytes_(row)} ≡ ({row_outcome(flat)}, {lent(after, counts)})",
-        f"subnetCall {bytes_(data)} {bytes_(order)} ({l}) {bytes_(row)}"
+        f"flat_call {bytes_(data)} ({l}) {bytes_(row)} ≡ ({row_outcome(flat)}, {lent(after, counts)})",
+        f"subnet_call {bytes_(data)} {bytes_(order)} ({l}) {bytes_(row)}"
         f" ≡ ({row_outcome(sub)}, {lent(sub_after, counts)})",
     ]
 
@@ -172,7 +172,7 @@ def write_case(rng):
     else:
         key, value = (24, answer[1]) if answer[0] == "short" else answer[1:]
         outcome = f"checks.WriteOutcome.refused {key} {value}"
-    return key, [f"writeRows {slices(card)} {bytes_(buffer)} ≡ ({outcome}, {bytes_(after)})"]
+    return key, [f"write_rows {slices(card)} {bytes_(buffer)} ≡ ({outcome}, {bytes_(after)})"]
 
 
 def sample(rng, make, wanted):
@@ -202,17 +202,17 @@ def theorems(statements):
     parts = ["""use Rattle.std.proofs.Common.{ℕ, List, [], ◌∷◌}
 use Rattle.std.proofs.Math.Option.{Option, none, some}
 use Rattle.card.specs.Writing.{all_fit, counted, read_tables}
-use Rattle.card.specs.Rows.{tablesIn, wholeRows, readRows}
-use Rattle.card.specs.Spelling.{putInto}
+use Rattle.card.specs.Rows.{tables_in, whole_rows, read_rows}
+use Rattle.card.specs.Spelling.{put_into}
 use Rattle.hierarchy.specs.Numbers as checks
 use Rattle.hierarchy.specs.Judgement.{answer}
-use Rattle.hierarchy.specs.Output.{writeRows}
+use Rattle.hierarchy.specs.Output.{write_rows}
 use Rattle.runners.specs.Numbers as replies
-use Rattle.programs.specs.Programs.{flattenProgram}
+use Rattle.programs.specs.Programs.{flatten_program}
 use Rattle.runners.specs.Calls.{slot}
 use Rattle.runners.specs.declared.Transfer.TheVariants.{Idle, Carrying}""", uses]
     text = "\n".join(dict.fromkeys("\n".join(parts).split("\n"))) + "\n"
-    more = "all_fit counted read_tables tablesIn wholeRows readRows putInto writeRows flattenProgram"
+    more = "all_fit counted read_tables tables_in whole_rows read_rows put_into write_rows flatten_program"
     for number, statement in enumerate(statements, start=1):
         text += f"\ncase-{number} : {statement}\nunfolding {names} {more}\ncase-{number} = refl\n"
     return text

@@ -11,7 +11,7 @@ use lib.Dec.{ltb}
 use lib.Seq.{ext_get_or}
 use lib.Pow.{pow_pos, field, high, mod-mod-pow, shr-shr}
 use borrow.Author.Tests.{ltb-true, ltb-false}
-use Rattle.card.specs.Bits.{bit, bitField}
+use Rattle.card.specs.Bits.{bit, bit_field}
 use Rattle.card.specs.inner.Spans.{span, Span}
 
 pub lt-or-ge : (a b : ℕ) → (a < b) ⊎ (b ≤ a)
@@ -44,18 +44,18 @@ bit_at bytes k r h =
     rw (q, m)
 
 -- a run of bits that are v's, from the highest, makes v
-pub field_is : (f : ℕ → ℕ) (at w v : ℕ) → v < 2 ^ w → ((m : ℕ) → m < w → f (at + m) ≡ v / 2 ^ (w - 1 - m) % 2) → bitField f at w ≡ v
-unfolding bitField
+pub field_is : (f : ℕ → ℕ) (at w v : ℕ) → v < 2 ^ w → ((m : ℕ) → m < w → f (at + m) ≡ v / 2 ^ (w - 1 - m) % 2) → bit_field f at w ≡ v
+unfolding bit_field
 field_is f at w v hv hb =
     let e : w - w ≡ 0 = omega arith in
     go w (omega arith) ∙ ap (λ (n : ℕ). v / 2 ^ n) e ∙ div-one v
   where
-    go : (m : ℕ) → m ≤ w → bitField f at m ≡ v / 2 ^ (w - m)
+    go : (m : ℕ) → m ≤ w → bit_field f at m ≡ v / 2 ^ (w - m)
     go zero l = let e : w - 0 ≡ w = omega arith in rw e (sym (div-eq_of_lt hv))
     go (suc m) l =
         let n = v / 2 ^ (w - 1 - m) in
         let b : f (at + m) ≡ n % 2 = hb m (omega arith) in
-        let ih : bitField f at m ≡ v / 2 ^ (w - m) = go m (omega arith) in
+        let ih : bit_field f at m ≡ v / 2 ^ (w - m) = go m (omega arith) in
         let d : v / 2 ^ (w - m) ≡ n / 2 ^ 1 = ap (λ (e : ℕ). v / 2 ^ e) (omega arith) ∙ sym (shr-shr v (w - 1 - m) 1) in
         let g : v / 2 ^ (w - suc m) ≡ n = ap (λ (e : ℕ). v / 2 ^ e) (omega arith) in
         omega (arith, b, ih, d, g)
@@ -88,7 +88,7 @@ module _ (bytes : List ℕ) (k : ℕ) (h1 : get_or bytes (k + 1) 0 < 256) (h2 : 
   span-bit j h = three-bit bytes k (get_or bytes k 0) (get_or bytes (k + 1) 0) (get_or bytes (k + 2) 0) h1 h2 j h (λ l. refl) (λ g l. refl) (λ g. refl)
 
   -- the field of w bits from bit o of the span on
-  pub span-field : (o w : ℕ) → o + w ≤ 24 → bitField (bit bytes) (8 * k + o) w ≡ span bytes k / 2 ^ (24 - (o + w)) % 2 ^ w
+  pub span-field : (o w : ℕ) → o + w ≤ 24 → bit_field (bit bytes) (8 * k + o) w ≡ span bytes k / 2 ^ (24 - (o + w)) % 2 ^ w
   span-field o w h =
       field_is (bit bytes) (8 * k + o) w (span bytes k / 2 ^ s % 2 ^ w) (mod-lt (span bytes k / 2 ^ s) (pow_pos w))
       (λ m l.
@@ -101,32 +101,32 @@ module _ (bytes : List ℕ) (k : ℕ) (h1 : get_or bytes (k + 1) 0 < 256) (h2 : 
 
 -- a field as the code reads it: p and q are its powers of two
 pub field-read : (bytes : List ℕ) (at w x p q : ℕ) → Span bytes (at / 8) x → p ≡ 2 ^ (24 - (at % 8 + w)) → q ≡ 2 ^ w → w ≤ 16
-    → x / p % q ≡ bitField (bit bytes) at w
+    → x / p % q ≡ bit_field (bit bytes) at w
 field-read bytes at w x p q h ep eq hw =
     let e : 8 * (at / 8) + at % 8 ≡ at = omega arith in
     rw (ep, eq, h.is) (sym (rw e at (span-field bytes (at / 8) h.middle h.last (at % 8) w (omega arith))))
 
 -- a field looks at its own bits alone
-pub field-local : (f g : ℕ → ℕ) (at w : ℕ) → ((i : ℕ) → at ≤ i → i < at + w → f i ≡ g i) → bitField f at w ≡ bitField g at w
-unfolding bitField
+pub field-local : (f g : ℕ → ℕ) (at w : ℕ) → ((i : ℕ) → at ≤ i → i < at + w → f i ≡ g i) → bit_field f at w ≡ bit_field g at w
+unfolding bit_field
 field-local f g at zero h = refl
 field-local f g at (suc w) h =
     omega (arith, h (at + w) (omega arith) (omega arith), field-local f g at w (λ i l u. h i l (omega arith)))
 
 -- two fields side by side make one
-pub field-join : (f : ℕ → ℕ) (at a b : ℕ) → bitField f at (a + b) ≡ bitField f at a * 2 ^ b + bitField f (at + a) b
-unfolding bitField
-field-join f at a zero = omega (arith, ap (bitField f at) (add-zero a))
+pub field-join : (f : ℕ → ℕ) (at a b : ℕ) → bit_field f at (a + b) ≡ bit_field f at a * 2 ^ b + bit_field f (at + a) b
+unfolding bit_field
+field-join f at a zero = omega (arith, ap (bit_field f at) (add-zero a))
 field-join f at a (suc b) =
     let q : a + suc b ≡ suc (a + b) = omega arith in
     let i : f (at + (a + b)) ≡ f (at + a + b) = ap f (omega arith) in
-    let d : bitField f at a * 2 ^ suc b ≡ 2 * (bitField f at a * 2 ^ b) = rw pow-suc (omega arith) in
+    let d : bit_field f at a * 2 ^ suc b ≡ 2 * (bit_field f at a * 2 ^ b) = rw pow-suc (omega arith) in
     rw q (omega (arith, field-join f at a b, i, d))
 
 -- two fields that are equal have the same bits
-pub field-bits : (f g : ℕ → ℕ) → ((i : ℕ) → f i < 2) → ((i : ℕ) → g i < 2) → (at w : ℕ) → bitField f at w ≡ bitField g at w
+pub field-bits : (f g : ℕ → ℕ) → ((i : ℕ) → f i < 2) → ((i : ℕ) → g i < 2) → (at w : ℕ) → bit_field f at w ≡ bit_field g at w
     → (i : ℕ) → at ≤ i → i < at + w → f i ≡ g i
-unfolding bitField
+unfolding bit_field
 field-bits f g hf hg at zero e i l u = absurd (omega arith)
 field-bits f g hf hg at (suc w) e i l u = go (lt-or-ge i (at + w)) (field-bits f g hf hg at w (omega (arith, hf (at + w), hg (at + w))) i l)
   where
@@ -137,11 +137,11 @@ field-bits f g hf hg at (suc w) e i l u = go (lt-or-ge i (at + w)) (field-bits f
         rw j (omega (arith, e, hf (at + w), hg (at + w)))
 
 -- a byte is the field of its eight bits
-pub byte-field : (bytes : List ℕ) → ((k : ℕ) → get_or bytes k 0 < 256) → (k : ℕ) → get_or bytes k 0 ≡ bitField (bit bytes) (8 * k) 8
+pub byte-field : (bytes : List ℕ) → ((k : ℕ) → get_or bytes k 0 < 256) → (k : ℕ) → get_or bytes k 0 ≡ bit_field (bit bytes) (8 * k) 8
 unfolding span
 byte-field bytes h k =
     let e : 8 * k + 0 ≡ 8 * k = omega arith in
-    let f : bitField (bit bytes) (8 * k) 8 ≡ span bytes k / 65536 % 256 = rw e at (span-field bytes k (h (k + 1)) (h (k + 2)) 0 8 (omega arith)) in
+    let f : bit_field (bit bytes) (8 * k) 8 ≡ span bytes k / 65536 % 256 = rw e at (span-field bytes k (h (k + 1)) (h (k + 2)) 0 8 (omega arith)) in
     omega (arith, f, h k, h (k + 1), h (k + 2))
 
 -- bytes, as many and with the same bits, are equal

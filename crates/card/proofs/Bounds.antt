@@ -7,18 +7,18 @@ use native.Mathlib.Omega.{arith}
 use lib.Dec.{ltb}
 use borrow.Author.Tests.{ltb-true, lt-ltb}
 use Rattle.card.specs.Format.{Format, done, get, size}
-use Rattle.card.specs.Grammar.{maxVersion, maxCount, header, subnet, place, transition, arc, maxSubnets, maxArcs, since, rankWidth}
-use Rattle.card.specs.inner.Layout.{faultAt, start_of, pick, move_at, orBad, step_of, headed, Sane}
+use Rattle.card.specs.Grammar.{max_version, max_count, header, subnet, place, transition, arc, max_subnets, max_arcs, since, rank_width}
+use Rattle.card.specs.inner.Layout.{fault_at, start_of, pick, move_at, or_bad, step_of, headed, Sane}
 use Rattle.card.specs.declared.FormatFault.{FormatFault}
 use Rattle.card.specs.declared.layout.Phase.{Phase}
 use Rattle.card.specs.declared.layout.Phase.TheVariants.{Version, SubnetCount, SignalCount, Limit, Scale, Parent, SubnetType, PlaceCount, TransitionCount, Kind, Capacity, Tokens, Signal, ArcCount, Rank, Direction, ArcSubnet, ArcPlace, Weight}
 use Rattle.card.specs.declared.layout.Layout.{Layout}
 use Rattle.card.specs.declared.layout.Move.{Move}
 use Rattle.card.specs.declared.layout.Move.TheVariants.{More, Done, Bad}
-use Rattle.card.specs.Tables.{tableSize, cardBits}
-use Rattle.card.specs.Writing.{bitsBefore}
-use Rattle.card.proofs.Decides.{le_is, and_is, someUnless-is}
-use Rattle.card.proofs.Shape.{One, times, arcS, placeS, transitionS, subnetsS, cardS}
+use Rattle.card.specs.Tables.{table_size, card_bits}
+use Rattle.card.specs.Writing.{bits_before}
+use Rattle.card.proofs.Decides.{le_is, and_is, some_unless-is}
+use Rattle.card.proofs.Shape.{One, times, arc_s, place_s, transition_s, subnets_s, card_s}
 
 abbrev SaneMove : Move → Type 0
 SaneMove (More m) = Sane m
@@ -30,11 +30,11 @@ sane-pick true c x y e h k = h e
 sane-pick false c x y e h k = k
 
 module _ (l : Layout) (v : ℕ) (small : l.subnet + l.subnets ≤ 31) (places : l.places ≤ 255) (transitions : l.transitions ≤ 255) where
-  sane-move : (p : Phase) → headed p l.subnet → faultAt p l v ≡ none → SaneMove (move_at p l v)
+  sane-move : (p : Phase) → headed p l.subnet → fault_at p l v ≡ none → SaneMove (move_at p l v)
   unfolding header subnet
   sane-move Version h e = record { head = h; subnet = small; places = places; transitions = transitions }
   sane-move SubnetCount h e =
-      let k = (someUnless-is _ _ _ (and_is _ _ _ _ (le_is 1 v) (le_is v maxSubnets))).0 e in
+      let k = (some_unless-is _ _ _ (and_is _ _ _ _ (le_is 1 v) (le_is v max_subnets))).0 e in
       record { head = tt; subnet = omega (arith, k.1); places = places; transitions = transitions }
   sane-move SignalCount h e = record { head = tt; subnet = small; places = places; transitions = transitions }
   sane-move Limit h e = record { head = tt; subnet = small; places = places; transitions = transitions }
@@ -42,10 +42,10 @@ module _ (l : Layout) (v : ℕ) (small : l.subnet + l.subnets ≤ 31) (places : 
   sane-move Parent h e = record { head = tt; subnet = small; places = places; transitions = transitions }
   sane-move SubnetType h e = record { head = tt; subnet = small; places = places; transitions = transitions }
   sane-move PlaceCount h e =
-      let k = (someUnless-is _ _ _ (and_is _ _ _ _ (le_is 1 v) (le_is (l.places + v) maxCount))).0 e in
+      let k = (some_unless-is _ _ _ (and_is _ _ _ _ (le_is 1 v) (le_is (l.places + v) max_count))).0 e in
       record { head = tt; subnet = small; places = k.1; transitions = transitions }
   sane-move TransitionCount h e =
-      let k = (someUnless-is _ _ _ (and_is _ _ _ _ (le_is 1 v) (le_is (l.transitions + v) maxCount))).0 e in
+      let k = (some_unless-is _ _ _ (and_is _ _ _ _ (le_is 1 v) (le_is (l.transitions + v) max_count))).0 e in
       record { head = tt; subnet = small; places = places; transitions = k.1 }
   sane-move Kind h e = record { head = tt; subnet = small; places = places; transitions = transitions }
   sane-move Capacity h e = record { head = tt; subnet = small; places = places; transitions = transitions }
@@ -65,14 +65,14 @@ module _ (l : Layout) (v : ℕ) (small : l.subnet + l.subnets ≤ 31) (places : 
       (λ q. record { head = tt; subnet = omega (arith, ltb-true 0 l.subnets q); places = places; transitions = transitions }) tt))
 
 pub sane-step : (l m : Layout) (v : ℕ) → Sane l → step_of l v ≡ More m → Sane m
-sane-step l m v s e = go (faultAt l.phase l v) refl e
+sane-step l m v s e = go (fault_at l.phase l v) refl e
   where
     move : (x : Move) → SaneMove x → x ≡ More m → Sane m
     move (More k) h q = let r : k ≡ m = cc in subst Sane r h
     move (Done k) h q = let z : ◌≡◌ {A = ℕ} 0 1 = cc in absurd (omega arith)
     move (Bad f) h q = let z : ◌≡◌ {A = ℕ} 0 1 = cc in absurd (omega arith)
 
-    go : (x : Option FormatFault) → faultAt l.phase l v ≡ x → orBad x (move_at l.phase l v) ≡ More m → Sane m
+    go : (x : Option FormatFault) → fault_at l.phase l v ≡ x → or_bad x (move_at l.phase l v) ≡ More m → Sane m
     go none p q = move (move_at l.phase l v) (sane-move l v s.subnet s.places s.transitions l.phase s.head p) q
     go (some f) p q = let z : ◌≡◌ {A = ℕ} 0 1 = cc in absurd (omega arith)
 
@@ -106,13 +106,13 @@ module _ {A : Type 0} where
   budget-more (get w value fault next) (suc i) zero a b l k h = absurd (omega arith)
   budget-more (get w value fault next) (suc i) (suc j) a b l k h = (omega (arith, h.0), λ v m e. budget-more (next v) i j (a - w) (b - w) (omega arith) (omega arith) (h.1 v m e))
 
-  budget-arc : (k : Format One A) (n b : ℕ) → Budget k n b → Budget (arcS k) (n + 4) (b + 22)
+  budget-arc : (k : Format One A) (n b : ℕ) → Budget k n b → Budget (arc_s k) (n + 4) (b + 22)
   unfolding arc
   budget-arc k n b h =
       let q : n + 4 ≡ suc (suc (suc (suc n))) = omega arith in
       rw q (omega arith, λ d ld ed. (omega arith, λ s ls es. (omega arith, λ p lp ep. (omega arith, λ w lw ew. budget-more k n n b (b + 22 - 1 - 5 - 8 - 8) (omega arith) (omega arith) h))))
 
-  budget-place : (s : ℕ) (k : Format One A) (n b : ℕ) → Budget k n b → Budget (placeS s k) (n + 3) (b + 18)
+  budget-place : (s : ℕ) (k : Format One A) (n b : ℕ) → Budget k n b → Budget (place_s s k) (n + 3) (b + 18)
   unfolding place
   budget-place s k n b h =
       let q : n + 3 ≡ suc (suc (suc n)) = omega arith in
@@ -126,7 +126,7 @@ module _ {A : Type 0} where
       let r : b + suc c * wide ≡ b + c * wide + wide = omega arith in
       rw (q, r) (f (times c one k) (n + c * cost) (b + c * wide) (budget-times one cost wide f c k n b h))
 
-  budget-transition : (v g : ℕ) (k : Format One A) (n b : ℕ) → Budget k n b → Budget (transitionS v g k) (n + 127) (b + (693 + rankWidth v))
+  budget-transition : (v g : ℕ) (k : Format One A) (n b : ℕ) → Budget k n b → Budget (transition_s v g k) (n + 127) (b + (693 + rank_width v))
   unfolding transition
   budget-transition v g k n b h =
       let q : n + 127 ≡ suc (suc (suc (n + 124))) = omega arith in
@@ -137,7 +137,7 @@ module _ {A : Type 0} where
           λ a la ea. (
             omega arith,
             λ r lr er.
-                budget-more (times a arcS k) (n + a * 4) (n + 124) (b + a * 22) (b + (693 + rankWidth v) - 6 - 5 - rankWidth v) (omega (arith, la)) (omega (arith, la)) (budget-times arcS 4 22 budget-arc a k n b h),
+                budget-more (times a arc_s k) (n + a * 4) (n + 124) (b + a * 22) (b + (693 + rank_width v) - 6 - 5 - rank_width v) (omega (arith, la)) (omega (arith, la)) (budget-times arc_s 4 22 budget-arc a k n b h),
           ),
         ),
       )
@@ -150,13 +150,13 @@ pay : (n a b x y : ℕ) → n * 26 + a + b + y + x ≤ suc n * 26 + (a + x) + (b
 pay n a b x y = omega arith
 
 -- places and transitions that are still free pay for theirs
-pub budget-subnets : (v g n s p t : ℕ) → p ≤ maxCount → t ≤ maxCount
-    → Budget (subnetsS v g n s p t) (n * 4 + (maxCount - p) * 3 + (maxCount - t) * 127) (n * 26 + (maxCount - p) * 18 + (maxCount - t) * (693 + rankWidth v))
-unfolding subnetsS subnet
+pub budget-subnets : (v g n s p t : ℕ) → p ≤ max_count → t ≤ max_count
+    → Budget (subnets_s v g n s p t) (n * 4 + (max_count - p) * 3 + (max_count - t) * 127) (n * 26 + (max_count - p) * 18 + (max_count - t) * (693 + rank_width v))
+unfolding subnets_s subnet
 budget-subnets v g zero s p t lp lt = tt
 budget-subnets v g (suc n) s p t lp lt =
-    let wide = 693 + rankWidth v in
-    let q : suc n * 4 + (maxCount - p) * 3 + (maxCount - t) * 127 ≡ suc (suc (suc (suc (n * 4 + (maxCount - p) * 3 + (maxCount - t) * 127)))) = omega arith in
+    let wide = 693 + rank_width v in
+    let q : suc n * 4 + (max_count - p) * 3 + (max_count - t) * 127 ≡ suc (suc (suc (suc (n * 4 + (max_count - p) * 3 + (max_count - t) * 127)))) = omega arith in
     rw q (
       omega arith,
       λ parent a1 a2. (
@@ -166,21 +166,21 @@ budget-subnets v g (suc n) s p t lp lt =
           λ places c1 c2. (
             omega arith,
             λ transitions d1 d2.
-                let x = (someUnless-is _ _ _ (and_is _ _ _ _ (le_is 1 places) (le_is (p + places) maxCount))).0 c2 in
-                let y = (someUnless-is _ _ _ (and_is _ _ _ _ (le_is 1 transitions) (le_is (t + transitions) maxCount))).0 d2 in
+                let x = (some_unless-is _ _ _ (and_is _ _ _ _ (le_is 1 places) (le_is (p + places) max_count))).0 c2 in
+                let y = (some_unless-is _ _ _ (and_is _ _ _ _ (le_is 1 transitions) (le_is (t + transitions) max_count))).0 d2 in
                 let r = budget-subnets v g n (suc s) (p + places) (t + transitions) x.1 y.1 in
-                let u = budget-times (transitionS v g) 127 wide (budget-transition v g) transitions (subnetsS v g n (suc s) (p + places) (t + transitions)) _ _ r in
-                budget-more (times places (placeS s) (times transitions (transitionS v g) (subnetsS v g n (suc s) (p + places) (t + transitions)))) _ _ _ _
-                (omega (arith, x.1, y.1)) (rw (spend maxCount p places 18 x.1, spend maxCount t transitions wide y.1) (pay n _ _ _ _))
-                (budget-times (placeS s) 3 18 (budget-place s) places _ _ _ u),
+                let u = budget-times (transition_s v g) 127 wide (budget-transition v g) transitions (subnets_s v g n (suc s) (p + places) (t + transitions)) _ _ r in
+                budget-more (times places (place_s s) (times transitions (transition_s v g) (subnets_s v g n (suc s) (p + places) (t + transitions)))) _ _ _ _
+                (omega (arith, x.1, y.1)) (rw (spend max_count p places 18 x.1, spend max_count t transitions wide y.1) (pay n _ _ _ _))
+                (budget-times (place_s s) 3 18 (budget-place s) places _ _ _ u),
           ),
         ),
       ),
     )
 
--- NO CARD HAS MORE FIELDS THAN THE TABLE, NOR MORE BITS THAN cardBits
-pub budget-card : Budget cardS tableSize cardBits
-unfolding cardS header
+-- NO CARD HAS MORE FIELDS THAN THE TABLE, NOR MORE BITS THAN card_bits
+pub budget-card : Budget card_s table_size card_bits
+unfolding card_s header
 budget-card = (
   omega arith,
   λ version a1 a2. (
@@ -188,14 +188,14 @@ budget-card = (
     λ subnets b1 b2. (
       omega arith,
       λ signals c1 c2.
-          let x = (someUnless-is _ _ _ (and_is _ _ _ _ (le_is 1 subnets) (le_is subnets maxSubnets))).0 b2 in
-          let v = (someUnless-is _ _ _ (and_is _ _ _ _ (le_is 1 version) (le_is version maxVersion))).0 a2 in
-          let none : (first width : ℕ) → maxVersion < first → since first width version ≡ 0 = λ first width l. since_none first width version (omega (arith, v.1)) in (
+          let x = (some_unless-is _ _ _ (and_is _ _ _ _ (le_is 1 subnets) (le_is subnets max_subnets))).0 b2 in
+          let v = (some_unless-is _ _ _ (and_is _ _ _ _ (le_is 1 version) (le_is version max_version))).0 a2 in
+          let none : (first width : ℕ) → max_version < first → since first width version ≡ 0 = λ first width l. since_none first width version (omega (arith, v.1)) in (
             omega (arith, none 4 8 (omega arith)),
             λ limit d1 d2. (
               omega (arith, none 4 8 (omega arith), none 5 14 (omega arith)),
               λ scale e1 e2.
-                  budget-more (subnetsS version signals subnets 0 0 0) (subnets * 4 + (maxCount - 0) * 3 + (maxCount - 0) * 127) (tableSize - 5) (subnets * 26 + (maxCount - 0) * 18 + (maxCount - 0) * (693 + rankWidth version)) _
+                  budget-more (subnets_s version signals subnets 0 0 0) (subnets * 4 + (max_count - 0) * 3 + (max_count - 0) * 127) (table_size - 5) (subnets * 26 + (max_count - 0) * 18 + (max_count - 0) * (693 + rank_width version)) _
                   (omega (arith, x.1)) (omega (arith, x.1, none 3 8 (omega arith), none 4 8 (omega arith), none 5 14 (omega arith))) (budget-subnets version signals subnets 0 0 0 (omega arith) (omega arith)),
             ),
           ),
@@ -204,6 +204,6 @@ budget-card = (
 )
 
 -- what they are: those of a card of the newest version with the most rows
-pub most-bits : cardBits ≡ bitsBefore maxVersion maxSubnets maxCount maxCount (maxArcs * maxCount)
+pub most-bits : card_bits ≡ bits_before max_version max_subnets max_count max_count (max_arcs * max_count)
 unfolding size header subnet place transition arc since
 most-bits = refl

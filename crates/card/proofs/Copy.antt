@@ -6,7 +6,7 @@ use native.Mathlib.Omega.{arith}
 use lib.ListN.{length, get_or, set, take, drop, length-set}
 use lib.Seq.{take_at}
 use borrow.Author.Tests.{le-leb, lt-leb}
-use Rattle.card.specs.Spelling.{putInto}
+use Rattle.card.specs.Spelling.{put_into}
 
 -- the bytes copied so far, in front of what the buffer held
 abbrev pub copied : (bytes buffer : List ℕ) (i : ℕ) → List ℕ
@@ -48,21 +48,21 @@ module _ (bytes buffer out : List ℕ) (i : ℕ) (c : Copying bytes buffer out i
         long = length-set out i (get_or bytes i 0) ∙ c.long;
       }
 
-  pub copy_done : length bytes ≤ i → out ≡ putInto bytes buffer
-  unfolding putInto
+  pub copy_done : length bytes ≤ i → out ≡ put_into bytes buffer
+  unfolding put_into
   copy_done l =
       let e : i ≡ length bytes = omega (arith, c.inside) in
       rw (le-leb (length bytes) (length buffer) c.room) (c.is ∙ ap (copied bytes buffer) e ∙ copied_all bytes buffer)
 
 -- a short buffer stays
-pub copy-none : (bytes buffer : List ℕ) → length buffer < length bytes → buffer ≡ putInto bytes buffer
-unfolding putInto
+pub copy-none : (bytes buffer : List ℕ) → length buffer < length bytes → buffer ≡ put_into bytes buffer
+unfolding put_into
 copy-none bytes buffer h = rw (lt-leb (length bytes) (length buffer) h)
 
 -- bytes that have room
-pub put_is : (bytes buffer : List ℕ) → length bytes ≤ length buffer → putInto bytes buffer ≡ bytes ++ drop (length bytes) buffer
-unfolding putInto
+pub put_is : (bytes buffer : List ℕ) → length bytes ≤ length buffer → put_into bytes buffer ≡ bytes ++ drop (length bytes) buffer
+unfolding put_into
 put_is bytes buffer l = rw (le-leb (length bytes) (length buffer) l)
 
-pub put_front : (bytes buffer out : List ℕ) → length bytes ≤ length buffer → out ≡ putInto bytes buffer → take (length bytes) out ≡ bytes
+pub put_front : (bytes buffer out : List ℕ) → length bytes ≤ length buffer → out ≡ put_into bytes buffer → take (length bytes) out ≡ bytes
 put_front bytes buffer out l e = ap (take (length bytes)) (e ∙ put_is bytes buffer l) ∙ take_at bytes (drop (length bytes) buffer) (length bytes) refl

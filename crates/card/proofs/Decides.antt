@@ -8,7 +8,7 @@ use mathlib.Core.Option.{Option, none, some, some-ne-none}
 use native.Mathlib.Omega.{arith}
 use lib.Dec.{leb, ltb, eqb}
 use borrow.Author.Tests.{eqb-true, eqb-false, ltb-true, leb-true, eq-eqb, lt-ltb, le-leb}
-use Rattle.card.specs.Finite.{every, any, someIf, someUnless, first_of, ◌otherwise◌}
+use Rattle.card.specs.Finite.{every, any, some_if, some_unless, first_of, ◌otherwise◌}
 
 -- a test decides a proposition; a search that finds nothing proves one
 abbrev pub Decides : Bool → Type 0 → Type 0
@@ -75,17 +75,17 @@ any-is zero f P d = (λ h. absurd (false≢true h), λ x. absurd (omega (arith, 
 any-is (suc n) f P d = Iff.trans (or_is (any n f) (f n) _ _ (any-is n f P d) (d n)) (any_step n P)
 
 -- searches
-pub someUnless-is : {A : Type 0} (b : Bool) (x : A) (P : Type 0) → Decides b P → Clears (someUnless b x) P
-someUnless-is true x P d = (λ h. d.0 refl, λ p. refl)
-someUnless-is false x P d = (λ h. absurd (some-ne-none x h), λ p. absurd (false≢true (d.1 p)))
+pub some_unless-is : {A : Type 0} (b : Bool) (x : A) (P : Type 0) → Decides b P → Clears (some_unless b x) P
+some_unless-is true x P d = (λ h. d.0 refl, λ p. refl)
+some_unless-is false x P d = (λ h. absurd (some-ne-none x h), λ p. absurd (false≢true (d.1 p)))
 
-pub someIf-is : {A : Type 0} (b : Bool) (x : A) (P : Type 0) → Decides b P → Clears (someIf b x) (¬ P)
-someIf-is true x P d = (λ h. absurd (some-ne-none x h), λ n. absurd (n (d.0 refl)))
-someIf-is false x P d = (λ h p. false≢true (d.1 p), λ n. refl)
+pub some_if-is : {A : Type 0} (b : Bool) (x : A) (P : Type 0) → Decides b P → Clears (some_if b x) (¬ P)
+some_if-is true x P d = (λ h. absurd (some-ne-none x h), λ n. absurd (n (d.0 refl)))
+some_if-is false x P d = (λ h p. false≢true (d.1 p), λ n. refl)
 
-pub someIf-not-is : {A : Type 0} (b : Bool) (x : A) (P : Type 0) → Decides b P → Clears (someIf (not b) x) P
-someIf-not-is true x P d = (λ h. d.0 refl, λ p. refl)
-someIf-not-is false x P d = (λ h. absurd (some-ne-none x h), λ p. absurd (false≢true (d.1 p)))
+pub some_if-not-is : {A : Type 0} (b : Bool) (x : A) (P : Type 0) → Decides b P → Clears (some_if (not b) x) P
+some_if-not-is true x P d = (λ h. d.0 refl, λ p. refl)
+some_if-not-is false x P d = (λ h. absurd (some-ne-none x h), λ p. absurd (false≢true (d.1 p)))
 
 -- the second search matters only where the first finds nothing
 pub otherwise-given : {A : Type 0} (a b : Option A) (P Q : Type 0) → Clears a P → (P → Clears b Q) → Clears (a otherwise b) (P × Q)
@@ -105,10 +105,10 @@ first_step from n P = (λ h i a b. go h i a b (eqb i from) refl, λ h. (h from (
     go h i a b true e = subst P (sym (eqb-true i from e)) h.0
     go h i a b false e = h.1 i (omega (arith, eqb-false i from e)) (omega arith)
 
-pub firstOf-is : {A : Type 0} (from n : ℕ) (f : ℕ → Option A) (P : ℕ → Type 0) → ((i : ℕ) → Clears (f i) (P i)) → Clears (first_of from n f) (Between from n P)
+pub first_of-is : {A : Type 0} (from n : ℕ) (f : ℕ → Option A) (P : ℕ → Type 0) → ((i : ℕ) → Clears (f i) (P i)) → Clears (first_of from n f) (Between from n P)
 unfolding first_of
-firstOf-is from zero f P d = (λ h i a b. absurd (omega arith), λ h. refl)
-firstOf-is from (suc n) f P d = Iff.trans (otherwise-is (f from) (first_of (suc from) n f) _ _ (d from) (firstOf-is (suc from) n f P d)) (first_step from n P)
+first_of-is from zero f P d = (λ h i a b. absurd (omega arith), λ h. refl)
+first_of-is from (suc n) f P d = Iff.trans (otherwise-is (f from) (first_of (suc from) n f) _ _ (d from) (first_of-is (suc from) n f P d)) (first_step from n P)
 
 -- tests of an implication
 pub implies-is : (a b : Bool) (P Q : Type 0) → Decides a P → Decides b Q → Decides (not a || b) (P → Q)

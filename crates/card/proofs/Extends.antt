@@ -4,9 +4,9 @@ use mathlib.Core.Path.{◌≡◌, refl, sym, ap, ◌∙◌}
 use mathlib.Core.List.{List, [], ◌++◌, append_assoc, append-nil}
 use lib.ListN.{length, get_or, take, get_or-append}
 use lib.Seq.{take-append_seam}
-use Rattle.card.specs.Card.{Subnet, Place, Transition, Arc, Card, subnetAt, placeAt, firstPlace, firstTransition, firstArc}
+use Rattle.card.specs.Card.{Subnet, Place, Transition, Arc, Card, subnet_at, place_at, first_place, first_transition, first_arc}
 use Rattle.card.specs.Format.{of, each, grow}
-use Rattle.card.specs.Grammar.{subnet, place, wholeTransition, with, wholeSubnet}
+use Rattle.card.specs.Grammar.{subnet, place, whole_transition, with, whole_subnet}
 use Rattle.card.specs.Wellformed.{Rows}
 use Rattle.card.proofs.Sums.{sum_same}
 use Rattle.card.proofs.Yields.{Yields, yields_more, yields-skip, yields-grow}
@@ -82,12 +82,12 @@ extends-with b r ps ts =
     }
 
 -- what the grammar reads on extends what was read
-wholeSubnet-extends : (b : Card) → Yields (wholeSubnet b) (Extends b)
-unfolding wholeSubnet
-wholeSubnet-extends b =
-    yields-skip (of (λ (k : Card). subnetAt k s) (subnet s p t)) _ (Extends b)
-    (λ r. yields-skip (each p r.places (λ k. of (λ (d : Card). placeAt d k) (place s))) _ (Extends b)
-    (λ ps. yields-skip (each t r.transitions (wholeTransition b.version b.signals)) _ (Extends b) (λ ts. extends-with b r ps ts)))
+whole_subnet-extends : (b : Card) → Yields (whole_subnet b) (Extends b)
+unfolding whole_subnet
+whole_subnet-extends b =
+    yields-skip (of (λ (k : Card). subnet_at k s) (subnet s p t)) _ (Extends b)
+    (λ r. yields-skip (each p r.places (λ k. of (λ (d : Card). place_at d k) (place s))) _ (Extends b)
+    (λ ps. yields-skip (each t r.transitions (whole_transition b.version b.signals)) _ (Extends b) (λ ts. extends-with b r ps ts)))
   where
     s : ℕ
     s = length b.subnets
@@ -98,21 +98,21 @@ wholeSubnet-extends b =
     t : ℕ
     t = length b.transitions
 
-pub grow-extends : (n : ℕ) (b : Card) → Yields (grow n wholeSubnet b) (Extends b)
-grow-extends n b = yields-grow n wholeSubnet (λ i. Extends b) (λ i a h. yields_more (wholeSubnet a) _ _ (λ c k. extends-more b a c h k) (wholeSubnet-extends a)) 0 b (extends-self b)
+pub grow-extends : (n : ℕ) (b : Card) → Yields (grow n whole_subnet b) (Extends b)
+grow-extends n b = yields-grow n whole_subnet (λ i. Extends b) (λ i a h. yields_more (whole_subnet a) _ _ (λ c k. extends-more b a c h k) (whole_subnet-extends a)) 0 b (extends-self b)
 
 -- rows that a card extends are its first ones
 pub extends-prefix : (b c : Card) → Extends b c → Rows b → b ≡ prefix c (length b.subnets)
-unfolding prefix firstPlace firstTransition firstArc
+unfolding prefix first_place first_transition first_arc
 extends-prefix b c x r =
-    let places : length b.places ≡ firstPlace c (length b.subnets) =
-    r.placeCount ∙ sum_same (length b.subnets) _ _ (λ i l. ap (λ (y : Subnet). y.places) (begins-at b.subnets c.subnets _ x.subnets i l)) in
-    let transitions : length b.transitions ≡ firstTransition c (length b.subnets) =
-    r.transitionCount ∙ sum_same (length b.subnets) _ _ (λ i l. ap (λ (y : Subnet). y.transitions) (begins-at b.subnets c.subnets _ x.subnets i l)) in
-    let arcs : length b.arcs ≡ firstArc c (length b.transitions) =
-    r.arcCount ∙ sum_same (length b.transitions) _ _ (λ i l. ap (λ (y : Transition). y.arcs) (begins-at b.transitions c.transitions _ x.transitions i l)) in
+    let places : length b.places ≡ first_place c (length b.subnets) =
+    r.place_count ∙ sum_same (length b.subnets) _ _ (λ i l. ap (λ (y : Subnet). y.places) (begins-at b.subnets c.subnets _ x.subnets i l)) in
+    let transitions : length b.transitions ≡ first_transition c (length b.subnets) =
+    r.transition_count ∙ sum_same (length b.subnets) _ _ (λ i l. ap (λ (y : Subnet). y.transitions) (begins-at b.subnets c.subnets _ x.subnets i l)) in
+    let arcs : length b.arcs ≡ first_arc c (length b.transitions) =
+    r.arc_count ∙ sum_same (length b.transitions) _ _ (λ i l. ap (λ (y : Transition). y.arcs) (begins-at b.transitions c.transitions _ x.transitions i l)) in
     same x.version x.signals x.limit x.scale (begins-take _ _ x.subnets) (begins-take _ _ x.places ∙ ap (λ (n : ℕ). take n c.places) places)
-    (begins-take _ _ x.transitions ∙ ap (λ (n : ℕ). take n c.transitions) transitions) (begins-take _ _ x.arcs ∙ ap (λ (n : ℕ). take n c.arcs) (arcs ∙ ap (firstArc c) transitions))
+    (begins-take _ _ x.transitions ∙ ap (λ (n : ℕ). take n c.transitions) transitions) (begins-take _ _ x.arcs ∙ ap (λ (n : ℕ). take n c.arcs) (arcs ∙ ap (first_arc c) transitions))
   where
     same : {v g m q : ℕ} {ss : List Subnet} {ps : List Place} {ts : List Transition} {xs : List Arc}
         → b.version ≡ v → b.signals ≡ g → b.limit ≡ m → b.scale ≡ q → b.subnets ≡ ss → b.places ≡ ps → b.transitions ≡ ts → b.arcs ≡ xs

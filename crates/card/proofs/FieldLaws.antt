@@ -8,19 +8,19 @@ use lib.ListN.{length}
 use lib.Dec.{eqb}
 use borrow.Author.Tests.{le-leb, lt-leb, eq-eqb, ne_eqb, eqb-true, eqb-false}
 use Rattle.card.specs.Finite.{every}
-use Rattle.card.specs.Bits.{bit, bitField}
-use Rattle.card.specs.Fields.{fieldAt}
+use Rattle.card.specs.Bits.{bit, bit_field}
+use Rattle.card.specs.Fields.{field_at}
 
-pub field_in : (bytes : List ℕ) (at w : ℕ) → w ≤ 16 → at + w ≤ 8 * length bytes → fieldAt bytes at w ≡ bitField (bit bytes) at w
-unfolding fieldAt
+pub field_in : (bytes : List ℕ) (at w : ℕ) → w ≤ 16 → at + w ≤ 8 * length bytes → field_at bytes at w ≡ bit_field (bit bytes) at w
+unfolding field_at
 field_in bytes at w l m = rw (le-leb w 16 l, le-leb (at + w) (8 * length bytes) m)
 
-pub field-wide : (bytes : List ℕ) (at w : ℕ) → 16 < w → fieldAt bytes at w ≡ 0
-unfolding fieldAt
+pub field-wide : (bytes : List ℕ) (at w : ℕ) → 16 < w → field_at bytes at w ≡ 0
+unfolding field_at
 field-wide bytes at w l = rw (lt-leb w 16 l)
 
-pub field_cut : (bytes : List ℕ) (at w : ℕ) → w ≤ 16 → 8 * length bytes < at + w → fieldAt bytes at w ≡ 0
-unfolding fieldAt
+pub field_cut : (bytes : List ℕ) (at w : ℕ) → w ≤ 16 → 8 * length bytes < at + w → field_at bytes at w ≡ 0
+unfolding field_at
 field_cut bytes at w l m = rw (le-leb w 16 l, lt-leb (at + w) (8 * length bytes) m)
 
 -- a field is 0 just where each of its bits is
@@ -33,7 +33,7 @@ both_zero a b = go (eqb a 0) refl (eqb b 0) refl
     go false p true q = sym (ne_eqb (2 * a + b) 0 (λ e. eqb-false a 0 p (omega arith)))
     go false p false q = sym (ne_eqb (2 * a + b) 0 (λ e. eqb-false a 0 p (omega arith)))
 
-pub field-zero : (f : ℕ → ℕ) (at w : ℕ) → every w (λ i. eqb (f (at + i)) 0) ≡ eqb (bitField f at w) 0
-unfolding every bitField
+pub field-zero : (f : ℕ → ℕ) (at w : ℕ) → every w (λ i. eqb (f (at + i)) 0) ≡ eqb (bit_field f at w) 0
+unfolding every bit_field
 field-zero f at zero = refl
-field-zero f at (suc w) = ap (λ (t : Bool). t && eqb (f (at + w)) 0) (field-zero f at w) ∙ both_zero (bitField f at w) (f (at + w))
+field-zero f at (suc w) = ap (λ (t : Bool). t && eqb (f (at + w)) 0) (field-zero f at w) ∙ both_zero (bit_field f at w) (f (at + w))

@@ -7,11 +7,11 @@ use native.Mathlib.Omega.{arith}
 use native.Mathlib.Nat.{mod-lt, mod-eq_of_lt, mul-add-mod_self_left, mul_comm, div-add-mod, div-lt_iff_lt-mul}
 use lib.ListN.{length, get_or}
 use Rattle.card.specs.Finite.{sum_to}
-use Rattle.card.specs.Card.{Card, headerOf, subnetAt, placeAt, transitionAt, arcAt, firstPlace, firstTransition, firstArc, subnetFields, placeFields, transitionFields, arcFields}
+use Rattle.card.specs.Card.{Card, header_of, subnet_at, place_at, transition_at, arc_at, first_place, first_transition, first_arc, subnet_fields, place_fields, transition_fields, arc_fields}
 use Rattle.card.specs.Grammar.{header, subnet, place, transition, arc, card}
 use Rattle.card.specs.Writing.{fields, all_fit}
-use Rattle.card.specs.Rows.{entry, tablesIn}
-use Rattle.card.specs.inner.Runs.{RowsFit, subnetWidths, placeWidths, transitionWidths, arcWidths, HeaderFits, ValuesFit}
+use Rattle.card.specs.Rows.{entry, tables_in}
+use Rattle.card.specs.inner.Runs.{RowsFit, subnet_widths, place_widths, transition_widths, arc_widths, HeaderFits, ValuesFit}
 use Rattle.card.specs.declared.Head.{Head}
 use Rattle.card.proofs.Sums.{sum-owner, sum_below}
 use Rattle.card.proofs.Walk.{Every, Fits, fits_all, all-fits}
@@ -21,10 +21,10 @@ use Rattle.card.proofs.RowLaws.{entry-inside}
 use Rattle.card.proofs.TableLaws.{subnet-row, place-row, transition-row, arc-row, subnet-count, place-count, transition-count, arc-count}
 
 pub record Whole (subnets places transitions arcs : List ℕ) : Type 0 where
-  pub subnetsEnd : length subnets % subnetFields ≡ 0
-  pub placesEnd : length places % placeFields ≡ 0
-  pub transitionsEnd : length transitions % transitionFields ≡ 0
-  pub arcsEnd : length arcs % arcFields ≡ 0
+  pub subnets_end : length subnets % subnet_fields ≡ 0
+  pub places_end : length places % place_fields ≡ 0
+  pub transitions_end : length transitions % transition_fields ≡ 0
+  pub arcs_end : length arcs % arc_fields ≡ 0
 
 -- a number in a row fits its column
 pub fit-entry : (rows widths : List ℕ) → RowsFit rows widths → (s k : ℕ) → s < length rows / length widths → k < length widths → entry rows (length widths) s k < 2 ^ get_or widths k 0
@@ -51,45 +51,45 @@ column-at f from [] h k l = absurd (omega arith)
 column-at f from (w ∷ ws) h zero l = let e : from + zero ≡ from = omega arith in rw e h.0
 column-at f from (w ∷ ws) h (suc k) l = let e : from + suc k ≡ suc from + k = omega arith in rw e (column-at f (suc from) ws h.1 k (omega arith))
 
-module _ (head : Head) (subnets places transitions arcs : List ℕ) (n : Counted (tablesIn head subnets places transitions arcs)) where
+module _ (head : Head) (subnets places transitions arcs : List ℕ) (n : Counted (tables_in head subnets places transitions arcs)) where
   abbrev c : Card
-  c = tablesIn head subnets places transitions arcs
+  c = tables_in head subnets places transitions arcs
 
   module _ (f : ValuesFit head subnets places transitions arcs) where
-    header-has : Every Fits header (headerOf c)
-    unfolding header tablesIn
+    header-has : Every Fits header (header_of c)
+    unfolding header tables_in
     header-has = (f.header.version, (rw (subnet-count head subnets places transitions arcs) f.header.subnets, (f.header.signals, (f.header.limit, (f.header.scale, tt)))))
 
-    subnet-has : (s p t : ℕ) → s < length subnets / subnetFields → Every Fits (subnet s p t) (subnetAt c s)
+    subnet-has : (s p t : ℕ) → s < length subnets / subnet_fields → Every Fits (subnet s p t) (subnet_at c s)
     unfolding subnet
     subnet-has s p t l =
-        let x = fit-entry subnets subnetWidths f.subnets s in
+        let x = fit-entry subnets subnet_widths f.subnets s in
         rw (subnet-row head subnets places transitions arcs s l) (x 0 l (omega arith), (x 1 l (omega arith), (x 2 l (omega arith), (x 3 l (omega arith), tt))))
 
-    place-has : (s p : ℕ) → p < length places / placeFields → Every Fits (place s) (placeAt c p)
+    place-has : (s p : ℕ) → p < length places / place_fields → Every Fits (place s) (place_at c p)
     unfolding place
     place-has s p l =
-        let x = fit-entry places placeWidths f.places p in
+        let x = fit-entry places place_widths f.places p in
         rw (place-row head subnets places transitions arcs p l) (x 0 l (omega arith), (x 1 l (omega arith), (x 2 l (omega arith), tt)))
 
-    transition-has : (t : ℕ) → t < length transitions / transitionFields → Every Fits (transition head.version head.signals) (transitionAt c t)
+    transition-has : (t : ℕ) → t < length transitions / transition_fields → Every Fits (transition head.version head.signals) (transition_at c t)
     unfolding transition
     transition-has t l =
-        let x = fit-entry transitions (transitionWidths head.version) f.transitions t in
+        let x = fit-entry transitions (transition_widths head.version) f.transitions t in
         rw (transition-row head subnets places transitions arcs t l) (x 0 l (omega arith), (x 1 l (omega arith), (x 2 l (omega arith), tt)))
 
-    arc-has : (t j : ℕ) → firstArc c t + j < length arcs / arcFields → Every Fits arc (arcAt c t j)
+    arc-has : (t j : ℕ) → first_arc c t + j < length arcs / arc_fields → Every Fits arc (arc_at c t j)
     unfolding arc
     arc-has t j l =
-        let x = fit-entry arcs arcWidths f.arcs (firstArc c t + j) in
-        rw (arc-row head subnets places transitions arcs (firstArc c t + j) l) (x 0 l (omega arith), (x 1 l (omega arith), (x 2 l (omega arith), (x 3 l (omega arith), tt))))
+        let x = fit-entry arcs arc_widths f.arcs (first_arc c t + j) in
+        rw (arc-row head subnets places transitions arcs (first_arc c t + j) l) (x 0 l (omega arith), (x 1 l (omega arith), (x 2 l (omega arith), (x 3 l (omega arith), tt))))
 
     whole_has : (u : ℕ) → u < length c.transitions → TransitionHas Fits c c.version c.signals u
-    unfolding tablesIn firstArc
+    unfolding tables_in first_arc
     whole_has u l =
         record {
           row = transition-has u (omega (arith, transition-count head subnets places transitions arcs));
-          arcs = λ j m. arc-has u j (omega (arith, n.arcs, arc-count head subnets places transitions arcs, sum_below (length c.transitions) (λ w. (transitionAt c w).arcs) u j l m));
+          arcs = λ j m. arc-has u j (omega (arith, n.arcs, arc-count head subnets places transitions arcs, sum_below (length c.transitions) (λ w. (transition_at c w).arcs) u j l m));
         }
 
     -- VALUES THAT FIT THEIR COLUMNS FIT THEIR FIELDS
@@ -113,50 +113,50 @@ module _ (head : Head) (subnets places transitions arcs : List ℕ) (n : Counted
     known : (xs ws : List ℕ) → 0 < length ws → length xs % length ws ≡ 0 → ((s : ℕ) → s < length xs / length ws → Columns (entry xs (length ws) s) 0 ws) → RowsFit xs ws
     known xs ws pos e f = row-known xs ws pos e (λ s k l m. let z : 0 + k ≡ k = omega arith in rw z at (column-at (entry xs (length ws) s) 0 ws (f s l) k m))
 
-    header-known : HeaderFits head (length subnets / subnetFields)
-    unfolding header tablesIn
+    header-known : HeaderFits head (length subnets / subnet_fields)
+    unfolding header tables_in
     header-known = let x = rows.header in record { version = x.0; signals = x.1.1.0; limit = x.1.1.1.0; scale = x.1.1.1.1.0; subnets = rw (subnet-count head subnets places transitions arcs) at x.1.0 }
 
-    subnets-known : RowsFit subnets subnetWidths
+    subnets-known : RowsFit subnets subnet_widths
     unfolding subnet
     subnets-known =
-        known subnets subnetWidths (omega arith) w.subnetsEnd
+        known subnets subnet_widths (omega arith) w.subnets_end
         (λ s l. rw (subnet-row head subnets places transitions arcs s l) at (rows.subnets s (omega (arith, subnet-count head subnets places transitions arcs))).row)
 
     -- a place, a transition and an arc belong to a subnet
-    place_in : (p : ℕ) → p < length c.places → (s : ℕ) × Every Fits (place s) (placeAt c p)
-    unfolding firstPlace
+    place_in : (p : ℕ) → p < length c.places → (s : ℕ) × Every Fits (place s) (place_at c p)
+    unfolding first_place
     place_in p l =
-        let o = sum-owner (length c.subnets) (λ r. (subnetAt c r).places) p (omega (arith, n.places)) in
+        let o = sum-owner (length c.subnets) (λ r. (subnet_at c r).places) p (omega (arith, n.places)) in
         (o.range, (rows.subnets o.range o.below).places p o.low (omega (arith, o.high, first-place c n o.range)))
 
     transition-in : (t : ℕ) → t < length c.transitions → TransitionHas Fits c c.version c.signals t
-    unfolding firstTransition
+    unfolding first_transition
     transition-in t l =
-        let o = sum-owner (length c.subnets) (λ r. (subnetAt c r).transitions) t (omega (arith, n.transitions)) in
+        let o = sum-owner (length c.subnets) (λ r. (subnet_at c r).transitions) t (omega (arith, n.transitions)) in
         (rows.subnets o.range o.below).transitions t o.low (omega (arith, o.high, first-transition c n o.range))
 
-    places-known : RowsFit places placeWidths
+    places-known : RowsFit places place_widths
     unfolding place
     places-known =
-        known places placeWidths (omega arith) w.placesEnd
+        known places place_widths (omega arith) w.places_end
         (λ p l. rw (place-row head subnets places transitions arcs p l) at (place_in p (omega (arith, place-count head subnets places transitions arcs))).1)
 
-    transitions-known : RowsFit transitions (transitionWidths head.version)
-    unfolding transition tablesIn
+    transitions-known : RowsFit transitions (transition_widths head.version)
+    unfolding transition tables_in
     transitions-known =
-        known transitions (transitionWidths head.version) (omega arith) w.transitionsEnd
+        known transitions (transition_widths head.version) (omega arith) w.transitions_end
         (λ t l. rw (transition-row head subnets places transitions arcs t l) at (transition-in t (omega (arith, transition-count head subnets places transitions arcs))).row)
 
-    arcs-known : RowsFit arcs arcWidths
-    unfolding arc firstArc
+    arcs-known : RowsFit arcs arc_widths
+    unfolding arc first_arc
     arcs-known =
-        known arcs arcWidths (omega arith) w.arcsEnd
+        known arcs arc_widths (omega arith) w.arcs_end
         (λ a l.
-        let o = sum-owner (length c.transitions) (λ t. (transitionAt c t).arcs) a (omega (arith, n.arcs, arc-count head subnets places transitions arcs)) in
-        let e : firstArc c o.range + (a - firstArc c o.range) ≡ a = omega (arith, o.low) in
-        let q : sum_to (suc o.range) (λ t. (transitionAt c t).arcs) ≡ firstArc c o.range + (transitionAt c o.range).arcs = unfold sum_to in refl in
-        let x = (transition-in o.range o.below).arcs (a - firstArc c o.range) (omega (arith, o.low, o.high, q)) in
+        let o = sum-owner (length c.transitions) (λ t. (transition_at c t).arcs) a (omega (arith, n.arcs, arc-count head subnets places transitions arcs)) in
+        let e : first_arc c o.range + (a - first_arc c o.range) ≡ a = omega (arith, o.low) in
+        let q : sum_to (suc o.range) (λ t. (transition_at c t).arcs) ≡ first_arc c o.range + (transition_at c o.range).arcs = unfold sum_to in refl in
+        let x = (transition-in o.range o.below).arcs (a - first_arc c o.range) (omega (arith, o.low, o.high, q)) in
         rw (e, arc-row head subnets places transitions arcs a l) at x)
 
     -- AND THE OTHER WAY ROUND

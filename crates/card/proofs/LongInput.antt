@@ -1,4 +1,4 @@
--- Of a long input the first bytes decide: no card has more bits than cardBits. Assumes nothing.
+-- Of a long input the first bytes decide: no card has more bits than card_bits. Assumes nothing.
 use Prim.Native.Nat.{ℕ, zero, suc, ◌+◌, ◌-◌, ◌*◌, ◌/◌, ◌≤◌, ◌<◌}
 use mathlib.Core.Path.{◌≡◌, refl, ap, ap₂}
 use mathlib.Core.Bool.{Bool, true, false, cond}
@@ -9,19 +9,19 @@ use lib.ListN.{length, get_or, take}
 use lib.Seq.{get_or-take, length-take-le}
 use lib.Dec.{ltb, eqb}
 use borrow.Author.Tests.{lt-ltb, le-ltb}
-use Rattle.card.specs.Finite.{first_of, someIf, ◌otherwise◌}
+use Rattle.card.specs.Finite.{first_of, some_if, ◌otherwise◌}
 use Rattle.card.specs.Numbers.{number}
-use Rattle.card.specs.Bits.{bit, bitField, bytesFor}
+use Rattle.card.specs.Bits.{bit, bit_field, bytes_for}
 use Rattle.card.specs.Card.{Card}
 use Rattle.card.specs.Format.{Format, done, get}
 use Rattle.card.specs.Grammar.{card}
-use Rattle.card.specs.Parsing.{Parsing, refused, whole, read, unlessFault, excess, closed, ended, readCard}
+use Rattle.card.specs.Parsing.{Parsing, refused, whole, read, unless_fault, excess, closed, ended, read_card}
 use Rattle.card.specs.declared.FormatFault.{FormatFault}
 use Rattle.card.specs.declared.FormatFault.TheVariants.{Truncated}
-use Rattle.card.specs.Tables.{tableSize, cardBits, cardBytes}
+use Rattle.card.specs.Tables.{table_size, card_bits, card_bytes}
 use Rattle.card.proofs.Yields.{bit-small, field-small, not-whole}
 use Rattle.card.proofs.BitLaws.{field-local}
-use Rattle.card.proofs.Shape.{erase, countsOf}
+use Rattle.card.proofs.Shape.{erase, counts_of}
 use Rattle.card.proofs.Bounds.{Budget}
 use Rattle.card.proofs.Length.{budget-whole}
 
@@ -32,13 +32,13 @@ module _ {U A B : Type 0} (f : A → B) (a b : List ℕ) where
   read-agrees (done x) n k at h la lb s = refl
   read-agrees (get w value fault next) zero k at h la lb s = absurd h
   read-agrees (get w value fault next) (suc n) k at h la lb s =
-      let v = bitField (bit b) at w in
-      let same : bitField (bit a) at w ≡ v = field-local (bit a) (bit b) at w (λ i x y. s i (omega (arith, h.0))) in
+      let v = bit_field (bit b) at w in
+      let same : bit_field (bit a) at w ≡ v = field-local (bit a) (bit b) at w (λ i x y. s i (omega (arith, h.0))) in
       rw (le-ltb (8 * length a) (at + w) (omega (arith, h.0)), le-ltb (8 * length b) (at + w) (omega (arith, h.0)), same)
       (go (fault v) (read a (next v) (at + w)) (read b (next v) (at + w)) refl
       (λ e. read-agrees (next v) n (k - w) (at + w) (h.1 v (field-small (bit b) (bit-small b) at w) e) (omega (arith, h.0)) (omega (arith, h.0)) (λ i l. s i (omega (arith, h.0)))))
     where
-      go : (x : Option FormatFault) (p q : Parsing A) → fault (bitField (bit b) at w) ≡ x → (fault (bitField (bit b) at w) ≡ none → p ≡ q) → unlessFault x at p ≡ unlessFault x at q
+      go : (x : Option FormatFault) (p q : Parsing A) → fault (bit_field (bit b) at w) ≡ x → (fault (bit_field (bit b) at w) ≡ none → p ≡ q) → unless_fault x at p ≡ unless_fault x at q
       go none p q e r = r e
       go (some y) p q e r = refl
 
@@ -48,11 +48,11 @@ module _ {U A B : Type 0} (f : A → B) (a b : List ℕ) where
   read-ends (done y) n k at h x end e = let q : at ≡ end = cc in omega (arith, q)
   read-ends (get w value fault next) zero k at h x end e = absurd h
   read-ends (get w value fault next) (suc n) k at h x end e =
-      let v = bitField (bit a) at w in
+      let v = bit_field (bit a) at w in
       go (ltb (8 * length a) (at + w)) (fault v) (read a (next v) (at + w)) refl (λ p q. read-ends (next v) n (k - w) (at + w) (h.1 v (field-small (bit a) (bit-small a) at w) p) x end q) e
     where
-      go : (b : Bool) (y : Option FormatFault) (r : Parsing A) → fault (bitField (bit a) at w) ≡ y → (fault (bitField (bit a) at w) ≡ none → r ≡ whole x end → end ≤ at + w + (k - w))
-          → cond b (refused (number Truncated) at) (unlessFault y at r) ≡ whole x end → end ≤ at + k
+      go : (b : Bool) (y : Option FormatFault) (r : Parsing A) → fault (bit_field (bit a) at w) ≡ y → (fault (bit_field (bit a) at w) ≡ none → r ≡ whole x end → end ≤ at + w + (k - w))
+          → cond b (refused (number Truncated) at) (unless_fault y at r) ≡ whole x end → end ≤ at + k
       go true y r p ih q = absurd (not-whole _ _ _ _ q)
       go false (some g) r p ih q = absurd (not-whole _ _ _ _ q)
       go false none r p ih q = omega (arith, ih p q, h.0)
@@ -67,24 +67,24 @@ unfolding bit
 bit-same a b i e = rw e
 
 -- OF A LONG INPUT THE FIRST BYTES DECIDE, ONE MORE THAN A CARD CAN HAVE
-pub long-input : (bytes : List ℕ) → cardBytes + 1 ≤ length bytes → readCard (take (cardBytes + 1) bytes) ≡ readCard bytes
-unfolding readCard excess
-long-input bytes l = rw (read-agrees countsOf a bytes card tableSize cardBits 0 budget-whole (omega (arith, long)) (omega arith) (λ i h. same i (omega arith))) (go (read bytes card 0) refl)
+pub long-input : (bytes : List ℕ) → card_bytes + 1 ≤ length bytes → read_card (take (card_bytes + 1) bytes) ≡ read_card bytes
+unfolding read_card excess
+long-input bytes l = rw (read-agrees counts_of a bytes card table_size card_bits 0 budget-whole (omega (arith, long)) (omega arith) (λ i h. same i (omega arith))) (go (read bytes card 0) refl)
   where
     a : List ℕ
-    a = take (cardBytes + 1) bytes
+    a = take (card_bytes + 1) bytes
 
-    long : length a ≡ cardBytes + 1
-    long = length-take-le (cardBytes + 1) bytes l
+    long : length a ≡ card_bytes + 1
+    long = length-take-le (card_bytes + 1) bytes l
 
-    same : (i : ℕ) → i < 8 * (cardBytes + 1) → bit a i ≡ bit bytes i
-    same i h = bit-same a bytes i (get_or-take (cardBytes + 1) bytes (i / 8) 0 (omega arith))
+    same : (i : ℕ) → i < 8 * (card_bytes + 1) → bit a i ≡ bit bytes i
+    same i h = bit-same a bytes i (get_or-take (card_bytes + 1) bytes (i / 8) 0 (omega arith))
 
-    fills : (end : ℕ) → end ≤ cardBits → excess a end ≡ excess bytes end
+    fills : (end : ℕ) → end ≤ card_bits → excess a end ≡ excess bytes end
     fills end h =
-        rw (lt-ltb (bytesFor end) (length a) (omega (arith, long)), lt-ltb (bytesFor end) (length bytes) (omega arith))
-        (ap (λ x. x otherwise someIf true (8 * bytesFor end)) (first-same end (8 * bytesFor end - end) _ _ (λ i x y. ap (λ (b : ℕ). someIf (eqb b 1) i) (same i (omega arith)))))
+        rw (lt-ltb (bytes_for end) (length a) (omega (arith, long)), lt-ltb (bytes_for end) (length bytes) (omega arith))
+        (ap (λ x. x otherwise some_if true (8 * bytes_for end)) (first-same end (8 * bytes_for end - end) _ _ (λ i x y. ap (λ (b : ℕ). some_if (eqb b 1) i) (same i (omega arith)))))
 
     go : (x : Parsing Card) → read bytes card 0 ≡ x → ended a x ≡ ended bytes x
     go (refused n at) e = refl
-    go (whole c end) e = ap (λ (y : Option ℕ). closed y c end) (fills end (omega (arith, read-ends countsOf bytes bytes card tableSize cardBits 0 budget-whole c end e)))
+    go (whole c end) e = ap (λ (y : Option ℕ). closed y c end) (fills end (omega (arith, read-ends counts_of bytes bytes card table_size card_bits 0 budget-whole c end e)))

@@ -7,13 +7,13 @@ use native.Mathlib.Nat.{add-zero, mul-suc, mul-zero}
 use lib.ListN.{length, get_or, take, drop}
 use lib.Seq.{take-add, drop-drop}
 use Rattle.card.specs.Finite.{table}
-use Rattle.card.specs.Card.{Subnet, Transition, Card, subnetAt, placeAt, transitionAt, firstPlace, firstTransition, firstArc, subnetFields, placeFields, transitionFields, arcFields}
-use Rattle.card.specs.Tables.{numbersOf}
-use Rattle.card.specs.Rows.{entry, tablesIn}
-use Rattle.card.specs.inner.Runs.{arcsBefore, placesBefore, transitionsBefore, transitionRun, subnetRun, runs, inOrder}
+use Rattle.card.specs.Card.{Subnet, Transition, Card, subnet_at, place_at, transition_at, first_place, first_transition, first_arc, subnet_fields, place_fields, transition_fields, arc_fields}
+use Rattle.card.specs.Tables.{numbers_of}
+use Rattle.card.specs.Rows.{entry, tables_in}
+use Rattle.card.specs.inner.Runs.{arcs_before, places_before, transitions_before, transition_run, subnet_run, runs, in_order}
 use Rattle.card.specs.declared.Head.{Head}
 use Rattle.card.proofs.Prefix.{Counted, table-part, table-shift, places-below, transitions-below, first-place, first-transition, arcs-below}
-use Rattle.card.proofs.RowNumbers.{runs_same, runs-shift, placeNumbers, arcNumbers, transitionNumbers, subnetNumbers, numbers-rows}
+use Rattle.card.proofs.RowNumbers.{runs_same, runs-shift, place_numbers, arc_numbers, transition_numbers, subnet_numbers, numbers-rows}
 use Rattle.card.proofs.TableLaws.{subnet-row, place-row, transition-row, arc-row, subnet-count, place-count, transition-count, arc-count, place-sum, transition-sum, arc-sum}
 
 -- rows as parts of a slice
@@ -30,50 +30,50 @@ rows-part xs w p (suc n) h =
     ∙ sym (take-add w (w * n) (drop (w * p) xs))
     ∙ ap (λ (k : ℕ). take k (drop (w * p) xs)) (sym e)
 
-module _ (head : Head) (subnets places transitions arcs : List ℕ) (n : Counted (tablesIn head subnets places transitions arcs)) where
+module _ (head : Head) (subnets places transitions arcs : List ℕ) (n : Counted (tables_in head subnets places transitions arcs)) where
   abbrev c : Card
-  c = tablesIn head subnets places transitions arcs
+  c = tables_in head subnets places transitions arcs
 
-  transition-run : (t : ℕ) → t < length c.transitions → transitionNumbers c t ≡ transitionRun transitions arcs t
-  unfolding transitionNumbers transitionRun table
+  transition-run : (t : ℕ) → t < length c.transitions → transition_numbers c t ≡ transition_run transitions arcs t
+  unfolding transition_numbers transition_run table
   transition-run t l =
-      let m : t < length transitions / transitionFields = omega (arith, transition-count head subnets places transitions arcs) in
+      let m : t < length transitions / transition_fields = omega (arith, transition-count head subnets places transitions arcs) in
       let q = transition-row head subnets places transitions arcs t m in
-      let a : (transitionAt c t).arcs ≡ entry transitions transitionFields t 1 = ap (λ x. x.arcs) q in
-      let f : firstArc c t ≡ arcsBefore transitions t = arc-sum head subnets places transitions arcs t (omega arith) in
-      let z : firstArc c (suc t) ≡ firstArc c t + (transitionAt c t).arcs = (unfold firstArc Rattle.card.specs.Finite.sum_to in refl) in
-      let i : arcFields * arcsBefore transitions t + arcFields * entry transitions transitionFields t 1 ≤ length arcs = omega (arith, arcs-below c n (suc t) l, arc-count head subnets places transitions arcs, z, a, f) in
-      ap₂ (λ xs ys. xs ++ ys) (ap (λ (x : Transition). x.signal ∷ x.arcs ∷ x.rank ∷ []) q ∙ row-part transitions transitionFields t (omega arith))
-      (runs_same 0 (transitionAt c t).arcs _ (λ j. table 0 arcFields (entry arcs arcFields (firstArc c t + j)))
-      (λ j _ b. ap arcNumbers (arc-row head subnets places transitions arcs (firstArc c t + j) (omega (arith, z, arcs-below c n (suc t) l, arc-count head subnets places transitions arcs))))
-      ∙ runs-shift 0 (transitionAt c t).arcs (firstArc c t) (λ j. table 0 arcFields (entry arcs arcFields j))
-      ∙ rw (add-zero (firstArc c t), a, f) (rows-part arcs arcFields (arcsBefore transitions t) (entry transitions transitionFields t 1) i))
+      let a : (transition_at c t).arcs ≡ entry transitions transition_fields t 1 = ap (λ x. x.arcs) q in
+      let f : first_arc c t ≡ arcs_before transitions t = arc-sum head subnets places transitions arcs t (omega arith) in
+      let z : first_arc c (suc t) ≡ first_arc c t + (transition_at c t).arcs = (unfold first_arc Rattle.card.specs.Finite.sum_to in refl) in
+      let i : arc_fields * arcs_before transitions t + arc_fields * entry transitions transition_fields t 1 ≤ length arcs = omega (arith, arcs-below c n (suc t) l, arc-count head subnets places transitions arcs, z, a, f) in
+      ap₂ (λ xs ys. xs ++ ys) (ap (λ (x : Transition). x.signal ∷ x.arcs ∷ x.rank ∷ []) q ∙ row-part transitions transition_fields t (omega arith))
+      (runs_same 0 (transition_at c t).arcs _ (λ j. table 0 arc_fields (entry arcs arc_fields (first_arc c t + j)))
+      (λ j _ b. ap arc_numbers (arc-row head subnets places transitions arcs (first_arc c t + j) (omega (arith, z, arcs-below c n (suc t) l, arc-count head subnets places transitions arcs))))
+      ∙ runs-shift 0 (transition_at c t).arcs (first_arc c t) (λ j. table 0 arc_fields (entry arcs arc_fields j))
+      ∙ rw (add-zero (first_arc c t), a, f) (rows-part arcs arc_fields (arcs_before transitions t) (entry transitions transition_fields t 1) i))
 
-  places-run : (p k : ℕ) → p + k ≤ length c.places → runs p k (λ i. placeNumbers (placeAt c i)) ≡ take (placeFields * k) (drop (placeFields * p) places)
+  places-run : (p k : ℕ) → p + k ≤ length c.places → runs p k (λ i. place_numbers (place_at c i)) ≡ take (place_fields * k) (drop (place_fields * p) places)
   unfolding table
   places-run p k l =
       let q = place-count head subnets places transitions arcs in
-      runs_same p k _ (λ i. table 0 placeFields (entry places placeFields i)) (λ i a b. ap placeNumbers (place-row head subnets places transitions arcs i (omega (arith, q)))) ∙ rows-part places placeFields p k (omega (arith, q))
+      runs_same p k _ (λ i. table 0 place_fields (entry places place_fields i)) (λ i a b. ap place_numbers (place-row head subnets places transitions arcs i (omega (arith, q)))) ∙ rows-part places place_fields p k (omega (arith, q))
 
-  subnet-run : (i : ℕ) → i < length c.subnets → subnetNumbers c i ≡ subnetRun subnets places transitions arcs i
-  unfolding subnetNumbers subnetRun table
+  subnet-run : (i : ℕ) → i < length c.subnets → subnet_numbers c i ≡ subnet_run subnets places transitions arcs i
+  unfolding subnet_numbers subnet_run table
   subnet-run i l =
-      let m : i < length subnets / subnetFields = omega (arith, subnet-count head subnets places transitions arcs) in
+      let m : i < length subnets / subnet_fields = omega (arith, subnet-count head subnets places transitions arcs) in
       let r = subnet-row head subnets places transitions arcs i m in
-      let a : (subnetAt c i).places ≡ entry subnets subnetFields i 2 = ap (λ x. x.places) r in
-      let b : (subnetAt c i).transitions ≡ entry subnets subnetFields i 3 = ap (λ x. x.transitions) r in
-      let x : firstPlace c i ≡ placesBefore subnets i = place-sum head subnets places transitions arcs i (omega arith) in
-      let y : firstTransition c i ≡ transitionsBefore subnets i = transition-sum head subnets places transitions arcs i (omega arith) in
-      ap₂ (λ xs ys. xs ++ ys) (ap (λ (z : Subnet). z.parent ∷ z.type ∷ z.places ∷ z.transitions ∷ []) r ∙ row-part subnets subnetFields i (omega arith))
+      let a : (subnet_at c i).places ≡ entry subnets subnet_fields i 2 = ap (λ x. x.places) r in
+      let b : (subnet_at c i).transitions ≡ entry subnets subnet_fields i 3 = ap (λ x. x.transitions) r in
+      let x : first_place c i ≡ places_before subnets i = place-sum head subnets places transitions arcs i (omega arith) in
+      let y : first_transition c i ≡ transitions_before subnets i = transition-sum head subnets places transitions arcs i (omega arith) in
+      ap₂ (λ xs ys. xs ++ ys) (ap (λ (z : Subnet). z.parent ∷ z.type ∷ z.places ∷ z.transitions ∷ []) r ∙ row-part subnets subnet_fields i (omega arith))
       (ap₂ (λ xs ys. xs ++ ys)
-      (places-run (firstPlace c i) (subnetAt c i).places (omega (arith, first-place c n i, places-below c n (suc i) l)) ∙ ap₂ (λ (p k : ℕ). take (placeFields * k) (drop (placeFields * p) places)) x a)
-      (runs_same (firstTransition c i) (subnetAt c i).transitions _ _ (λ t _ h. transition-run t (omega (arith, first-transition c n i, transitions-below c n (suc i) l)))
-      ∙ ap₂ (λ (t k : ℕ). runs t k (transitionRun transitions arcs)) y b))
+      (places-run (first_place c i) (subnet_at c i).places (omega (arith, first-place c n i, places-below c n (suc i) l)) ∙ ap₂ (λ (p k : ℕ). take (place_fields * k) (drop (place_fields * p) places)) x a)
+      (runs_same (first_transition c i) (subnet_at c i).transitions _ _ (λ t _ h. transition-run t (omega (arith, first-transition c n i, transitions-below c n (suc i) l)))
+      ∙ ap₂ (λ (t k : ℕ). runs t k (transition_run transitions arcs)) y b))
 
   -- THE NUMBERS OF TABLES IN THE ORDER OF THE CARD
-  pub numbers-runs : numbersOf c ≡ inOrder head subnets places transitions arcs
-  unfolding inOrder tablesIn
+  pub numbers-runs : numbers_of c ≡ in_order head subnets places transitions arcs
+  unfolding in_order tables_in
   numbers-runs =
       numbers-rows c n
       ∙ ap (λ xs. head.version ∷ length c.subnets ∷ head.signals ∷ head.limit ∷ head.scale ∷ xs) (runs_same 0 (length c.subnets) _ _ (λ i _ h. subnet-run i (omega arith)))
-      ∙ ap (λ (x : ℕ). head.version ∷ x ∷ head.signals ∷ head.limit ∷ head.scale ∷ runs 0 x (subnetRun subnets places transitions arcs)) (subnet-count head subnets places transitions arcs)
+      ∙ ap (λ (x : ℕ). head.version ∷ x ∷ head.signals ∷ head.limit ∷ head.scale ∷ runs 0 x (subnet_run subnets places transitions arcs)) (subnet-count head subnets places transitions arcs)

@@ -9,7 +9,7 @@ use native.Mathlib.Nat.{zero-div}
 use lib.ListN.{length, get_or, length-append, get_or-append, get_or-eq_default}
 use lib.Seq.{get_or-append-add}
 use Rattle.card.specs.Finite.{table, All}
-use Rattle.card.specs.Bits.{bit, bitField, bits_of, bytesFor, pack}
+use Rattle.card.specs.Bits.{bit, bit_field, bits_of, bytes_for, pack}
 use Rattle.card.specs.Writing.{Field, spell, all_fit}
 use Rattle.card.proofs.Decides.{and_is, lt-is}
 use Rattle.card.proofs.Sums.{table-length, table_at, all_append, all-table, all-at}
@@ -30,10 +30,10 @@ below8 P p0 p1 p2 p3 p4 p5 p6 p7 (suc (suc (suc (suc (suc (suc (suc zero))))))) 
 below8 P p0 p1 p2 p3 p4 p5 p6 p7 (suc (suc (suc (suc (suc (suc (suc (suc m)))))))) h = absurd (let z : ⊥ = omega arith in z)
 
 -- bit r of the byte that eight bits make
-byte-bit : (f : ℕ → ℕ) → ((i : ℕ) → f i < 2) → (at r : ℕ) → r < 8 → bitField f at 8 / 2 ^ (7 - r) % 2 ≡ f (at + r)
-unfolding bitField
+byte-bit : (f : ℕ → ℕ) → ((i : ℕ) → f i < 2) → (at r : ℕ) → r < 8 → bit_field f at 8 / 2 ^ (7 - r) % 2 ≡ f (at + r)
+unfolding bit_field
 byte-bit f h at =
-    below8 (λ r. bitField f at 8 / 2 ^ (7 - r) % 2 ≡ f (at + r)) (omega (arith, small)) (omega (arith, small)) (omega (arith, small)) (omega (arith, small)) (omega (arith, small)) (omega (arith, small))
+    below8 (λ r. bit_field f at 8 / 2 ^ (7 - r) % 2 ≡ f (at + r)) (omega (arith, small)) (omega (arith, small)) (omega (arith, small)) (omega (arith, small)) (omega (arith, small)) (omega (arith, small))
     (omega (arith, small)) (omega (arith, small))
   where
     small : (f (at + 0) < 2) × (f (at + 1) < 2) × (f (at + 2) < 2) × (f (at + 3) < 2) × (f (at + 4) < 2) × (f (at + 5) < 2) × (f (at + 6) < 2) × (f (at + 7) < 2)
@@ -52,35 +52,35 @@ get-small xs h i = go (lt-or-ge i (length xs))
 
 pub bit-pack : (xs : List ℕ) → All Small xs → (i : ℕ) → bit (pack xs) i ≡ get_or xs i 0
 unfolding bit pack
-bit-pack xs h i = go (lt-or-ge (i / 8) (bytesFor (length xs)))
+bit-pack xs h i = go (lt-or-ge (i / 8) (bytes_for (length xs)))
   where
     byte : ℕ → ℕ
-    byte k = bitField (λ j. get_or xs j 0) (8 * k) 8
+    byte k = bit_field (λ j. get_or xs j 0) (8 * k) 8
 
-    go : (i / 8 < bytesFor (length xs)) ⊎ (bytesFor (length xs) ≤ i / 8) → get_or (table 0 (bytesFor (length xs)) byte) (i / 8) 0 / 2 ^ (7 - i % 8) % 2 ≡ get_or xs i 0
+    go : (i / 8 < bytes_for (length xs)) ⊎ (bytes_for (length xs) ≤ i / 8) → get_or (table 0 (bytes_for (length xs)) byte) (i / 8) 0 / 2 ^ (7 - i % 8) % 2 ≡ get_or xs i 0
     go (inl l) =
-        rw (table_at (bytesFor (length xs)) byte 0 (i / 8) l) (byte-bit (λ j. get_or xs j 0) (get-small xs h) (8 * (i / 8)) (i % 8) (omega arith)
+        rw (table_at (bytes_for (length xs)) byte 0 (i / 8) l) (byte-bit (λ j. get_or xs j 0) (get-small xs h) (8 * (i / 8)) (i % 8) (omega arith)
         ∙ ap (λ (j : ℕ). get_or xs j 0) (let e : 8 * (i / 8) + i % 8 ≡ i = omega arith in e))
     go (inr l) =
-        let a : length (table 0 (bytesFor (length xs)) byte) ≤ i / 8 = omega (arith, table-length 0 (bytesFor (length xs)) byte) in
-        rw (get_or-eq_default (table 0 (bytesFor (length xs)) byte) 0 a, get_or-eq_default xs 0 {n = i} (omega arith), zero-div)
+        let a : length (table 0 (bytes_for (length xs)) byte) ≤ i / 8 = omega (arith, table-length 0 (bytes_for (length xs)) byte) in
+        rw (get_or-eq_default (table 0 (bytes_for (length xs)) byte) 0 a, get_or-eq_default xs 0 {n = i} (omega arith), zero-div)
 
-pub pack-length : (xs : List ℕ) → length (pack xs) ≡ bytesFor (length xs)
+pub pack-length : (xs : List ℕ) → length (pack xs) ≡ bytes_for (length xs)
 unfolding pack
-pack-length xs = table-length 0 (bytesFor (length xs)) _
+pack-length xs = table-length 0 (bytes_for (length xs)) _
 
 pub pack-bytes : (xs : List ℕ) → All Small xs → (k : ℕ) → get_or (pack xs) k 0 < 256
 unfolding pack
-pack-bytes xs h k = go (lt-or-ge k (bytesFor (length xs)))
+pack-bytes xs h k = go (lt-or-ge k (bytes_for (length xs)))
   where
     byte : ℕ → ℕ
-    byte j = bitField (λ i. get_or xs i 0) (8 * j) 8
+    byte j = bit_field (λ i. get_or xs i 0) (8 * j) 8
 
-    go : (k < bytesFor (length xs)) ⊎ (bytesFor (length xs) ≤ k) → get_or (table 0 (bytesFor (length xs)) byte) k 0 < 256
-    go (inl l) = rw (table_at (bytesFor (length xs)) byte 0 k l) (field-small (λ i. get_or xs i 0) (get-small xs h) (8 * k) 8)
+    go : (k < bytes_for (length xs)) ⊎ (bytes_for (length xs) ≤ k) → get_or (table 0 (bytes_for (length xs)) byte) k 0 < 256
+    go (inl l) = rw (table_at (bytes_for (length xs)) byte 0 k l) (field-small (λ i. get_or xs i 0) (get-small xs h) (8 * k) 8)
     go (inr l) =
-        let a : length (table 0 (bytesFor (length xs)) byte) ≤ k = omega (arith, table-length 0 (bytesFor (length xs)) byte) in
-        rw (get_or-eq_default (table 0 (bytesFor (length xs)) byte) 0 a) (omega arith)
+        let a : length (table 0 (bytes_for (length xs)) byte) ≤ k = omega (arith, table-length 0 (bytes_for (length xs)) byte) in
+        rw (get_or-eq_default (table 0 (bytes_for (length xs)) byte) 0 a) (omega arith)
 
 -- the bits of fields, one after the other
 pub flat : List Field → List ℕ
@@ -126,9 +126,9 @@ module _ (fs : List Field) where
   pub spell-fill : (i : ℕ) → bits fs ≤ i → bit (spell fs) i ≡ 0
   spell-fill i l = spell-bit i ∙ get_or-eq_default (flat fs) 0 (omega (arith, flat-length fs))
 
-  pub spell-length : length (spell fs) ≡ bytesFor (bits fs)
+  pub spell-length : length (spell fs) ≡ bytes_for (bits fs)
   unfolding flat
-  spell-length = pack-length (flat fs) ∙ ap (λ (n : ℕ). bytesFor n) (flat-length fs)
+  spell-length = pack-length (flat fs) ∙ ap (λ (n : ℕ). bytes_for n) (flat-length fs)
 
   pub spell-bytes : (k : ℕ) → get_or (spell fs) k 0 < 256
   unfolding flat

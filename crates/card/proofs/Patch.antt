@@ -9,7 +9,7 @@ use lib.ListN.{length, get_or, set, length-set, get_or-eq_default}
 use lib.Seq.{get_or-set_same, get_or-set_other}
 use lib.Arith.{digits_lt}
 use lib.Pow.{pow-add, pow_pos, shr-shr, shr_lt}
-use Rattle.card.specs.Bits.{bit, bitField}
+use Rattle.card.specs.Bits.{bit, bit_field}
 use Rattle.card.specs.inner.Spans.{Span, patch, Put}
 use Rattle.card.proofs.BitLaws.{lt-or-ge, low_digit, low_bit, high_bit, three-bit, span-bit, field_is}
 
@@ -109,7 +109,7 @@ set-small (x ∷ xs) (suc i) a h l (suc k) = set-small xs i a (λ j. h (suc j)) 
 -- the three bytes of the patched span, stored, write the field
 module _ (old : List ℕ) (at w v x y : ℕ) (h : Span old (at / 8) x) (ey : y ≡ patch x (24 - (at % 8 + w)) w v)
     (hv : v < 2 ^ w) (hw : w ≤ 16) (fits : at + w ≤ 8 * length old) (hy : y < 2 ^ 24) where
-  stored-value : bitField (bit (stored old (at / 8) y)) at w ≡ v
+  stored-value : bit_field (bit (stored old (at / 8) y)) at w ≡ v
   stored-value =
       field_is (bit (stored old (at / 8) y)) at w v hv
       (λ m l.

@@ -7,17 +7,17 @@ use native.Mathlib.Nat.{zero-add, add-zero, add-suc}
 use lib.ListN.{length, get_or, take, drop}
 use lib.Seq.{take-suc, take-add, take_all, drop-cons, length-take-le}
 use Rattle.card.specs.Finite.{sum_to, table}
-use Rattle.card.specs.Card.{Header, Subnet, Place, Transition, Arc, Card, headerOf, subnetAt, placeAt, transitionAt, arcAt, firstPlace, firstTransition, firstArc, noSubnet, noPlace, noTransition, noArc}
+use Rattle.card.specs.Card.{Header, Subnet, Place, Transition, Arc, Card, header_of, subnet_at, place_at, transition_at, arc_at, first_place, first_transition, first_arc, no_subnet, no_place, no_transition, no_arc}
 use Rattle.card.specs.Format.{of, each, grow}
-use Rattle.card.specs.Grammar.{header, subnet, place, transition, arc, wholeTransition, with, wholeSubnet, card, headerAlone}
+use Rattle.card.specs.Grammar.{header, subnet, place, transition, arc, whole_transition, with, whole_subnet, card, header_alone}
 use Rattle.card.proofs.Sums.{sum_mono}
 use Rattle.card.proofs.Walk.{built, built-then, built_of, built-each}
 
 -- there are as many rows as the counts say
 pub record Counted (c : Card) : Type 0 where
-  pub places : length c.places ≡ firstPlace c (length c.subnets)
-  pub transitions : length c.transitions ≡ firstTransition c (length c.subnets)
-  pub arcs : length c.arcs ≡ firstArc c (length c.transitions)
+  pub places : length c.places ≡ first_place c (length c.subnets)
+  pub transitions : length c.transitions ≡ first_transition c (length c.subnets)
+  pub arcs : length c.arcs ≡ first_arc c (length c.transitions)
 
 -- the rows of the first i subnets
 unfoldable pub prefix : Card → ℕ → Card
@@ -28,9 +28,9 @@ prefix c i =
       limit = c.limit;
       scale = c.scale;
       subnets = take i c.subnets;
-      places = take (firstPlace c i) c.places;
-      transitions = take (firstTransition c i) c.transitions;
-      arcs = take (firstArc c (firstTransition c i)) c.arcs;
+      places = take (first_place c i) c.places;
+      transitions = take (first_transition c i) c.transitions;
+      arcs = take (first_arc c (first_transition c i)) c.arcs;
     }
 
 -- a part of a list is the table of its entries
@@ -48,27 +48,27 @@ unfolding table
 table-shift from zero k f = refl
 table-shift from (suc n) k f = ap (λ xs. f (k + from) ∷ xs) (table-shift (suc from) n k f ∙ ap (λ (m : ℕ). table m n f) (add-suc k from))
 
-unfoldable pub arcsOf : Card → ℕ → List Arc
-arcsOf c t = table 0 (transitionAt c t).arcs (λ j. arcAt c t j)
+unfoldable pub arcs_of : Card → ℕ → List Arc
+arcs_of c t = table 0 (transition_at c t).arcs (λ j. arc_at c t j)
 
 module _ (c : Card) (n : Counted c) where
-  pub arcs-below : (t : ℕ) → t ≤ length c.transitions → firstArc c t ≤ length c.arcs
-  unfolding firstArc
-  arcs-below t l = omega (arith, n.arcs, sum_mono t (length c.transitions) (λ u. (transitionAt c u).arcs) l)
+  pub arcs-below : (t : ℕ) → t ≤ length c.transitions → first_arc c t ≤ length c.arcs
+  unfolding first_arc
+  arcs-below t l = omega (arith, n.arcs, sum_mono t (length c.transitions) (λ u. (transition_at c u).arcs) l)
 
-  arcs-more : (t : ℕ) → t < length c.transitions → take (firstArc c t) c.arcs ++ arcsOf c t ≡ take (firstArc c (suc t)) c.arcs
-  unfolding arcsOf firstArc sum_to
+  arcs-more : (t : ℕ) → t < length c.transitions → take (first_arc c t) c.arcs ++ arcs_of c t ≡ take (first_arc c (suc t)) c.arcs
+  unfolding arcs_of first_arc sum_to
   arcs-more t l =
-      rw (table-shift 0 (transitionAt c t).arcs (firstArc c t) (λ k. get_or c.arcs k noArc), add-zero)
-      (take_more c.arcs _ (firstArc c t) (transitionAt c t).arcs (omega (arith, arcs-below (suc t) (omega arith))))
+      rw (table-shift 0 (transition_at c t).arcs (first_arc c t) (λ k. get_or c.arcs k no_arc), add-zero)
+      (take_more c.arcs _ (first_arc c t) (transition_at c t).arcs (omega (arith, arcs-below (suc t) (omega arith))))
 
   arcs-several : (t m : ℕ) → t + m ≤ length c.transitions
-      → take (firstArc c t) c.arcs ++ flatten (map {A = Transition × List Arc} (λ x. x.1) (table t m (λ u. (transitionAt c u, arcsOf c u)))) ≡ take (firstArc c (t + m)) c.arcs
+      → take (first_arc c t) c.arcs ++ flatten (map {A = Transition × List Arc} (λ x. x.1) (table t m (λ u. (transition_at c u, arcs_of c u)))) ≡ take (first_arc c (t + m)) c.arcs
   unfolding table flatten
-  arcs-several t zero h = rw add-zero (mathlib.Core.List.append-nil (take (firstArc c t) c.arcs))
+  arcs-several t zero h = rw add-zero (mathlib.Core.List.append-nil (take (first_arc c t) c.arcs))
   arcs-several t (suc m) h =
-      sym (append_assoc (take (firstArc c t) c.arcs) (arcsOf c t) _)
-      ∙ rw (arcs-more t (omega arith)) (arcs-several (suc t) m (omega arith) ∙ ap (λ (k : ℕ). take (firstArc c k) c.arcs) (let e : suc t + m ≡ t + suc m = omega arith in e))
+      sym (append_assoc (take (first_arc c t) c.arcs) (arcs_of c t) _)
+      ∙ rw (arcs-more t (omega arith)) (arcs-several (suc t) m (omega arith) ∙ ap (λ (k : ℕ). take (first_arc c k) c.arcs) (let e : suc t + m ≡ t + suc m = omega arith in e))
 
 firsts : {A B : Type 0} (from n : ℕ) (f : ℕ → A) (g : ℕ → B) → map {A = A × B} (λ x. x.0) (table from n (λ i. (f i, g i))) ≡ table from n f
 unfolding table
@@ -103,13 +103,13 @@ table_same from zero f g h = refl
 table_same from (suc n) f g h = ap₂ (λ x xs. x ∷ xs) (h from) (table_same (suc from) n f g h)
 
 module _ (c : Card) where
-  pub built-wholeTransition : (v g t : ℕ) → built (wholeTransition v g t) c ≡ (transitionAt c t, arcsOf c t)
-  unfolding wholeTransition arcsOf
-  built-wholeTransition v g t =
-      built-then (of (λ d. transitionAt d t) (transition v g)) _ c
-      ∙ rw (built_of (λ d. transitionAt d t) (transition v g) c, built-transition v g (transitionAt c t)) (
-      built-then (each 0 (transitionAt c t).arcs (λ j. of (λ (d : Card). arcAt d t j) arc)) _ c
-      ∙ ap (λ xs. (transitionAt c t, xs)) (built-each 0 (transitionAt c t).arcs _ c ∙ table_same 0 _ _ _ (λ j. built_of (λ (d : Card). arcAt d t j) arc c ∙ built-arc (arcAt c t j))))
+  pub built-whole_transition : (v g t : ℕ) → built (whole_transition v g t) c ≡ (transition_at c t, arcs_of c t)
+  unfolding whole_transition arcs_of
+  built-whole_transition v g t =
+      built-then (of (λ d. transition_at d t) (transition v g)) _ c
+      ∙ rw (built_of (λ d. transition_at d t) (transition v g) c, built-transition v g (transition_at c t)) (
+      built-then (each 0 (transition_at c t).arcs (λ j. of (λ (d : Card). arc_at d t j) arc)) _ c
+      ∙ ap (λ xs. (transition_at c t, xs)) (built-each 0 (transition_at c t).arcs _ c ∙ table_same 0 _ _ _ (λ j. built_of (λ (d : Card). arc_at d t j) arc c ∙ built-arc (arc_at c t j))))
 
 module _ (c : Card) (n : Counted c) where
   -- how long the prefixes are
@@ -117,67 +117,67 @@ module _ (c : Card) (n : Counted c) where
   unfolding prefix
   prefix-subnets i l = length-take-le i c.subnets l
 
-  pub places-below : (i : ℕ) → i ≤ length c.subnets → firstPlace c i ≤ length c.places
-  unfolding firstPlace
-  places-below i l = omega (arith, n.places, sum_mono i (length c.subnets) (λ r. (subnetAt c r).places) l)
+  pub places-below : (i : ℕ) → i ≤ length c.subnets → first_place c i ≤ length c.places
+  unfolding first_place
+  places-below i l = omega (arith, n.places, sum_mono i (length c.subnets) (λ r. (subnet_at c r).places) l)
 
-  pub transitions-below : (i : ℕ) → i ≤ length c.subnets → firstTransition c i ≤ length c.transitions
-  unfolding firstTransition
-  transitions-below i l = omega (arith, n.transitions, sum_mono i (length c.subnets) (λ r. (subnetAt c r).transitions) l)
+  pub transitions-below : (i : ℕ) → i ≤ length c.subnets → first_transition c i ≤ length c.transitions
+  unfolding first_transition
+  transitions-below i l = omega (arith, n.transitions, sum_mono i (length c.subnets) (λ r. (subnet_at c r).transitions) l)
 
-  pub prefix-places : (i : ℕ) → i ≤ length c.subnets → length (prefix c i).places ≡ firstPlace c i
+  pub prefix-places : (i : ℕ) → i ≤ length c.subnets → length (prefix c i).places ≡ first_place c i
   unfolding prefix
-  prefix-places i l = length-take-le (firstPlace c i) c.places (places-below i l)
+  prefix-places i l = length-take-le (first_place c i) c.places (places-below i l)
 
-  pub prefix-transitions : (i : ℕ) → i ≤ length c.subnets → length (prefix c i).transitions ≡ firstTransition c i
+  pub prefix-transitions : (i : ℕ) → i ≤ length c.subnets → length (prefix c i).transitions ≡ first_transition c i
   unfolding prefix
-  prefix-transitions i l = length-take-le (firstTransition c i) c.transitions (transitions-below i l)
+  prefix-transitions i l = length-take-le (first_transition c i) c.transitions (transitions-below i l)
 
   -- one subnet more
   pub places_of : ℕ → List Place
-  places_of i = table (firstPlace c i) (subnetAt c i).places (placeAt c)
+  places_of i = table (first_place c i) (subnet_at c i).places (place_at c)
 
-  pub transitionsOf : ℕ → List (Transition × List Arc)
-  transitionsOf i = table (firstTransition c i) (subnetAt c i).transitions (λ t. (transitionAt c t, arcsOf c t))
+  pub transitions_of : ℕ → List (Transition × List Arc)
+  transitions_of i = table (first_transition c i) (subnet_at c i).transitions (λ t. (transition_at c t, arcs_of c t))
 
-  pub first-place : (i : ℕ) → firstPlace c (suc i) ≡ firstPlace c i + (subnetAt c i).places
-  unfolding firstPlace sum_to
+  pub first-place : (i : ℕ) → first_place c (suc i) ≡ first_place c i + (subnet_at c i).places
+  unfolding first_place sum_to
   first-place i = refl
 
-  pub first-transition : (i : ℕ) → firstTransition c (suc i) ≡ firstTransition c i + (subnetAt c i).transitions
-  unfolding firstTransition sum_to
+  pub first-transition : (i : ℕ) → first_transition c (suc i) ≡ first_transition c i + (subnet_at c i).transitions
+  unfolding first_transition sum_to
   first-transition i = refl
 
-  pub prefix-more : (i : ℕ) → i < length c.subnets → with (prefix c i) (subnetAt c i) (places_of i) (transitionsOf i) ≡ prefix c (suc i)
-  unfolding prefix places_of transitionsOf
+  pub prefix-more : (i : ℕ) → i < length c.subnets → with (prefix c i) (subnet_at c i) (places_of i) (transitions_of i) ≡ prefix c (suc i)
+  unfolding prefix places_of transitions_of
   prefix-more i l =
-      let fits : firstTransition c i + (subnetAt c i).transitions ≤ length c.transitions = omega (arith, first-transition i, transitions-below (suc i) (omega arith)) in
+      let fits : first_transition c i + (subnet_at c i).transitions ≤ length c.transitions = omega (arith, first-transition i, transitions-below (suc i) (omega arith)) in
       rw (
-        sym (take-suc c.subnets i noSubnet l),
-        take_more c.places noPlace (firstPlace c i) (subnetAt c i).places (omega (arith, first-place i, places-below (suc i) (omega arith))),
-        firsts (firstTransition c i) (subnetAt c i).transitions (transitionAt c) (arcsOf c),
-        take_more c.transitions noTransition (firstTransition c i) (subnetAt c i).transitions fits,
-        arcs-several c n (firstTransition c i) (subnetAt c i).transitions fits,
+        sym (take-suc c.subnets i no_subnet l),
+        take_more c.places no_place (first_place c i) (subnet_at c i).places (omega (arith, first-place i, places-below (suc i) (omega arith))),
+        firsts (first_transition c i) (subnet_at c i).transitions (transition_at c) (arcs_of c),
+        take_more c.transitions no_transition (first_transition c i) (subnet_at c i).transitions fits,
+        arcs-several c n (first_transition c i) (subnet_at c i).transitions fits,
         first-place i,
         first-transition i,
       )
 
-pub built-wholeSubnet : (c sofar : Card)
-    → built (wholeSubnet sofar) c
-    ≡ with sofar (subnetAt c (length sofar.subnets)) (table (length sofar.places) (subnetAt c (length sofar.subnets)).places (placeAt c))
-    (table (length sofar.transitions) (subnetAt c (length sofar.subnets)).transitions (λ t. (transitionAt c t, arcsOf c t)))
-unfolding wholeSubnet
-built-wholeSubnet c sofar =
-    built-then (of (λ (d : Card). subnetAt d s) (subnet s p t)) _ c
-    ∙ rw (built_of (λ (d : Card). subnetAt d s) (subnet s p t) c, built-subnet s p t (subnetAt c s)) (
-    built-then (each p (subnetAt c s).places (λ i. of (λ (d : Card). placeAt d i) (place s))) _ c
+pub built-whole_subnet : (c sofar : Card)
+    → built (whole_subnet sofar) c
+    ≡ with sofar (subnet_at c (length sofar.subnets)) (table (length sofar.places) (subnet_at c (length sofar.subnets)).places (place_at c))
+    (table (length sofar.transitions) (subnet_at c (length sofar.subnets)).transitions (λ t. (transition_at c t, arcs_of c t)))
+unfolding whole_subnet
+built-whole_subnet c sofar =
+    built-then (of (λ (d : Card). subnet_at d s) (subnet s p t)) _ c
+    ∙ rw (built_of (λ (d : Card). subnet_at d s) (subnet s p t) c, built-subnet s p t (subnet_at c s)) (
+    built-then (each p (subnet_at c s).places (λ i. of (λ (d : Card). place_at d i) (place s))) _ c
     ∙ rw (
-      built-each p (subnetAt c s).places (λ i. of (λ (d : Card). placeAt d i) (place s)) c,
-      table_same p (subnetAt c s).places _ (placeAt c) (λ i. built_of (λ (d : Card). placeAt d i) (place s) c ∙ built-place s (placeAt c i)),
+      built-each p (subnet_at c s).places (λ i. of (λ (d : Card). place_at d i) (place s)) c,
+      table_same p (subnet_at c s).places _ (place_at c) (λ i. built_of (λ (d : Card). place_at d i) (place s) c ∙ built-place s (place_at c i)),
     ) (
-    built-then (each t (subnetAt c s).transitions (wholeTransition sofar.version sofar.signals)) _ c
-    ∙ ap (with sofar (subnetAt c s) (table p (subnetAt c s).places (placeAt c))) (built-each t (subnetAt c s).transitions (wholeTransition sofar.version sofar.signals) c
-    ∙ table_same t (subnetAt c s).transitions _ _ (λ u. built-wholeTransition c sofar.version sofar.signals u))))
+    built-then (each t (subnet_at c s).transitions (whole_transition sofar.version sofar.signals)) _ c
+    ∙ ap (with sofar (subnet_at c s) (table p (subnet_at c s).places (place_at c))) (built-each t (subnet_at c s).transitions (whole_transition sofar.version sofar.signals) c
+    ∙ table_same t (subnet_at c s).transitions _ _ (λ u. built-whole_transition c sofar.version sofar.signals u))))
   where
     s : ℕ
     s = length sofar.subnets
@@ -189,21 +189,21 @@ built-wholeSubnet c sofar =
     t = length sofar.transitions
 
 module _ (c : Card) (n : Counted c) where
-  pub built-more : (i : ℕ) → i < length c.subnets → built (wholeSubnet (prefix c i)) c ≡ prefix c (suc i)
-  unfolding places_of transitionsOf
+  pub built-more : (i : ℕ) → i < length c.subnets → built (whole_subnet (prefix c i)) c ≡ prefix c (suc i)
+  unfolding places_of transitions_of
   built-more i l =
-      built-wholeSubnet c (prefix c i)
+      built-whole_subnet c (prefix c i)
       ∙ rw (prefix-subnets c n i (omega arith), prefix-places c n i (omega arith), prefix-transitions c n i (omega arith)) (prefix-more c n i l)
 
-  built-grow : (k i : ℕ) → i + k ≤ length c.subnets → built (grow k wholeSubnet (prefix c i)) c ≡ prefix c (i + k)
+  built-grow : (k i : ℕ) → i + k ≤ length c.subnets → built (grow k whole_subnet (prefix c i)) c ≡ prefix c (i + k)
   unfolding grow
   built-grow zero i h = rw add-zero
   built-grow (suc k) i h =
-      built-then (wholeSubnet (prefix c i)) _ c
+      built-then (whole_subnet (prefix c i)) _ c
       ∙ rw (built-more i (omega arith)) (built-grow k (suc i) (omega arith) ∙ ap (prefix c) (let e : suc i + k ≡ i + suc k = omega arith in e))
 
-  pub prefix-none : prefix c 0 ≡ headerAlone (headerOf c)
-  unfolding prefix firstPlace firstTransition firstArc sum_to
+  pub prefix-none : prefix c 0 ≡ header_alone (header_of c)
+  unfolding prefix first_place first_transition first_arc sum_to
   prefix-none = refl
 
   pub prefix-all : prefix c (length c.subnets) ≡ c
@@ -223,5 +223,5 @@ module _ (c : Card) (n : Counted c) where
   pub built-card : built card c ≡ c
   unfolding card
   built-card =
-      built-then (of headerOf header) _ c
-      ∙ rw (built_of headerOf header c, built-header (headerOf c), ← prefix-none) (built-grow (length c.subnets) 0 (omega arith) ∙ rw zero-add prefix-all)
+      built-then (of header_of header) _ c
+      ∙ rw (built_of header_of header c, built-header (header_of c), ← prefix-none) (built-grow (length c.subnets) 0 (omega arith) ∙ rw zero-add prefix-all)

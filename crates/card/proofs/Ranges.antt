@@ -10,57 +10,57 @@ use lib.Seq.{get_or-append_seam, get_or-append-add}
 use lib.Dec.{eqb}
 use borrow.Author.Tests.{eqb-true, eqb-false}
 use Rattle.card.specs.Finite.{sum_to, All}
-use Rattle.card.specs.Card.{Header, Subnet, Place, Transition, Arc, Card, normal, headerOf, subnetAt, placeAt, transitionAt, arcAt, firstPlace, firstTransition, firstArc, noPlace, noTransition}
+use Rattle.card.specs.Card.{Header, Subnet, Place, Transition, Arc, Card, normal, header_of, subnet_at, place_at, transition_at, arc_at, first_place, first_transition, first_arc, no_place, no_transition}
 use Rattle.card.specs.Format.{of, each, grow}
-use Rattle.card.specs.Grammar.{maxVersion, maxCount, header, subnet, place, transition, arc, wholeTransition, with, wholeSubnet, card, maxSubnets, maxSignals, limitWidth, scaleWidth, headerAlone}
-use Rattle.card.specs.Parsing.{Parsing, refused, whole, read, excess, closed, ended, readCard}
+use Rattle.card.specs.Grammar.{max_version, max_count, header, subnet, place, transition, arc, whole_transition, with, whole_subnet, card, max_subnets, max_signals, limit_width, scale_width, header_alone}
+use Rattle.card.specs.Parsing.{Parsing, refused, whole, read, excess, closed, ended, read_card}
 use Rattle.card.specs.Wellformed.{SubnetRow, PlaceRow, TransitionRow, ArcRow, Rows, Wellformed}
-use Rattle.card.proofs.Decides.{eq_is, lt-is, le_is, and_is, implies-is, cond-is, someUnless-is}
+use Rattle.card.proofs.Decides.{eq_is, lt-is, le_is, and_is, implies-is, cond-is, some_unless-is}
 use Rattle.card.proofs.Sums.{sum_same, sum_mono, sum-list, total, total-append, map-length, all_append, all_map, all_more, all-at}
 use Rattle.card.proofs.Yields.{Yields, Listed, not-whole, yields-read, yields_more, yields-then, yields-of, yields_each, yields-grow}
 
 -- the rows by themselves
 pub record HeaderRow (h : Header) : Type 0 where
-  pub version : (1 ≤ h.version) × (h.version ≤ maxVersion)
-  pub someSubnets : 1 ≤ h.subnets
-  pub fewSubnets : h.subnets ≤ maxSubnets
-  pub someSignals : 1 ≤ h.signals
-  pub fewSignals : h.signals ≤ maxSignals
-  pub limit : h.limit < 2 ^ limitWidth h.version
-  pub scale : h.scale < 2 ^ scaleWidth h.version
+  pub version : (1 ≤ h.version) × (h.version ≤ max_version)
+  pub some_subnets : 1 ≤ h.subnets
+  pub few_subnets : h.subnets ≤ max_subnets
+  pub some_signals : 1 ≤ h.signals
+  pub few_signals : h.signals ≤ max_signals
+  pub limit : h.limit < 2 ^ limit_width h.version
+  pub scale : h.scale < 2 ^ scale_width h.version
 
 header-yields : Yields header HeaderRow
 unfolding header
 header-yields =
     λ v lv ev s ls es g lg eg m lm em q lq eq.
-    let k = (someUnless-is _ _ _ (and_is _ _ _ _ (le_is 1 s) (le_is s maxSubnets))).0 es in
+    let k = (some_unless-is _ _ _ (and_is _ _ _ _ (le_is 1 s) (le_is s max_subnets))).0 es in
     record {
-      version = (someUnless-is _ _ _ (and_is _ _ _ _ (le_is 1 v) (le_is v maxVersion))).0 ev;
-      someSubnets = k.0;
-      fewSubnets = k.1;
-      someSignals = (someUnless-is _ _ _ (le_is 1 g)).0 eg;
-      fewSignals = omega (arith, lg);
+      version = (some_unless-is _ _ _ (and_is _ _ _ _ (le_is 1 v) (le_is v max_version))).0 ev;
+      some_subnets = k.0;
+      few_subnets = k.1;
+      some_signals = (some_unless-is _ _ _ (le_is 1 g)).0 eg;
+      few_signals = omega (arith, lg);
       limit = lm;
       scale = lq;
     }
 
 pub record SubnetAfter (s p t : ℕ) (r : Subnet) : Type 0 where
   pub row : SubnetRow s r
-  pub fewPlaces : p + r.places ≤ maxCount
-  pub fewTransitions : t + r.transitions ≤ maxCount
+  pub few_places : p + r.places ≤ max_count
+  pub few_transitions : t + r.transitions ≤ max_count
 
 subnet-yields : (s p t : ℕ) → Yields (subnet s p t) (SubnetAfter s p t)
 unfolding subnet
 subnet-yields s p t =
     λ parent lparent eparent type ltype etype places lplaces eplaces transitions ltransitions etransitions.
-    let a = (someUnless-is _ _ _ (cond-is _ _ _ _ _ _ (eq_is s 0) (eq_is parent 0) (lt-is parent s))).0 eparent in
-    let b = (someUnless-is _ _ _ (implies-is _ _ _ _ (eq_is s 0) (eq_is type 0))).0 etype in
-    let c = (someUnless-is _ _ _ (and_is _ _ _ _ (le_is 1 places) (le_is (p + places) maxCount))).0 eplaces in
-    let d = (someUnless-is _ _ _ (and_is _ _ _ _ (le_is 1 transitions) (le_is (t + transitions) maxCount))).0 etransitions in
+    let a = (some_unless-is _ _ _ (cond-is _ _ _ _ _ _ (eq_is s 0) (eq_is parent 0) (lt-is parent s))).0 eparent in
+    let b = (some_unless-is _ _ _ (implies-is _ _ _ _ (eq_is s 0) (eq_is type 0))).0 etype in
+    let c = (some_unless-is _ _ _ (and_is _ _ _ _ (le_is 1 places) (le_is (p + places) max_count))).0 eplaces in
+    let d = (some_unless-is _ _ _ (and_is _ _ _ _ (le_is 1 transitions) (le_is (t + transitions) max_count))).0 etransitions in
     record {
       row = record { main = λ e. (a.0 e, b e); parent = a.1; type = ltype; places = c.0; transitions = d.0 };
-      fewPlaces = c.1;
-      fewTransitions = d.1;
+      few_places = c.1;
+      few_transitions = d.1;
     }
 
 place-yields : (s : ℕ) → Yields (place s) (PlaceRow s)
@@ -68,11 +68,11 @@ unfolding place
 place-yields s =
     λ kind lkind ekind capacity lcapacity ecapacity tokens ltokens etokens.
     record {
-      main = (someUnless-is _ _ _ (implies-is _ _ _ _ (eq_is s 0) (eq_is kind normal))).0 ekind;
+      main = (some_unless-is _ _ _ (implies-is _ _ _ _ (eq_is s 0) (eq_is kind normal))).0 ekind;
       kind = omega arith;
-      positive = (someUnless-is _ _ _ (le_is 1 capacity)).0 ecapacity;
+      positive = (some_unless-is _ _ _ (le_is 1 capacity)).0 ecapacity;
       capacity = omega arith;
-      tokens = (someUnless-is _ _ _ (le_is tokens capacity)).0 etokens;
+      tokens = (some_unless-is _ _ _ (le_is tokens capacity)).0 etokens;
     }
 
 transition-yields : (version signals : ℕ) → Yields (transition version signals) (TransitionRow version signals)
@@ -80,8 +80,8 @@ unfolding transition
 transition-yields version signals =
     λ signal lsignal esignal arcs larcs earcs rank lrank erank.
     record {
-      signal = (someUnless-is _ _ _ (lt-is signal signals)).0 esignal;
-      positive = (someUnless-is _ _ _ (le_is 1 arcs)).0 earcs;
+      signal = (some_unless-is _ _ _ (lt-is signal signals)).0 esignal;
+      positive = (some_unless-is _ _ _ (le_is 1 arcs)).0 earcs;
       arcs = omega (arith, larcs);
       rank = lrank;
     }
@@ -95,12 +95,12 @@ pub record TransitionArcs (version signals : ℕ) (x : Transition × List Arc) :
   pub row : TransitionRow version signals x.0
   pub arcs : Listed ArcRow x.0.arcs x.1
 
-pub wholeTransition-yields : (version signals t : ℕ) → Yields (wholeTransition version signals t) (TransitionArcs version signals)
-unfolding wholeTransition
-wholeTransition-yields version signals t =
-    yields-then (of (λ c. transitionAt c t) (transition version signals)) _ (TransitionRow version signals) (TransitionArcs version signals)
+pub whole_transition-yields : (version signals t : ℕ) → Yields (whole_transition version signals t) (TransitionArcs version signals)
+unfolding whole_transition
+whole_transition-yields version signals t =
+    yields-then (of (λ c. transition_at c t) (transition version signals)) _ (TransitionRow version signals) (TransitionArcs version signals)
     (yields-of _ (transition version signals) _ (transition-yields version signals))
-    (λ row h. yields-then (each 0 row.arcs (λ j. of (λ (c : Card). arcAt c t j) arc)) _ (Listed ArcRow row.arcs) (TransitionArcs version signals)
+    (λ row h. yields-then (each 0 row.arcs (λ j. of (λ (c : Card). arc_at c t j) arc)) _ (Listed ArcRow row.arcs) (TransitionArcs version signals)
     (yields_each 0 row.arcs _ ArcRow (λ j. yields-of _ arc _ arc-yields)) (λ arcs k. record { row = h; arcs = k }))
 
 -- one subnet more: the rows so far keep their places
@@ -127,27 +127,27 @@ module _ (c : Card) (r : Subnet) (ps : List Place) (ts : List (Transition × Lis
   unfolding more
   subnets-long = length-append c.subnets (r ∷ []) ∙ omega arith
 
-  subnet-old : (s : ℕ) → s < S → subnetAt more s ≡ subnetAt c s
+  subnet-old : (s : ℕ) → s < S → subnet_at more s ≡ subnet_at c s
   unfolding more
   subnet-old s l = get_or-append c.subnets (r ∷ []) _ s l
 
-  subnet-new : subnetAt more S ≡ r
+  subnet-new : subnet_at more S ≡ r
   unfolding more
   subnet-new = get_or-append_seam c.subnets r [] _
 
   -- a count over the subnets, before and with the new one
-  first-old : (f : Subnet → ℕ) (s : ℕ) → s ≤ S → sum_to s (λ i. f (subnetAt more i)) ≡ sum_to s (λ i. f (subnetAt c i))
+  first-old : (f : Subnet → ℕ) (s : ℕ) → s ≤ S → sum_to s (λ i. f (subnet_at more i)) ≡ sum_to s (λ i. f (subnet_at c i))
   first-old f s l = sum_same s _ _ (λ i m. ap f (subnet-old i (omega arith)))
 
-  first-new : (f : Subnet → ℕ) → sum_to (suc S) (λ i. f (subnetAt more i)) ≡ sum_to S (λ i. f (subnetAt c i)) + f r
+  first-new : (f : Subnet → ℕ) → sum_to (suc S) (λ i. f (subnet_at more i)) ≡ sum_to S (λ i. f (subnet_at c i)) + f r
   unfolding sum_to
   first-new f = omega (arith, first-old f S (omega arith), ap f subnet-new)
 
-  place-old : (p : ℕ) → p < length c.places → placeAt more p ≡ placeAt c p
+  place-old : (p : ℕ) → p < length c.places → place_at more p ≡ place_at c p
   unfolding more
   place-old p l = get_or-append c.places ps _ p l
 
-  place-new : (k : ℕ) → placeAt more (length c.places + k) ≡ get_or ps k noPlace
+  place-new : (k : ℕ) → place_at more (length c.places + k) ≡ get_or ps k no_place
   unfolding more
   place-new k = get_or-append-add c.places ps k _
 
@@ -163,63 +163,63 @@ module _ (c : Card) (r : Subnet) (ps : List Place) (ts : List (Transition × Lis
         length-append c.transitions (map (λ t. t.0) ts)
         ∙ ap (λ (n : ℕ). length c.transitions + n) (map-length (λ t. t.0) ts ∙ nts.long)
 
-    more-placeCount : length more.places ≡ firstPlace more (length more.subnets)
-    unfolding firstPlace
-    more-placeCount = rw subnets-long (places-long ∙ omega (arith, old.placeCount, first-new (λ x. x.places)))
+    more-place_count : length more.places ≡ first_place more (length more.subnets)
+    unfolding first_place
+    more-place_count = rw subnets-long (places-long ∙ omega (arith, old.place_count, first-new (λ x. x.places)))
 
-    more-transitionCount : length more.transitions ≡ firstTransition more (length more.subnets)
-    unfolding firstTransition
-    more-transitionCount = rw subnets-long (transitions-long ∙ omega (arith, old.transitionCount, first-new (λ x. x.transitions)))
+    more-transition_count : length more.transitions ≡ first_transition more (length more.subnets)
+    unfolding first_transition
+    more-transition_count = rw subnets-long (transitions-long ∙ omega (arith, old.transition_count, first-new (λ x. x.transitions)))
 
-    more-arcCount : length more.arcs ≡ firstArc more (length more.transitions)
-    unfolding firstArc more
-    more-arcCount =
+    more-arc_count : length more.arcs ≡ first_arc more (length more.transitions)
+    unfolding first_arc more
+    more-arc_count =
         length-append c.arcs (flatten (map (λ t. t.1) ts)) ∙ omega (
           arith,
-          old.arcCount,
+          old.arc_count,
           flatten-length c.version c.signals ts nts.members,
-          sum-list (λ t. t.arcs) c.transitions noTransition,
+          sum-list (λ t. t.arcs) c.transitions no_transition,
           total-append (λ t. t.arcs) c.transitions (map (λ t. t.0) ts),
-          sum-list (λ t. t.arcs) (c.transitions ++ map (λ t. t.0) ts) noTransition,
+          sum-list (λ t. t.arcs) (c.transitions ++ map (λ t. t.0) ts) no_transition,
         )
 
-    more-subnet : (s : ℕ) → s < length more.subnets → SubnetRow s (subnetAt more s)
+    more-subnet : (s : ℕ) → s < length more.subnets → SubnetRow s (subnet_at more s)
     more-subnet s l = go (eqb s S) refl
       where
-        go : (b : Bool) → eqb s S ≡ b → SubnetRow s (subnetAt more s)
+        go : (b : Bool) → eqb s S ≡ b → SubnetRow s (subnet_at more s)
         go true e = rw (eqb-true s S e, subnet-new) new.row
         go false e = rw (subnet-old s (omega (arith, subnets-long, eqb-false s S e))) (old.subnet s (omega (arith, subnets-long, eqb-false s S e)))
 
-    more-place : (s p : ℕ) → s < length more.subnets → firstPlace more s ≤ p → p < firstPlace more (suc s) → PlaceRow s (placeAt more p)
-    unfolding firstPlace
+    more-place : (s p : ℕ) → s < length more.subnets → first_place more s ≤ p → p < first_place more (suc s) → PlaceRow s (place_at more p)
+    unfolding first_place
     more-place s p l low high = go (eqb s S) refl
       where
-        at : (k : ℕ) → p ≡ length c.places + k → k < r.places → PlaceRow S (placeAt more p)
+        at : (k : ℕ) → p ≡ length c.places + k → k < r.places → PlaceRow S (place_at more p)
         at k e m = rw (e, place-new k) (all-at (PlaceRow S) ps _ nps.members k (omega (arith, nps.long)))
 
-        go : (b : Bool) → eqb s S ≡ b → PlaceRow s (placeAt more p)
+        go : (b : Bool) → eqb s S ≡ b → PlaceRow s (place_at more p)
         go true e =
             let q : s ≡ S = eqb-true s S e in
-            let a : sum_to S (λ i. (subnetAt more i).places) ≤ p = rw q at low in
-            let b : p < sum_to (suc S) (λ i. (subnetAt more i).places) = rw q at high in
-            rw q (at (p - length c.places) (omega (arith, old.placeCount, first-old (λ x. x.places) S (omega arith)))
-            (omega (arith, old.placeCount, first-new (λ x. x.places), first-old (λ x. x.places) S (omega arith))))
+            let a : sum_to S (λ i. (subnet_at more i).places) ≤ p = rw q at low in
+            let b : p < sum_to (suc S) (λ i. (subnet_at more i).places) = rw q at high in
+            rw q (at (p - length c.places) (omega (arith, old.place_count, first-old (λ x. x.places) S (omega arith)))
+            (omega (arith, old.place_count, first-new (λ x. x.places), first-old (λ x. x.places) S (omega arith))))
         go false e =
             let m : s < S = omega (arith, subnets-long, eqb-false s S e) in
             let a = first-old (λ x. x.places) s (omega arith) in
             let b = first-old (λ x. x.places) (suc s) (omega arith) in
-            let d = sum_mono (suc s) S (λ i. (subnetAt c i).places) (omega arith) in
-            rw (place-old p (omega (arith, old.placeCount))) (old.place s p m (omega arith) (omega arith))
+            let d = sum_mono (suc s) S (λ i. (subnet_at c i).places) (omega arith) in
+            rw (place-old p (omega (arith, old.place_count))) (old.place s p m (omega arith) (omega arith))
 
     more_rows : Rows more
     unfolding more
     more_rows =
         record {
-          placeCount = more-placeCount;
-          transitionCount = more-transitionCount;
-          arcCount = more-arcCount;
-          fewPlaces = omega (arith, places-long, new.fewPlaces);
-          fewTransitions = omega (arith, transitions-long, new.fewTransitions);
+          place_count = more-place_count;
+          transition_count = more-transition_count;
+          arc_count = more-arc_count;
+          few_places = omega (arith, places-long, new.few_places);
+          few_transitions = omega (arith, transitions-long, new.few_transitions);
           subnet = more-subnet;
           place = more-place;
           transitions = all_append _ c.transitions _ old.transitions (all_map _ _ ts (all_more _ _ (λ x h. h.row) ts nts.members));
@@ -235,14 +235,14 @@ pub record After (h : Header) (i : ℕ) (c : Card) : Type 0 where
   pub subnets : length c.subnets ≡ i
   pub rows : Rows c
 
-pub wholeSubnet-yields : (h : Header) (i : ℕ) (c : Card) → After h i c → Yields (wholeSubnet c) (After h (suc i))
-unfolding wholeSubnet
-wholeSubnet-yields h i c a =
-    yields-then (of (λ (k : Card). subnetAt k s) (subnet s p t)) _ (SubnetAfter s p t) (After h (suc i)) (yields-of _ (subnet s p t) _ (subnet-yields s p t))
-    (λ r new. yields-then (each p r.places (λ k. of (λ (d : Card). placeAt d k) (place s))) _ (Listed (PlaceRow s) r.places) (After h (suc i))
+pub whole_subnet-yields : (h : Header) (i : ℕ) (c : Card) → After h i c → Yields (whole_subnet c) (After h (suc i))
+unfolding whole_subnet
+whole_subnet-yields h i c a =
+    yields-then (of (λ (k : Card). subnet_at k s) (subnet s p t)) _ (SubnetAfter s p t) (After h (suc i)) (yields-of _ (subnet s p t) _ (subnet-yields s p t))
+    (λ r new. yields-then (each p r.places (λ k. of (λ (d : Card). place_at d k) (place s))) _ (Listed (PlaceRow s) r.places) (After h (suc i))
     (yields_each p r.places _ (PlaceRow s) (λ k. yields-of _ (place s) _ (place-yields s)))
-    (λ ps nps. yields-then (each t r.transitions (wholeTransition c.version c.signals)) _ (Listed (TransitionArcs c.version c.signals) r.transitions) (After h (suc i))
-    (yields_each t r.transitions _ (TransitionArcs c.version c.signals) (wholeTransition-yields c.version c.signals))
+    (λ ps nps. yields-then (each t r.transitions (whole_transition c.version c.signals)) _ (Listed (TransitionArcs c.version c.signals) r.transitions) (After h (suc i))
+    (yields_each t r.transitions _ (TransitionArcs c.version c.signals) (whole_transition-yields c.version c.signals))
     (λ ts nts. record {
       version = a.version;
       signals = a.signals;
@@ -262,17 +262,17 @@ wholeSubnet-yields h i c a =
     t = length c.transitions
 
 unfoldable pub start : Header → Card
-start h = headerAlone h
+start h = header_alone h
 
 pub no_rows : (h : Header) → Rows (start h)
-unfolding start firstPlace firstTransition firstArc sum_to
+unfolding start first_place first_transition first_arc sum_to
 no_rows h =
     record {
-      placeCount = refl;
-      transitionCount = refl;
-      arcCount = refl;
-      fewPlaces = omega arith;
-      fewTransitions = omega arith;
+      place_count = refl;
+      transition_count = refl;
+      arc_count = refl;
+      few_places = omega arith;
+      few_transitions = omega arith;
       subnet = λ s l. absurd (omega arith);
       place = λ s p l. absurd (omega arith);
       transitions = tt;
@@ -283,27 +283,27 @@ pub no-subnets : (h : Header) → After h 0 (start h)
 unfolding start
 no-subnets h = record { version = refl; signals = refl; limit = refl; scale = refl; subnets = refl; rows = no_rows h }
 
-pub grow-yields : (h : Header) → Yields (grow h.subnets wholeSubnet (start h)) (After h (0 + h.subnets))
-grow-yields h = yields-grow h.subnets wholeSubnet (After h) (wholeSubnet-yields h) 0 (start h) (no-subnets h)
+pub grow-yields : (h : Header) → Yields (grow h.subnets whole_subnet (start h)) (After h (0 + h.subnets))
+grow-yields h = yields-grow h.subnets whole_subnet (After h) (whole_subnet-yields h) 0 (start h) (no-subnets h)
 
 pub card-yields : Yields card Wellformed
 unfolding card start
 card-yields =
-    yields-then (of headerOf header) _ HeaderRow Wellformed (yields-of headerOf header HeaderRow header-yields)
-    (λ h row. yields_more (grow h.subnets wholeSubnet (start h)) (After h (0 + h.subnets)) Wellformed (λ c a. record {
+    yields-then (of header_of header) _ HeaderRow Wellformed (yields-of header_of header HeaderRow header-yields)
+    (λ h row. yields_more (grow h.subnets whole_subnet (start h)) (After h (0 + h.subnets)) Wellformed (λ c a. record {
       version = rw a.version row.version;
-      someSubnets = omega (arith, a.subnets, row.someSubnets);
-      fewSubnets = omega (arith, a.subnets, row.fewSubnets);
-      someSignals = omega (arith, a.signals, row.someSignals);
-      fewSignals = omega (arith, a.signals, row.fewSignals);
+      some_subnets = omega (arith, a.subnets, row.some_subnets);
+      few_subnets = omega (arith, a.subnets, row.few_subnets);
+      some_signals = omega (arith, a.signals, row.some_signals);
+      few_signals = omega (arith, a.signals, row.few_signals);
       limit = rw (a.limit, a.version) row.limit;
       scale = rw (a.scale, a.version) row.scale;
       rows = a.rows;
     }) (grow-yields h))
 
 -- WHAT IS READ IS WELL FORMED
-pub read-wellformed : (bytes : List ℕ) (c : Card) (end : ℕ) → readCard bytes ≡ whole c end → Wellformed c
-unfolding readCard
+pub read-wellformed : (bytes : List ℕ) (c : Card) (end : ℕ) → read_card bytes ≡ whole c end → Wellformed c
+unfolding read_card
 read-wellformed bytes c end e = go (read bytes card 0) refl e
   where
     here : (d : Card) (at : ℕ) (x : Option ℕ) → read bytes card 0 ≡ whole d at → closed x d at ≡ whole c end → Wellformed c

@@ -11,15 +11,15 @@ use native.Mathlib.Nat.{zero-add}
 use lib.ListN.{length, get_or}
 use borrow.Author.Tests.{ltb-false}
 use Rattle.card.specs.Numbers.{number}
-use Rattle.card.specs.Bits.{bit, bitField, bytesFor}
-use Rattle.card.specs.Card.{Card, firstPlace, firstTransition, firstArc}
+use Rattle.card.specs.Bits.{bit, bit_field, bytes_for}
+use Rattle.card.specs.Card.{Card, first_place, first_transition, first_arc}
 use Rattle.card.specs.Format.{Format, done, get}
 use Rattle.card.specs.Grammar.{card}
-use Rattle.card.specs.Parsing.{Parsing, refused, whole, read, excess, closed, ended, readCard}
+use Rattle.card.specs.Parsing.{Parsing, refused, whole, read, excess, closed, ended, read_card}
 use Rattle.card.specs.Writing.{Field, fields, encode, all_fit, counted, read_tables}
 use Rattle.card.specs.Wellformed.{Wellformed}
 use Rattle.card.specs.declared.FormatFault.TheVariants.{BadTable}
-use Rattle.card.proofs.Decides.{Decides, Clears, eq_is, lt-is, and_is, someIf-is, otherwise-is, firstOf-is}
+use Rattle.card.proofs.Decides.{Decides, Clears, eq_is, lt-is, and_is, some_if-is, otherwise-is, first_of-is}
 use Rattle.card.proofs.Yields.{bit-small, not-whole}
 use Rattle.card.proofs.Ranges.{read-wellformed}
 use Rattle.card.proofs.Walk.{bits, built, walk, NoFault, Fits, Proper, Spelt, every_more, fits_all, read-spelt, clean-walk, walk-clean}
@@ -31,13 +31,13 @@ use Rattle.card.proofs.Pack.{spell-fill, spell-length, spell-bytes, spell-spelt}
 
 -- nothing is in excess where the fill bits are zero and no byte follows
 pub record Filled (bytes : List ℕ) (end : ℕ) : Type 0 where
-  pub zeros : (i : ℕ) → end ≤ i → i < 8 * bytesFor end → bit bytes i ≡ 0
-  pub last : length bytes ≤ bytesFor end
+  pub zeros : (i : ℕ) → end ≤ i → i < 8 * bytes_for end → bit bytes i ≡ 0
+  pub last : length bytes ≤ bytes_for end
 
 pub filled_is : (bytes : List ℕ) (end : ℕ) → Clears (excess bytes end) (Filled bytes end)
 unfolding excess
 filled_is bytes end =
-    Iff.trans (otherwise-is _ _ _ _ (firstOf-is end (8 * bytesFor end - end) _ _ (λ i. someIf-is _ _ _ (eq_is (bit bytes i) 1))) (someIf-is _ _ _ (lt-is (bytesFor end) (length bytes)))) (
+    Iff.trans (otherwise-is _ _ _ _ (first_of-is end (8 * bytes_for end - end) _ _ (λ i. some_if-is _ _ _ (eq_is (bit bytes i) 1))) (some_if-is _ _ _ (lt-is (bytes_for end) (length bytes)))) (
       λ h. record { zeros = λ i a b. omega (arith, bit-small bytes i, h.0 i a (omega arith)); last = omega (arith, h.1) },
       λ h. (λ i a b. λ e. omega (arith, h.zeros i a (omega arith)), λ l. omega (arith, h.last)),
     )
@@ -45,13 +45,13 @@ filled_is bytes end =
 pub counted_is : (c : Card) → Decides (counted c) (Counted c)
 unfolding counted
 counted_is c =
-    Iff.trans (and_is _ _ _ _ (and_is _ _ _ _ (eq_is (length c.places) (firstPlace c (length c.subnets))) (eq_is (length c.transitions) (firstTransition c (length c.subnets))))
-    (eq_is (length c.arcs) (firstArc c (length c.transitions))))
+    Iff.trans (and_is _ _ _ _ (and_is _ _ _ _ (eq_is (length c.places) (first_place c (length c.subnets))) (eq_is (length c.transitions) (first_transition c (length c.subnets))))
+    (eq_is (length c.arcs) (first_arc c (length c.transitions))))
     (λ h. record { places = h.0.0; transitions = h.0.1; arcs = h.1 }, λ h. ((h.places, h.transitions), h.arcs))
 
 -- the card that tables make is read as a walk of the grammar with their numbers
-pub read-encode : (c : Card) → all_fit (fields card c) ≡ true → readCard (encode c) ≡ walk card c 0
-unfolding readCard encode
+pub read-encode : (c : Card) → all_fit (fields card c) ≡ true → read_card (encode c) ≡ walk card c 0
+unfolding read_card encode
 read-encode c a = rw (read-spelt (encode c) card c 0 (spell-spelt (fields card c) a) (omega (arith, spell-length (fields card c)))) (go (walk card c 0) refl)
   where
     close : (d : Card) (end : ℕ) → walk card c 0 ≡ whole d end → excess (encode c) end ≡ none
@@ -76,25 +76,25 @@ walk-whole c d end k e =
 pub record Written (c : Card) (end : ℕ) : Type 0 where
   pub counts : Counted c
   pub fit : all_fit (fields card c) ≡ true
-  pub reads : readCard (encode c) ≡ whole c end
+  pub reads : read_card (encode c) ≡ whole c end
 
 pub read-write : (c d : Card) (end : ℕ) → read_tables c ≡ whole d end → (d ≡ c) × Written c end
 unfolding read_tables
 read-write c d end e = go (counted c && all_fit (fields card c)) refl e
   where
-    go : (b : Bool) → counted c && all_fit (fields card c) ≡ b → cond b (readCard (encode c)) (refused (number BadTable) 0) ≡ whole d end → (d ≡ c) × Written c end
+    go : (b : Bool) → counted c && all_fit (fields card c) ≡ b → cond b (read_card (encode c)) (refused (number BadTable) 0) ≡ whole d end → (d ≡ c) × Written c end
     go false p q = absurd (not-whole _ _ _ _ q)
     go true p q =
         let k = (and_is _ _ _ _ (counted_is c) (λ (h : all_fit (fields card c) ≡ true). h, λ (h : all_fit (fields card c) ≡ true). h)).0 p in
         let r = read-encode c k.1 in
         let i : d ≡ c = (walk-whole c d end k.0 (sym r ∙ q)).0 in
-        (i, record { counts = k.0; fit = k.1; reads = subst (λ (x : Card). readCard (encode c) ≡ whole x end) i q })
+        (i, record { counts = k.0; fit = k.1; reads = subst (λ (x : Card). read_card (encode c) ≡ whole x end) i q })
 
 -- EVERY WELL-FORMED CARD IS ONE THAT THE WRITER TAKES
 pub wellformed-fits : (c : Card) → Wellformed c → all_fit (fields card c) ≡ true
 wellformed-fits c w = fits_all card c (every_more Proper Fits (λ n v f h. h.1) card c (clean-card c w))
 
-pub wellformed-reads : (c : Card) → Wellformed c → readCard (encode c) ≡ whole c (bits (fields card c))
+pub wellformed-reads : (c : Card) → Wellformed c → read_card (encode c) ≡ whole c (bits (fields card c))
 wellformed-reads c w =
     read-encode c (wellformed-fits c w)
     ∙ clean-walk card c 0 (every_more Proper NoFault (λ n v f h. h.0) card c (clean-card c w))
@@ -110,7 +110,7 @@ unfolding read
 read-inside bytes (done b) at end a l e = let q : at ≡ end = cc in omega arith
 read-inside bytes (get w value fault next) at end a l e =
     let g = read-get bytes w value fault next at a end e in
-    read-inside bytes (next (bitField (bit bytes) at w)) (at + w) end a (ltb-false (8 * length bytes) (at + w) g.inside) g.rest
+    read-inside bytes (next (bit_field (bit bytes) at w)) (at + w) end a (ltb-false (8 * length bytes) (at + w) g.inside) g.rest
 
 -- bytes that spell the same fields have the same bits there
 pub spelt-same : (a b : List ℕ) (at : ℕ) (fs : List Field) → Spelt a at fs → Spelt b at fs → (i : ℕ) → at ≤ i → i < at + bits fs → bit a i ≡ bit b i
@@ -131,8 +131,8 @@ encode-bits bytes d at t fit f i l = go (lt-or-ge i (bits (fields card d)))
     go (inr h) = spell-fill (fields card d) i h ∙ sym (f.zeros i (omega (arith, t.ends)) (omega (arith, f.last)))
 
 -- WHAT THE READER TAKES IS WRITTEN BACK (`write_read`): the bytes of a card that is read are those that its tables make
-pub write_read : (bytes : List ℕ) → ((k : ℕ) → get_or bytes k 0 < 256) → (c : Card) (end : ℕ) → readCard bytes ≡ whole c end → encode c ≡ bytes
-unfolding readCard encode
+pub write_read : (bytes : List ℕ) → ((k : ℕ) → get_or bytes k 0 < 256) → (c : Card) (end : ℕ) → read_card bytes ≡ whole c end → encode c ≡ bytes
+unfolding read_card encode
 write_read bytes small c end e = go (read bytes card 0) refl e
   where
     same : (d : Card) (at : ℕ) → read bytes card 0 ≡ whole d at → Filled bytes at → encode d ≡ bytes

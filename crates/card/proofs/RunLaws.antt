@@ -8,8 +8,8 @@ use native.Mathlib.Numerals.{add-one}
 use lib.ListN.{length, take, drop}
 use Rattle.card.specs.Finite.{sum_to, table}
 use Rattle.card.specs.Rows.{entry}
-use Rattle.card.specs.inner.Runs.{Leads, arcsBefore, transitionRun, runs, RunsInside, placesBefore, transitionsBefore, subnetRun, TablesInside}
-use Rattle.card.specs.Card.{subnetFields, placeFields, transitionFields, arcFields}
+use Rattle.card.specs.inner.Runs.{Leads, arcs_before, transition_run, runs, RunsInside, places_before, transitions_before, subnet_run, TablesInside}
+use Rattle.card.specs.Card.{subnet_fields, place_fields, transition_fields, arc_fields}
 use Rattle.card.proofs.Sums.{sum_mono}
 
 pub runs-suc : (from n : ℕ) (run : ℕ → List ℕ) → runs from (suc n) run ≡ runs from n run ++ run (from + n)
@@ -23,12 +23,12 @@ runs-suc from (suc n) run =
 
 module _ (transitions arcs old : List ℕ) (n first count arc : ℕ) (r : RunsInside transitions arcs first count arc) where
   abbrev run : ℕ → List ℕ
-  run = transitionRun transitions arcs
+  run = transition_run transitions arcs
 
   pub record Placing (numbers : List ℕ) (m b t : ℕ) : Type 0 where
     pub low : first ≤ t
     pub high : t ≤ first + count
-    pub is : b ≡ arcsBefore transitions t
+    pub is : b ≡ arcs_before transitions t
     pub long : length numbers ≡ length old
     pub leads : (xs : List ℕ) → Leads xs old n → Leads (xs ++ runs first (t - first) run) numbers m
 
@@ -40,20 +40,20 @@ module _ (transitions arcs old : List ℕ) (n first count arc : ℕ) (r : RunsIn
 
   module _ (numbers : List ℕ) (m b t : ℕ) (x : Placing numbers m b t) where
     -- what the next transition takes lies within the slices
-    pub place-rows : t < first + count → transitionFields * t + transitionFields ≤ length transitions
+    pub place-rows : t < first + count → transition_fields * t + transition_fields ≤ length transitions
     place-rows l = omega (arith, r.rows)
 
-    pub place-arcs : t < first + count → arcFields * (b + entry transitions transitionFields t 1) ≤ length arcs
+    pub place-arcs : t < first + count → arc_fields * (b + entry transitions transition_fields t 1) ≤ length arcs
     place-arcs l =
-        let q : sum_to (suc t) (λ u. entry transitions transitionFields u 1) ≡ arcsBefore transitions t + entry transitions transitionFields t 1 = unfold sum_to in refl in
-        omega (arith, x.is, q, r.ends, sum_mono (suc t) (first + count) (λ u. entry transitions transitionFields u 1) l)
+        let q : sum_to (suc t) (λ u. entry transitions transition_fields u 1) ≡ arcs_before transitions t + entry transitions transition_fields t 1 = unfold sum_to in refl in
+        omega (arith, x.is, q, r.ends, sum_mono (suc t) (first + count) (λ u. entry transitions transition_fields u 1) l)
 
-    pub place-more : t < first + count → (one two s1 s2 : List ℕ) (m1 m2 k : ℕ) → k ≡ entry transitions transitionFields t 1 → s1 ≡ take transitionFields (drop (transitionFields * t) transitions) → s2 ≡ take (arcFields * k) (drop (arcFields * b) arcs)
+    pub place-more : t < first + count → (one two s1 s2 : List ℕ) (m1 m2 k : ℕ) → k ≡ entry transitions transition_fields t 1 → s1 ≡ take transition_fields (drop (transition_fields * t) transitions) → s2 ≡ take (arc_fields * k) (drop (arc_fields * b) arcs)
         → length one ≡ length numbers → length two ≡ length one → ((ys : List ℕ) → Leads ys numbers m → Leads (ys ++ s1) one m1) → ((ys : List ℕ) → Leads ys one m1 → Leads (ys ++ s2) two m2)
         → Placing two m2 (b + k) (t + 1)
-    unfolding transitionRun
+    unfolding transition_run
     place-more l one two s1 s2 m1 m2 k ek e1 e2 l1 l2 f g =
-        let q : sum_to (suc t) (λ u. entry transitions transitionFields u 1) ≡ arcsBefore transitions t + entry transitions transitionFields t 1 = unfold sum_to in refl in
+        let q : sum_to (suc t) (λ u. entry transitions transition_fields u 1) ≡ arcs_before transitions t + entry transitions transition_fields t 1 = unfold sum_to in refl in
         let z : t + 1 ≡ suc t = add-one t in
         let d : t + 1 - first ≡ suc (t - first) = omega (arith, x.low) in
         let w : first + (t - first) ≡ t = omega (arith, x.low) in
@@ -77,65 +77,65 @@ module _ (transitions arcs old : List ℕ) (n first count arc : ℕ) (r : RunsIn
         (omega (arith, x.high), λ xs h. rw e at (x.leads xs h))
 
 module _ (subnets places transitions arcs old : List ℕ) (n : ℕ) (r : TablesInside subnets places transitions arcs) where
-  abbrev netRun : ℕ → List ℕ
-  netRun = subnetRun subnets places transitions arcs
+  abbrev net_run : ℕ → List ℕ
+  net_run = subnet_run subnets places transitions arcs
 
   pub record Laying (numbers : List ℕ) (m place transition arc s : ℕ) : Type 0 where
-    pub inside : s ≤ length subnets / subnetFields
-    pub isPlace : place ≡ placesBefore subnets s
-    pub isTransition : transition ≡ transitionsBefore subnets s
-    pub isArc : arc ≡ arcsBefore transitions transition
+    pub inside : s ≤ length subnets / subnet_fields
+    pub is_place : place ≡ places_before subnets s
+    pub is_transition : transition ≡ transitions_before subnets s
+    pub is_arc : arc ≡ arcs_before transitions transition
     pub long : length numbers ≡ length old
-    pub leads : (xs : List ℕ) → Leads xs old n → Leads (xs ++ runs 0 s netRun) numbers m
+    pub leads : (xs : List ℕ) → Leads xs old n → Leads (xs ++ runs 0 s net_run) numbers m
 
   pub lay-start : Laying old n 0 0 0 0
   unfolding runs table flatten sum_to
-  lay-start = record { inside = omega arith; isPlace = refl; isTransition = refl; isArc = refl; long = refl; leads = λ xs h. rw (append-nil xs) h }
+  lay-start = record { inside = omega arith; is_place = refl; is_transition = refl; is_arc = refl; long = refl; leads = λ xs h. rw (append-nil xs) h }
 
   module _ (numbers : List ℕ) (m place transition arc s : ℕ) (x : Laying numbers m place transition arc s) where
-    pub lay-rows : s < length subnets / subnetFields → subnetFields * s + subnetFields ≤ length subnets
+    pub lay-rows : s < length subnets / subnet_fields → subnet_fields * s + subnet_fields ≤ length subnets
     lay-rows l = omega arith
 
-    pub lay-places : s < length subnets / subnetFields → placeFields * (place + entry subnets subnetFields s 2) ≤ length places
+    pub lay-places : s < length subnets / subnet_fields → place_fields * (place + entry subnets subnet_fields s 2) ≤ length places
     lay-places l =
-        let q : sum_to (suc s) (λ u. entry subnets subnetFields u 2) ≡ placesBefore subnets s + entry subnets subnetFields s 2 = unfold sum_to in refl in
-        omega (arith, x.isPlace, q, r.placeRows, sum_mono (suc s) (length subnets / subnetFields) (λ u. entry subnets subnetFields u 2) l)
+        let q : sum_to (suc s) (λ u. entry subnets subnet_fields u 2) ≡ places_before subnets s + entry subnets subnet_fields s 2 = unfold sum_to in refl in
+        omega (arith, x.is_place, q, r.place_rows, sum_mono (suc s) (length subnets / subnet_fields) (λ u. entry subnets subnet_fields u 2) l)
 
-    pub lay-inside : s < length subnets / subnetFields → (k : ℕ) → k ≡ entry subnets subnetFields s 3 → RunsInside transitions arcs transition k arc
+    pub lay-inside : s < length subnets / subnet_fields → (k : ℕ) → k ≡ entry subnets subnet_fields s 3 → RunsInside transitions arcs transition k arc
     lay-inside l k e =
-        let q : sum_to (suc s) (λ u. entry subnets subnetFields u 3) ≡ transitionsBefore subnets s + entry subnets subnetFields s 3 = unfold sum_to in refl in
-        let w : transition + k ≤ transitionsBefore subnets (length subnets / subnetFields) = omega (arith, x.isTransition, q, e, sum_mono (suc s) (length subnets / subnetFields) (λ u. entry subnets subnetFields u 3) l) in
+        let q : sum_to (suc s) (λ u. entry subnets subnet_fields u 3) ≡ transitions_before subnets s + entry subnets subnet_fields s 3 = unfold sum_to in refl in
+        let w : transition + k ≤ transitions_before subnets (length subnets / subnet_fields) = omega (arith, x.is_transition, q, e, sum_mono (suc s) (length subnets / subnet_fields) (λ u. entry subnets subnet_fields u 3) l) in
         record {
-          begins = x.isArc;
-          rows = omega (arith, r.transitionRows);
-          ends = omega (arith, r.arcRows, sum_mono (transition + k) (transitionsBefore subnets (length subnets / subnetFields)) (λ u. entry transitions transitionFields u 1) w);
+          begins = x.is_arc;
+          rows = omega (arith, r.transition_rows);
+          ends = omega (arith, r.arc_rows, sum_mono (transition + k) (transitions_before subnets (length subnets / subnet_fields)) (λ u. entry transitions transition_fields u 1) w);
         }
 
-    pub lay-more : s < length subnets / subnetFields → (one two three s1 s2 : List ℕ) (m1 m2 m3 p k end : ℕ) → p ≡ entry subnets subnetFields s 2 → k ≡ entry subnets subnetFields s 3 → s1 ≡ take subnetFields (drop (subnetFields * s) subnets)
-        → s2 ≡ take (placeFields * p) (drop (placeFields * place) places) → end ≡ arcsBefore transitions (transition + k)
+    pub lay-more : s < length subnets / subnet_fields → (one two three s1 s2 : List ℕ) (m1 m2 m3 p k end : ℕ) → p ≡ entry subnets subnet_fields s 2 → k ≡ entry subnets subnet_fields s 3 → s1 ≡ take subnet_fields (drop (subnet_fields * s) subnets)
+        → s2 ≡ take (place_fields * p) (drop (place_fields * place) places) → end ≡ arcs_before transitions (transition + k)
         → length one ≡ length numbers → length two ≡ length one → length three ≡ length two
         → ((ys : List ℕ) → Leads ys numbers m → Leads (ys ++ s1) one m1) → ((ys : List ℕ) → Leads ys one m1 → Leads (ys ++ s2) two m2)
-        → ((ys : List ℕ) → Leads ys two m2 → Leads (ys ++ runs transition k (transitionRun transitions arcs)) three m3) → Laying three m3 (place + p) (transition + k) end (s + 1)
-    unfolding subnetRun
+        → ((ys : List ℕ) → Leads ys two m2 → Leads (ys ++ runs transition k (transition_run transitions arcs)) three m3) → Laying three m3 (place + p) (transition + k) end (s + 1)
+    unfolding subnet_run
     lay-more l one two three s1 s2 m1 m2 m3 p k end ep ek e1 e2 ee l1 l2 l3 f g h =
-        let q : sum_to (suc s) (λ u. entry subnets subnetFields u 2) ≡ placesBefore subnets s + entry subnets subnetFields s 2 = unfold sum_to in refl in
-        let t : sum_to (suc s) (λ u. entry subnets subnetFields u 3) ≡ transitionsBefore subnets s + entry subnets subnetFields s 3 = unfold sum_to in refl in
+        let q : sum_to (suc s) (λ u. entry subnets subnet_fields u 2) ≡ places_before subnets s + entry subnets subnet_fields s 2 = unfold sum_to in refl in
+        let t : sum_to (suc s) (λ u. entry subnets subnet_fields u 3) ≡ transitions_before subnets s + entry subnets subnet_fields s 3 = unfold sum_to in refl in
         let z : s + 1 ≡ suc s = add-one s in
-        let w : netRun s ≡ s1 ++ (s2 ++ runs transition k (transitionRun transitions arcs)) = rw (e1, e2, ep, ek, x.isPlace, x.isTransition) in
+        let w : net_run s ≡ s1 ++ (s2 ++ runs transition k (transition_run transitions arcs)) = rw (e1, e2, ep, ek, x.is_place, x.is_transition) in
         record {
           inside = omega arith;
-          isPlace = rw z (omega (arith, x.isPlace, ep, q));
-          isTransition = rw z (omega (arith, x.isTransition, ek, t));
-          isArc = ee;
+          is_place = rw z (omega (arith, x.is_place, ep, q));
+          is_transition = rw z (omega (arith, x.is_transition, ek, t));
+          is_arc = ee;
           long = l3 ∙ l2 ∙ l1 ∙ x.long;
           leads = λ xs a.
-              let v : (((xs ++ runs 0 s netRun) ++ s1) ++ s2) ++ runs transition k (transitionRun transitions arcs) ≡ xs ++ runs 0 (s + 1) netRun =
-              append_assoc ((xs ++ runs 0 s netRun) ++ s1) s2 _
-              ∙ append_assoc (xs ++ runs 0 s netRun) s1 _
-              ∙ append_assoc xs (runs 0 s netRun) _
-              ∙ ap (λ ys. xs ++ ys) (ap (λ ys. runs 0 s netRun ++ ys) (sym w ∙ ap netRun (sym (zero-add s))) ∙ sym (runs-suc 0 s netRun) ∙ ap (λ (i : ℕ). runs 0 i netRun) (sym z)) in
+              let v : (((xs ++ runs 0 s net_run) ++ s1) ++ s2) ++ runs transition k (transition_run transitions arcs) ≡ xs ++ runs 0 (s + 1) net_run =
+              append_assoc ((xs ++ runs 0 s net_run) ++ s1) s2 _
+              ∙ append_assoc (xs ++ runs 0 s net_run) s1 _
+              ∙ append_assoc xs (runs 0 s net_run) _
+              ∙ ap (λ ys. xs ++ ys) (ap (λ ys. runs 0 s net_run ++ ys) (sym w ∙ ap net_run (sym (zero-add s))) ∙ sym (runs-suc 0 s net_run) ∙ ap (λ (i : ℕ). runs 0 i net_run) (sym z)) in
               subst (λ ys. Leads ys three m3) v (h _ (g _ (f _ (x.leads xs a))));
         }
 
-    pub lay_done : length subnets / subnetFields ≤ s → (xs : List ℕ) → Leads xs old n → Leads (xs ++ runs 0 (length subnets / subnetFields) netRun) numbers m
-    lay_done l xs h = let e : s ≡ length subnets / subnetFields = omega (arith, x.inside) in rw e at (x.leads xs h)
+    pub lay_done : length subnets / subnet_fields ≤ s → (xs : List ℕ) → Leads xs old n → Leads (xs ++ runs 0 (length subnets / subnet_fields) net_run) numbers m
+    lay_done l xs h = let e : s ≡ length subnets / subnet_fields = omega (arith, x.inside) in rw e at (x.leads xs h)

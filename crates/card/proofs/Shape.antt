@@ -8,11 +8,11 @@ use native.Mathlib.Omega.{arith}
 use lib.ListN.{length, length-append}
 use lib.Dec.{ltb}
 use Rattle.card.specs.Numbers.{number}
-use Rattle.card.specs.Bits.{bit, bitField}
-use Rattle.card.specs.Card.{Header, Subnet, Place, Transition, Arc, Card, headerOf, subnetAt, placeAt, transitionAt, arcAt}
+use Rattle.card.specs.Bits.{bit, bit_field}
+use Rattle.card.specs.Card.{Header, Subnet, Place, Transition, Arc, Card, header_of, subnet_at, place_at, transition_at, arc_at}
 use Rattle.card.specs.Format.{Format, done, get, of, each, grow, ◌>>=◌}
-use Rattle.card.specs.Grammar.{header, subnet, place, transition, arc, wholeTransition, with, wholeSubnet, card}
-use Rattle.card.specs.Parsing.{Parsing, refused, whole, read, unlessFault}
+use Rattle.card.specs.Grammar.{header, subnet, place, transition, arc, whole_transition, with, whole_subnet, card}
+use Rattle.card.specs.Parsing.{Parsing, refused, whole, read, unless_fault}
 use Rattle.card.specs.declared.FormatFault.{FormatFault}
 use Rattle.card.specs.declared.FormatFault.TheVariants.{Truncated}
 use Rattle.card.specs.declared.Counts.{Counts}
@@ -30,9 +30,9 @@ abbrev pub strip : {U A : Type 0} → Format U A → Format One A
 strip m = erase (λ a. a) m
 
 -- the numbers that the bytes hold by a format
-abbrev pub numbersIn : {U A : Type 0} → (bytes : List ℕ) → Format U A → (at : ℕ) → List ℕ
-numbersIn bytes (done a) at = []
-numbersIn bytes (get w value fault next) at = bitField (bit bytes) at w ∷ numbersIn bytes (next (bitField (bit bytes) at w)) (at + w)
+abbrev pub numbers_in : {U A : Type 0} → (bytes : List ℕ) → Format U A → (at : ℕ) → List ℕ
+numbers_in bytes (done a) at = []
+numbers_in bytes (get w value fault next) at = bit_field (bit bytes) at w ∷ numbers_in bytes (next (bit_field (bit bytes) at w)) (at + w)
 
 abbrev pub part : {A B : Type 0} → (A → B) → Parsing A → Parsing B
 part f (refused n at) = refused n at
@@ -46,17 +46,17 @@ module _ {U A B : Type 0} (f : A → B) where
       rw (read-erase bytes (next v) (at + w)) (go (ltb (8 * length bytes) (at + w)) (fault v) (read bytes (next v) (at + w)))
     where
       v : ℕ
-      v = bitField (bit bytes) at w
+      v = bit_field (bit bytes) at w
 
       go : (short : Bool) (x : Option FormatFault) (r : Parsing A)
-          → cond short (refused (number Truncated) at) (unlessFault x at (part f r)) ≡ part f (cond short (refused (number Truncated) at) (unlessFault x at r))
+          → cond short (refused (number Truncated) at) (unless_fault x at (part f r)) ≡ part f (cond short (refused (number Truncated) at) (unless_fault x at r))
       go true x r = refl
       go false none r = refl
       go false (some y) r = refl
 
-  pub numbers-erase : (bytes : List ℕ) (m : Format U A) (at : ℕ) → numbersIn bytes (erase f m) at ≡ numbersIn bytes m at
+  pub numbers-erase : (bytes : List ℕ) (m : Format U A) (at : ℕ) → numbers_in bytes (erase f m) at ≡ numbers_in bytes m at
   numbers-erase bytes (done a) at = refl
-  numbers-erase bytes (get w value fault next) at = rw (numbers-erase bytes (next (bitField (bit bytes) at w)) (at + w))
+  numbers-erase bytes (get w value fault next) at = rw (numbers-erase bytes (next (bit_field (bit bytes) at w)) (at + w))
 
 -- one format, and then another
 module _ {U A B C : Type 0} where
@@ -77,66 +77,66 @@ abbrev pub times : {C : Type 0} → ℕ → (Format One C → Format One C) → 
 times zero one k = k
 times (suc n) one k = one (times n one k)
 
-pub erase-each : {U A B C : Type 0} (f : B → C) (one : ℕ → Format U A) (oneS : Format One C → Format One C)
-    → ((i : ℕ) (k : A → Format U B) (K : Format One C) → ((a : A) → erase f (k a) ≡ K) → erase f (one i >>= k) ≡ oneS K)
-    → (n from : ℕ) (k : List A → Format U B) (K : Format One C) → ((xs : List A) → length xs ≡ n → erase f (k xs) ≡ K) → erase f (each from n one >>= k) ≡ times n oneS K
+pub erase-each : {U A B C : Type 0} (f : B → C) (one : ℕ → Format U A) (one_s : Format One C → Format One C)
+    → ((i : ℕ) (k : A → Format U B) (K : Format One C) → ((a : A) → erase f (k a) ≡ K) → erase f (one i >>= k) ≡ one_s K)
+    → (n from : ℕ) (k : List A → Format U B) (K : Format One C) → ((xs : List A) → length xs ≡ n → erase f (k xs) ≡ K) → erase f (each from n one >>= k) ≡ times n one_s K
 unfolding each
-erase-each f one oneS h zero from k K g = g [] refl
-erase-each f one oneS h (suc n) from k K g =
+erase-each f one one_s h zero from k K g = g [] refl
+erase-each f one one_s h (suc n) from k K g =
     ap (erase f) (then-then (one from) _ k)
-    ∙ h from _ (times n oneS K) (λ x. ap (erase f) (then-then (each (suc from) n one) _ k) ∙ erase-each f one oneS h n (suc from) (λ xs. k (x ∷ xs)) K (λ xs l. g (x ∷ xs) (ap suc l)))
+    ∙ h from _ (times n one_s K) (λ x. ap (erase f) (then-then (each (suc from) n one) _ k) ∙ erase-each f one one_s h n (suc from) (λ xs. k (x ∷ xs)) K (λ xs l. g (x ∷ xs) (ap suc l)))
 
 -- the rows
-abbrev pub arcS : {C : Type 0} → Format One C → Format One C
-arcS k = strip arc >>= (λ a. k)
+abbrev pub arc_s : {C : Type 0} → Format One C → Format One C
+arc_s k = strip arc >>= (λ a. k)
 
-abbrev pub placeS : {C : Type 0} → (s : ℕ) → Format One C → Format One C
-placeS s k = strip (place s) >>= (λ p. k)
+abbrev pub place_s : {C : Type 0} → (s : ℕ) → Format One C → Format One C
+place_s s k = strip (place s) >>= (λ p. k)
 
-abbrev pub transitionS : {C : Type 0} → (v g : ℕ) → Format One C → Format One C
-transitionS v g k = strip (transition v g) >>= (λ r. times r.arcs arcS k)
+abbrev pub transition_s : {C : Type 0} → (v g : ℕ) → Format One C → Format One C
+transition_s v g k = strip (transition v g) >>= (λ r. times r.arcs arc_s k)
 
-abbrev pub subnetS : {C : Type 0} → (v g s p t : ℕ) → (ℕ → ℕ → Format One C) → Format One C
-subnetS v g s p t k = strip (subnet s p t) >>= (λ r. times r.places (placeS s) (times r.transitions (transitionS v g) (k (p + r.places) (t + r.transitions))))
+abbrev pub subnet_s : {C : Type 0} → (v g s p t : ℕ) → (ℕ → ℕ → Format One C) → Format One C
+subnet_s v g s p t k = strip (subnet s p t) >>= (λ r. times r.places (place_s s) (times r.transitions (transition_s v g) (k (p + r.places) (t + r.transitions))))
 
-unfoldable pub subnetsS : (v g n s p t : ℕ) → Format One Counts
-subnetsS v g zero s p t = done (record { subnets = s; places = p; transitions = t })
-subnetsS v g (suc n) s p t = subnetS v g s p t (λ q u. subnetsS v g n (suc s) q u)
+unfoldable pub subnets_s : (v g n s p t : ℕ) → Format One Counts
+subnets_s v g zero s p t = done (record { subnets = s; places = p; transitions = t })
+subnets_s v g (suc n) s p t = subnet_s v g s p t (λ q u. subnets_s v g n (suc s) q u)
 
-unfoldable pub cardS : Format One Counts
-cardS = strip header >>= (λ h. subnetsS h.version h.signals h.subnets 0 0 0)
+unfoldable pub card_s : Format One Counts
+card_s = strip header >>= (λ h. subnets_s h.version h.signals h.subnets 0 0 0)
 
-abbrev pub countsOf : Card → Counts
-countsOf c = record { subnets = length c.subnets; places = length c.places; transitions = length c.transitions }
+abbrev pub counts_of : Card → Counts
+counts_of c = record { subnets = length c.subnets; places = length c.places; transitions = length c.transitions }
 
 module _ {B C : Type 0} (f : B → C) where
   erase-row : {U A : Type 0} (p : Card → U) (m : Format U A) (k : A → Format Card B) (K : Format One C) → ((a : A) → erase f (k a) ≡ K) → erase f (of p m >>= k) ≡ strip m >>= (λ a. K)
   erase-row p m k K h = erase-then f (of p m) k (λ a. K) h ∙ ap (λ (x : Format One _). x >>= (λ a. K)) (strip-of p m)
 
-  erase-wholeTransition : (v g t : ℕ) (k : Transition × List Arc → Format Card B) (K : Format One C) → ((x : Transition × List Arc) → erase f (k x) ≡ K)
-      → erase f (wholeTransition v g t >>= k) ≡ transitionS v g K
-  unfolding wholeTransition
-  erase-wholeTransition v g t k K h =
-      ap (erase f) (then-then (of (λ (c : Card). transitionAt c t) (transition v g)) _ k)
-      ∙ erase-then f (of (λ (c : Card). transitionAt c t) (transition v g)) _ (λ r. times r.arcs arcS K)
-      (λ r. ap (erase f) (then-then (each 0 r.arcs (λ j. of (λ (c : Card). arcAt c t j) arc)) _ k)
-      ∙ erase-each f (λ j. of (λ (c : Card). arcAt c t j) arc) arcS (λ j. erase-row (λ (c : Card). arcAt c t j) arc) r.arcs 0 (λ xs. k (r, xs)) K (λ xs l. h (r, xs)))
-      ∙ ap (λ (x : Format One Transition). x >>= (λ r. times r.arcs arcS K)) (strip-of (λ (c : Card). transitionAt c t) (transition v g))
+  erase-whole_transition : (v g t : ℕ) (k : Transition × List Arc → Format Card B) (K : Format One C) → ((x : Transition × List Arc) → erase f (k x) ≡ K)
+      → erase f (whole_transition v g t >>= k) ≡ transition_s v g K
+  unfolding whole_transition
+  erase-whole_transition v g t k K h =
+      ap (erase f) (then-then (of (λ (c : Card). transition_at c t) (transition v g)) _ k)
+      ∙ erase-then f (of (λ (c : Card). transition_at c t) (transition v g)) _ (λ r. times r.arcs arc_s K)
+      (λ r. ap (erase f) (then-then (each 0 r.arcs (λ j. of (λ (c : Card). arc_at c t j) arc)) _ k)
+      ∙ erase-each f (λ j. of (λ (c : Card). arc_at c t j) arc) arc_s (λ j. erase-row (λ (c : Card). arc_at c t j) arc) r.arcs 0 (λ xs. k (r, xs)) K (λ xs l. h (r, xs)))
+      ∙ ap (λ (x : Format One Transition). x >>= (λ r. times r.arcs arc_s K)) (strip-of (λ (c : Card). transition_at c t) (transition v g))
 
-  erase-wholeSubnet : (c : Card) (k : Card → Format Card B) (K : ℕ → ℕ → Format One C)
+  erase-whole_subnet : (c : Card) (k : Card → Format Card B) (K : ℕ → ℕ → Format One C)
       → ((r : Subnet) (ps : List Place) (ts : List (Transition × List Arc)) → length ps ≡ r.places → length ts ≡ r.transitions
       → erase f (k (with c r ps ts)) ≡ K (length c.places + r.places) (length c.transitions + r.transitions))
-      → erase f (wholeSubnet c >>= k) ≡ subnetS c.version c.signals (length c.subnets) (length c.places) (length c.transitions) K
-  unfolding wholeSubnet
-  erase-wholeSubnet c k K h =
-      ap (erase f) (then-then (of (λ (d : Card). subnetAt d s) (subnet s p t)) _ k)
-      ∙ erase-then f (of (λ (d : Card). subnetAt d s) (subnet s p t)) _ (λ r. times r.places (placeS s) (times r.transitions (transitionS c.version c.signals) (K (p + r.places) (t + r.transitions))))
-      (λ r. ap (erase f) (then-then (each p r.places (λ i. of (λ (d : Card). placeAt d i) (place s))) _ k)
-      ∙ erase-each f (λ i. of (λ (d : Card). placeAt d i) (place s)) (placeS s) (λ i. erase-row (λ (d : Card). placeAt d i) (place s)) r.places p _ _
-      (λ ps lp. ap (erase f) (then-then (each t r.transitions (wholeTransition c.version c.signals)) _ k)
-      ∙ erase-each f (wholeTransition c.version c.signals) (transitionS c.version c.signals) (λ u. erase-wholeTransition c.version c.signals u) r.transitions t _ _ (λ ts lt. h r ps ts lp lt)))
-      ∙ ap (λ (x : Format One Subnet). x >>= (λ r. times r.places (placeS s) (times r.transitions (transitionS c.version c.signals) (K (p + r.places) (t + r.transitions)))))
-      (strip-of (λ (d : Card). subnetAt d s) (subnet s p t))
+      → erase f (whole_subnet c >>= k) ≡ subnet_s c.version c.signals (length c.subnets) (length c.places) (length c.transitions) K
+  unfolding whole_subnet
+  erase-whole_subnet c k K h =
+      ap (erase f) (then-then (of (λ (d : Card). subnet_at d s) (subnet s p t)) _ k)
+      ∙ erase-then f (of (λ (d : Card). subnet_at d s) (subnet s p t)) _ (λ r. times r.places (place_s s) (times r.transitions (transition_s c.version c.signals) (K (p + r.places) (t + r.transitions))))
+      (λ r. ap (erase f) (then-then (each p r.places (λ i. of (λ (d : Card). place_at d i) (place s))) _ k)
+      ∙ erase-each f (λ i. of (λ (d : Card). place_at d i) (place s)) (place_s s) (λ i. erase-row (λ (d : Card). place_at d i) (place s)) r.places p _ _
+      (λ ps lp. ap (erase f) (then-then (each t r.transitions (whole_transition c.version c.signals)) _ k)
+      ∙ erase-each f (whole_transition c.version c.signals) (transition_s c.version c.signals) (λ u. erase-whole_transition c.version c.signals u) r.transitions t _ _ (λ ts lt. h r ps ts lp lt)))
+      ∙ ap (λ (x : Format One Subnet). x >>= (λ r. times r.places (place_s s) (times r.transitions (transition_s c.version c.signals) (K (p + r.places) (t + r.transitions)))))
+      (strip-of (λ (d : Card). subnet_at d s) (subnet s p t))
     where
       s : ℕ
       s = length c.subnets
@@ -147,11 +147,11 @@ module _ {B C : Type 0} (f : B → C) where
       t : ℕ
       t = length c.transitions
 
-erase-grow : (n : ℕ) (c : Card) → erase countsOf (grow n wholeSubnet c) ≡ subnetsS c.version c.signals n (length c.subnets) (length c.places) (length c.transitions)
-unfolding grow subnetsS
+erase-grow : (n : ℕ) (c : Card) → erase counts_of (grow n whole_subnet c) ≡ subnets_s c.version c.signals n (length c.subnets) (length c.places) (length c.transitions)
+unfolding grow subnets_s
 erase-grow zero c = refl
 erase-grow (suc n) c =
-    erase-wholeSubnet countsOf c (grow n wholeSubnet) (λ q u. subnetsS c.version c.signals n (suc (length c.subnets)) q u)
+    erase-whole_subnet counts_of c (grow n whole_subnet) (λ q u. subnets_s c.version c.signals n (suc (length c.subnets)) q u)
     (λ r ps ts lp lt.
     let a : length (c.subnets ++ (r ∷ [])) ≡ suc (length c.subnets) = length-append c.subnets (r ∷ []) ∙ omega arith in
     let b : length (c.places ++ ps) ≡ length c.places + r.places = length-append c.places ps ∙ ap (λ (x : ℕ). length c.places + x) lp in
@@ -160,14 +160,14 @@ erase-grow (suc n) c =
     erase-grow n (with c r ps ts) ∙ rw (a, b, d))
 
 -- THE SHAPE OF THE GRAMMAR
-pub erase-card : erase countsOf card ≡ cardS
-unfolding card cardS
+pub erase-card : erase counts_of card ≡ card_s
+unfolding card card_s
 erase-card =
-    erase-then countsOf (of headerOf header) _ (λ h. subnetsS h.version h.signals h.subnets 0 0 0) (λ h. erase-grow h.subnets _)
-    ∙ ap (λ (x : Format One Header). x >>= (λ h. subnetsS h.version h.signals h.subnets 0 0 0)) (strip-of headerOf header)
+    erase-then counts_of (of header_of header) _ (λ h. subnets_s h.version h.signals h.subnets 0 0 0) (λ h. erase-grow h.subnets _)
+    ∙ ap (λ (x : Format One Header). x >>= (λ h. subnets_s h.version h.signals h.subnets 0 0 0)) (strip-of header_of header)
 
-pub read-shape : (bytes : List ℕ) → read bytes cardS 0 ≡ part countsOf (read bytes card 0)
-read-shape bytes = ap (λ (m : Format One Counts). read bytes m 0) (sym erase-card) ∙ read-erase countsOf bytes card 0
+pub read-shape : (bytes : List ℕ) → read bytes card_s 0 ≡ part counts_of (read bytes card 0)
+read-shape bytes = ap (λ (m : Format One Counts). read bytes m 0) (sym erase-card) ∙ read-erase counts_of bytes card 0
 
-pub numbers-shape : (bytes : List ℕ) → numbersIn bytes cardS 0 ≡ numbersIn bytes card 0
-numbers-shape bytes = ap (λ (m : Format One Counts). numbersIn bytes m 0) (sym erase-card) ∙ numbers-erase countsOf bytes card 0
+pub numbers-shape : (bytes : List ℕ) → numbers_in bytes card_s 0 ≡ numbers_in bytes card 0
+numbers-shape bytes = ap (λ (m : Format One Counts). numbers_in bytes m 0) (sym erase-card) ∙ numbers-erase counts_of bytes card 0

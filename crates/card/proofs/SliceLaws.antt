@@ -8,9 +8,9 @@ use native.Mathlib.Nat.{mul-zero, zero-mod, add-mod_left, div-add-mod}
 use lib.ListN.{length, take, drop, length-append}
 use lib.Seq.{take-length, take_at, drop_at}
 use Rattle.card.specs.Finite.{table}
-use Rattle.card.specs.Card.{Card, subnetFields, placeFields, transitionFields, arcFields}
+use Rattle.card.specs.Card.{Card, subnet_fields, place_fields, transition_fields, arc_fields}
 use Rattle.card.specs.Writing.{read_tables}
-use Rattle.card.specs.Rows.{entry, subnetIn, place_in, transitionIn, arcIn, tablesIn, CardSlices, onSlices, rows_of, wholeRows, readRows}
+use Rattle.card.specs.Rows.{entry, subnet_in, place_in, transition_in, arc_in, tables_in, CardSlices, on_slices, rows_of, whole_rows, read_rows}
 use Rattle.card.specs.inner.Runs.{runs}
 use Rattle.card.proofs.Sums.{table-length}
 use Rattle.card.proofs.RowNumbers.{runs_same}
@@ -58,39 +58,39 @@ module _ {A : Type 0} (w : ℕ) (row : A → List ℕ) (at : List ℕ → ℕ �
   rows-table xs = flat-same (table 0 (length (flat_map row xs) / w) (at (flat_map row xs))) xs (table-rows (flat_map row xs) (flat-whole xs))
 
 -- A CARD'S SLICES ARE WHOLE ROWS, AND HOLD ITS TABLES
-pub rows_whole : (c : Card) → wholeRows (rows_of c).subnets (rows_of c).places (rows_of c).transitions (rows_of c).arcs ≡ true
-unfolding rows_of wholeRows table
+pub rows_whole : (c : Card) → whole_rows (rows_of c).subnets (rows_of c).places (rows_of c).transitions (rows_of c).arcs ≡ true
+unfolding rows_of whole_rows table
 rows_whole c =
     rw (
-      flat-whole subnetFields _ subnetIn (omega arith) (λ s i. refl) (λ a. refl) c.subnets,
-      flat-whole placeFields _ place_in (omega arith) (λ s i. refl) (λ a. refl) c.places,
-      flat-whole transitionFields _ transitionIn (omega arith) (λ s i. refl) (λ a. refl) c.transitions,
-      flat-whole arcFields _ arcIn (omega arith) (λ s i. refl) (λ a. refl) c.arcs,
+      flat-whole subnet_fields _ subnet_in (omega arith) (λ s i. refl) (λ a. refl) c.subnets,
+      flat-whole place_fields _ place_in (omega arith) (λ s i. refl) (λ a. refl) c.places,
+      flat-whole transition_fields _ transition_in (omega arith) (λ s i. refl) (λ a. refl) c.transitions,
+      flat-whole arc_fields _ arc_in (omega arith) (λ s i. refl) (λ a. refl) c.arcs,
     )
 
-pub rows-tables : (c : Card) → onSlices tablesIn (rows_of c) ≡ c
-unfolding rows_of tablesIn table
+pub rows-tables : (c : Card) → on_slices tables_in (rows_of c) ≡ c
+unfolding rows_of tables_in table
 rows-tables c =
     rw (
-      rows-table subnetFields _ subnetIn (omega arith) (λ s i. refl) (λ a. refl) c.subnets,
-      rows-table placeFields _ place_in (omega arith) (λ s i. refl) (λ a. refl) c.places,
-      rows-table transitionFields _ transitionIn (omega arith) (λ s i. refl) (λ a. refl) c.transitions,
-      rows-table arcFields _ arcIn (omega arith) (λ s i. refl) (λ a. refl) c.arcs,
+      rows-table subnet_fields _ subnet_in (omega arith) (λ s i. refl) (λ a. refl) c.subnets,
+      rows-table place_fields _ place_in (omega arith) (λ s i. refl) (λ a. refl) c.places,
+      rows-table transition_fields _ transition_in (omega arith) (λ s i. refl) (λ a. refl) c.transitions,
+      rows-table arc_fields _ arc_in (omega arith) (λ s i. refl) (λ a. refl) c.arcs,
     )
 
 -- SLICES OF WHOLE ROWS ARE THOSE OF THE TABLES THAT THEY HOLD
-pub tables-rows : (x : CardSlices) → wholeRows x.subnets x.places x.transitions x.arcs ≡ true → rows_of (onSlices tablesIn x) ≡ x
-unfolding rows_of tablesIn table
+pub tables-rows : (x : CardSlices) → whole_rows x.subnets x.places x.transitions x.arcs ≡ true → rows_of (on_slices tables_in x) ≡ x
+unfolding rows_of tables_in table
 tables-rows x e =
     let h = whole_is x.head x.subnets x.places x.transitions x.arcs e in
     rw (
-      table-rows subnetFields _ subnetIn (omega arith) (λ s i. refl) (λ a. refl) x.subnets h.subnetsEnd,
-      table-rows placeFields _ place_in (omega arith) (λ s i. refl) (λ a. refl) x.places h.placesEnd,
-      table-rows transitionFields _ transitionIn (omega arith) (λ s i. refl) (λ a. refl) x.transitions h.transitionsEnd,
-      table-rows arcFields _ arcIn (omega arith) (λ s i. refl) (λ a. refl) x.arcs h.arcsEnd,
+      table-rows subnet_fields _ subnet_in (omega arith) (λ s i. refl) (λ a. refl) x.subnets h.subnets_end,
+      table-rows place_fields _ place_in (omega arith) (λ s i. refl) (λ a. refl) x.places h.places_end,
+      table-rows transition_fields _ transition_in (omega arith) (λ s i. refl) (λ a. refl) x.transitions h.transitions_end,
+      table-rows arc_fields _ arc_in (omega arith) (λ s i. refl) (λ a. refl) x.arcs h.arcs_end,
     )
 
 -- so the writer reads them as these tables
-pub read-rows : (c : Card) → onSlices readRows (rows_of c) ≡ read_tables c
-unfolding readRows
+pub read-rows : (c : Card) → on_slices read_rows (rows_of c) ≡ read_tables c
+unfolding read_rows
 read-rows c = rw (rows_whole c, rows-tables c)

@@ -8,9 +8,9 @@ use lib.ListN.{length, get_or}
 use lib.Dec.{ltb, eqb}
 use borrow.Author.Tests.{ltb-true, lt-ltb}
 use Rattle.card.specs.Finite.{sum_to}
-use Rattle.card.specs.Card.{Card, Subnet, Transition, subnetAt, placeAt, transitionAt, firstPlace, firstTransition, firstArc, noArc, subnetFields, placeFields, transitionFields, arcFields}
+use Rattle.card.specs.Card.{Card, Subnet, Transition, subnet_at, place_at, transition_at, first_place, first_transition, first_arc, no_arc, subnet_fields, place_fields, transition_fields, arc_fields}
 use Rattle.card.specs.Writing.{counted}
-use Rattle.card.specs.Rows.{entry, subnetIn, place_in, transitionIn, arcIn, tablesIn}
+use Rattle.card.specs.Rows.{entry, subnet_in, place_in, transition_in, arc_in, tables_in}
 use Rattle.card.specs.inner.Runs.{column_sum, Tells, HeaderFits}
 use Rattle.card.specs.inner.Layout.{width_at}
 use Rattle.card.specs.declared.layout.Phase.TheVariants.{Version, SubnetCount, SignalCount, Limit, Scale}
@@ -42,54 +42,54 @@ tells-header h s n a b d f e =
 
 module _ (head : Head) (subnets places transitions arcs : List ℕ) where
   abbrev c : Card
-  c = tablesIn head subnets places transitions arcs
+  c = tables_in head subnets places transitions arcs
 
-  pub subnet-row : (s : ℕ) → s < length subnets / subnetFields → subnetAt c s ≡ subnetIn subnets s
-  unfolding tablesIn
-  subnet-row s l = table_at (length subnets / subnetFields) _ _ s l
+  pub subnet-row : (s : ℕ) → s < length subnets / subnet_fields → subnet_at c s ≡ subnet_in subnets s
+  unfolding tables_in
+  subnet-row s l = table_at (length subnets / subnet_fields) _ _ s l
 
-  pub place-row : (p : ℕ) → p < length places / placeFields → placeAt c p ≡ place_in places p
-  unfolding tablesIn
-  place-row p l = table_at (length places / placeFields) _ _ p l
+  pub place-row : (p : ℕ) → p < length places / place_fields → place_at c p ≡ place_in places p
+  unfolding tables_in
+  place-row p l = table_at (length places / place_fields) _ _ p l
 
-  pub transition-row : (t : ℕ) → t < length transitions / transitionFields → transitionAt c t ≡ transitionIn transitions t
-  unfolding tablesIn
-  transition-row t l = table_at (length transitions / transitionFields) _ _ t l
+  pub transition-row : (t : ℕ) → t < length transitions / transition_fields → transition_at c t ≡ transition_in transitions t
+  unfolding tables_in
+  transition-row t l = table_at (length transitions / transition_fields) _ _ t l
 
-  pub arc-row : (a : ℕ) → a < length arcs / arcFields → get_or c.arcs a noArc ≡ arcIn arcs a
-  unfolding tablesIn
-  arc-row a l = table_at (length arcs / arcFields) _ _ a l
+  pub arc-row : (a : ℕ) → a < length arcs / arc_fields → get_or c.arcs a no_arc ≡ arc_in arcs a
+  unfolding tables_in
+  arc-row a l = table_at (length arcs / arc_fields) _ _ a l
 
-  pub subnet-count : length c.subnets ≡ length subnets / subnetFields
-  unfolding tablesIn
-  subnet-count = table-length 0 (length subnets / subnetFields) _
+  pub subnet-count : length c.subnets ≡ length subnets / subnet_fields
+  unfolding tables_in
+  subnet-count = table-length 0 (length subnets / subnet_fields) _
 
-  pub place-count : length c.places ≡ length places / placeFields
-  unfolding tablesIn
-  place-count = table-length 0 (length places / placeFields) _
+  pub place-count : length c.places ≡ length places / place_fields
+  unfolding tables_in
+  place-count = table-length 0 (length places / place_fields) _
 
-  pub transition-count : length c.transitions ≡ length transitions / transitionFields
-  unfolding tablesIn
-  transition-count = table-length 0 (length transitions / transitionFields) _
+  pub transition-count : length c.transitions ≡ length transitions / transition_fields
+  unfolding tables_in
+  transition-count = table-length 0 (length transitions / transition_fields) _
 
-  pub arc-count : length c.arcs ≡ length arcs / arcFields
-  unfolding tablesIn
-  arc-count = table-length 0 (length arcs / arcFields) _
+  pub arc-count : length c.arcs ≡ length arcs / arc_fields
+  unfolding tables_in
+  arc-count = table-length 0 (length arcs / arc_fields) _
 
   -- the first numbers are sums of columns
-  pub place-sum : (s : ℕ) → s ≤ length subnets / subnetFields → firstPlace c s ≡ sum_to s (λ i. entry subnets subnetFields i 2)
-  unfolding firstPlace
+  pub place-sum : (s : ℕ) → s ≤ length subnets / subnet_fields → first_place c s ≡ sum_to s (λ i. entry subnets subnet_fields i 2)
+  unfolding first_place
   place-sum s l = sum_same s _ _ (λ i m. ap (λ (r : Subnet). r.places) (subnet-row i (omega arith)))
 
-  pub transition-sum : (s : ℕ) → s ≤ length subnets / subnetFields → firstTransition c s ≡ sum_to s (λ i. entry subnets subnetFields i 3)
-  unfolding firstTransition
+  pub transition-sum : (s : ℕ) → s ≤ length subnets / subnet_fields → first_transition c s ≡ sum_to s (λ i. entry subnets subnet_fields i 3)
+  unfolding first_transition
   transition-sum s l = sum_same s _ _ (λ i m. ap (λ (r : Subnet). r.transitions) (subnet-row i (omega arith)))
 
-  pub arc-sum : (t : ℕ) → t ≤ length transitions / transitionFields → firstArc c t ≡ sum_to t (λ i. entry transitions transitionFields i 1)
-  unfolding firstArc
+  pub arc-sum : (t : ℕ) → t ≤ length transitions / transition_fields → first_arc c t ≡ sum_to t (λ i. entry transitions transition_fields i 1)
+  unfolding first_arc
   arc-sum t l = sum_same t _ _ (λ i m. ap (λ (r : Transition). r.arcs) (transition-row i (omega arith)))
 
-  pub counted-sums : counted c ≡ eqb (length places / placeFields) (column_sum subnets subnetFields 2) && eqb (length transitions / transitionFields) (column_sum subnets subnetFields 3) && eqb (length arcs / arcFields) (column_sum transitions transitionFields 1)
+  pub counted-sums : counted c ≡ eqb (length places / place_fields) (column_sum subnets subnet_fields 2) && eqb (length transitions / transition_fields) (column_sum subnets subnet_fields 3) && eqb (length arcs / arc_fields) (column_sum transitions transition_fields 1)
   unfolding counted
   counted-sums =
-      rw (place-count, transition-count, arc-count, subnet-count, place-sum (length subnets / subnetFields) (omega arith), transition-sum (length subnets / subnetFields) (omega arith), arc-sum (length transitions / transitionFields) (omega arith))
+      rw (place-count, transition-count, arc-count, subnet-count, place-sum (length subnets / subnet_fields) (omega arith), transition-sum (length subnets / subnet_fields) (omega arith), arc-sum (length transitions / transition_fields) (omega arith))

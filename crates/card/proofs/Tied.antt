@@ -10,22 +10,22 @@ use lib.ListN.{length}
 use lib.Dec.{ltb}
 use Rattle.card.specs.Finite.{table, All}
 use Rattle.card.specs.Numbers.{number}
-use Rattle.card.specs.Bits.{bit, bitField}
-use Rattle.card.specs.Card.{Header, Subnet, Place, Transition, Arc, Card, headerOf, subnetAt, placeAt, transitionAt, arcAt}
+use Rattle.card.specs.Bits.{bit, bit_field}
+use Rattle.card.specs.Card.{Header, Subnet, Place, Transition, Arc, Card, header_of, subnet_at, place_at, transition_at, arc_at}
 use Rattle.card.specs.Format.{Format, done, get, of, each, grow, ◌>>=◌}
-use Rattle.card.specs.Grammar.{header, subnet, place, transition, arc, wholeTransition, with, wholeSubnet, card, rankWidth, limitWidth, scaleWidth}
+use Rattle.card.specs.Grammar.{header, subnet, place, transition, arc, whole_transition, with, whole_subnet, card, rank_width, limit_width, scale_width}
 use Rattle.card.specs.Wellformed.{Wellformed}
-use Rattle.card.specs.Parsing.{refused, whole, read, unlessFault}
+use Rattle.card.specs.Parsing.{refused, whole, read, unless_fault}
 use Rattle.card.specs.Writing.{Field, fields}
 use Rattle.card.specs.declared.FormatFault.{FormatFault}
 use Rattle.card.specs.declared.FormatFault.TheVariants.{Truncated}
 use Rattle.card.proofs.Sums.{total-append, table-length, all_more, all-table}
-use Rattle.card.proofs.Ranges.{TransitionArcs, wholeTransition-yields, After, wholeSubnet-yields, start, no-subnets, grow-yields, card-yields}
+use Rattle.card.proofs.Ranges.{TransitionArcs, whole_transition-yields, After, whole_subnet-yields, start, no-subnets, grow-yields, card-yields}
 use Rattle.card.proofs.Sound.{rows-counted}
 use Rattle.card.proofs.Extends.{Extends, grow-extends, extends-prefix}
 use Rattle.card.proofs.Yields.{Listed, not-whole, yields-read, yields_each}
 use Rattle.card.proofs.Walk.{bits, built, Spelt, fields-then, fields-of, built_of}
-use Rattle.card.proofs.Prefix.{Counted, prefix, arcsOf, table_same, built-arc, built-place, built-subnet, built-transition, built-header, built-wholeTransition, built-wholeSubnet, built-more, prefix-none}
+use Rattle.card.proofs.Prefix.{Counted, prefix, arcs_of, table_same, built-arc, built-place, built-subnet, built-transition, built-header, built-whole_transition, built-whole_subnet, built-more, prefix-none}
 
 module _ (bytes : List ℕ) where
   -- reading one format and then another is reading the one, and the other from where it ended
@@ -38,8 +38,8 @@ module _ (bytes : List ℕ) where
   -- a field that is read holds no fault and lies within the bytes
   pub record Got {U A : Type 0} (w : ℕ) (fault : ℕ → Option FormatFault) (next : ℕ → Format U A) (at : ℕ) (a : A) (end : ℕ) : Type 0 where
     pub inside : ltb (8 * length bytes) (at + w) ≡ false
-    pub right : fault (bitField (bit bytes) at w) ≡ none
-    pub rest : read bytes (next (bitField (bit bytes) at w)) (at + w) ≡ whole a end
+    pub right : fault (bit_field (bit bytes) at w) ≡ none
+    pub rest : read bytes (next (bit_field (bit bytes) at w)) (at + w) ≡ whole a end
 
   module _ {U A : Type 0} where
     pub read-get : (w : ℕ) (value : U → ℕ) (fault : ℕ → Option FormatFault) (next : ℕ → Format U A) (at : ℕ) (a : A) (end : ℕ)
@@ -48,10 +48,10 @@ module _ (bytes : List ℕ) where
     read-get w value fault next at a end e = go (ltb (8 * length bytes) (at + w)) (fault v) refl refl e
       where
         v : ℕ
-        v = bitField (bit bytes) at w
+        v = bit_field (bit bytes) at w
 
         go : (short : Bool) (x : Option FormatFault) → ltb (8 * length bytes) (at + w) ≡ short → fault v ≡ x
-            → cond short (refused (number Truncated) at) (unlessFault x at (read bytes (next v) (at + w))) ≡ whole a end → Got w fault next at a end
+            → cond short (refused (number Truncated) at) (unless_fault x at (read bytes (next v) (at + w))) ≡ whole a end → Got w fault next at a end
         go true x p q r = absurd (not-whole _ _ _ _ r)
         go false (some f) p q r = absurd (not-whole _ _ _ _ r)
         go false none p q r = record { inside = p; right = q; rest = r }
@@ -66,7 +66,7 @@ module _ (bytes : List ℕ) where
     split (done a) k at b end e = record { value = a; seam = at; first = unfold read in refl; second = e }
     split (get w value fault next) k at b end e =
         let g = read-get w value fault (λ v. next v >>= k) at b end e in
-        let s = split (next (bitField (bit bytes) at w)) k (at + w) b end g.rest in
+        let s = split (next (bit_field (bit bytes) at w)) k (at + w) b end g.rest in
         record {
           value = s.value;
           seam = s.seam;
@@ -78,7 +78,7 @@ module _ (bytes : List ℕ) where
     pub read_of : (part : W → U) (m : Format U A) (at : ℕ) → read bytes (of part m) at ≡ read bytes m at
     unfolding read
     read_of part (done a) at = refl
-    read_of part (get w value fault next) at = rw (read_of part (next (bitField (bit bytes) at w)) (at + w))
+    read_of part (get w value fault next) at = rw (read_of part (next (bit_field (bit bytes) at w)) (at + w))
 
   -- the bytes from one bit to another spell the fields of u
   pub record Spells {U A : Type 0} (m : Format U A) (u : U) (at end : ℕ) : Type 0 where
@@ -129,7 +129,7 @@ module _ (bytes : List ℕ) where
       let a = read-get _ _ _ _ at r end e in
       let b = read-get _ _ _ _ (at + 6) r end a.rest in
       let c = read-get _ _ _ _ (at + 6 + 5) r end b.rest in
-      let d = read_done Transition _ r (at + 6 + 5 + rankWidth v) end c.rest in
+      let d = read_done Transition _ r (at + 6 + 5 + rank_width v) end c.rest in
       record {
         spelt = (ap (λ (x : Transition). x.signal) d.0, (ap (λ (x : Transition). x.arcs) d.0, (ap (λ (x : Transition). x.rank) d.0, tt)));
         ends = omega (arith, d.1);
@@ -168,9 +168,9 @@ module _ (bytes : List ℕ) where
       let b = read-get _ _ _ _ (at + 4) r end a.rest in
       let c = read-get _ _ _ _ (at + 4 + 6) r end b.rest in
       let l = read-get _ _ _ _ (at + 4 + 6 + 6) r end c.rest in
-      let v = bitField (bit bytes) at 4 in
-      let m = read-get _ _ _ _ (at + 4 + 6 + 6 + limitWidth v) r end l.rest in
-      let d = read_done Header _ r (at + 4 + 6 + 6 + limitWidth v + scaleWidth v) end m.rest in
+      let v = bit_field (bit bytes) at 4 in
+      let m = read-get _ _ _ _ (at + 4 + 6 + 6 + limit_width v) r end l.rest in
+      let d = read_done Header _ r (at + 4 + 6 + 6 + limit_width v + scale_width v) end m.rest in
       let ev : v ≡ r.version = ap (λ (x : Header). x.version) d.0 in
       record {
         spelt = (ev, (ap (λ (x : Header). x.subnets) d.0, (ap (λ (x : Header). x.signals) d.0, rw (← ev) (ap (λ (x : Header). x.limit) d.0, (ap (λ (x : Header). x.scale) d.0, tt)))));
@@ -200,25 +200,25 @@ module _ (bytes : List ℕ) where
       let y = tied-each (suc from) n one u h s.seam t.value t.seam t.first b in
       spells_then (one from) _ u at s.seam end x (spells_then (each (suc from) n one) _ u s.seam t.seam end y (spells-done _ u t.seam end d.1))
 
-  tied-wholeTransition : (c : Card) (v g t at : ℕ) (x : Transition × List Arc) (end : ℕ) → read bytes (wholeTransition v g t) at ≡ whole x end
-      → x ≡ (transitionAt c t, arcsOf c t) → Spells (wholeTransition v g t) c at end
-  unfolding wholeTransition arcsOf
-  tied-wholeTransition c v g t at x end e q =
-      let s = split (of (λ (d : Card). transitionAt d t) (transition v g)) _ at x end e in
-      let f = split (each 0 s.value.arcs (λ j. of (λ (d : Card). arcAt d t j) arc)) _ s.seam x end s.second in
+  tied-whole_transition : (c : Card) (v g t at : ℕ) (x : Transition × List Arc) (end : ℕ) → read bytes (whole_transition v g t) at ≡ whole x end
+      → x ≡ (transition_at c t, arcs_of c t) → Spells (whole_transition v g t) c at end
+  unfolding whole_transition arcs_of
+  tied-whole_transition c v g t at x end e q =
+      let s = split (of (λ (d : Card). transition_at d t) (transition v g)) _ at x end e in
+      let f = split (each 0 s.value.arcs (λ j. of (λ (d : Card). arc_at d t j) arc)) _ s.seam x end s.second in
       let d = read_done Card (s.value, f.value) x f.seam end f.second in
-      let a : s.value ≡ transitionAt c t = ap (λ (y : Transition × List Arc). y.0) (d.0 ∙ q) in
-      let b : f.value ≡ table 0 (transitionAt c t).arcs (λ j. arcAt c t j) = ap (λ (y : Transition × List Arc). y.1) (d.0 ∙ q) in
-      let r : read bytes (each 0 (transitionAt c t).arcs (λ j. of (λ (d : Card). arcAt d t j) arc)) s.seam ≡ whole f.value f.seam =
-      subst (λ (y : Transition). read bytes (each 0 y.arcs (λ j. of (λ (d : Card). arcAt d t j) arc)) s.seam ≡ whole f.value f.seam) a f.first in
-      spells_then (of (λ (d : Card). transitionAt d t) (transition v g)) _ c at s.seam end
-      (tied_of (λ (d : Card). transitionAt d t) (transition v g) c at s.value s.seam (λ y. tied-transition v g at y s.seam) s.first a)
-      (rw (built_of (λ (d : Card). transitionAt d t) (transition v g) c, built-transition v g (transitionAt c t))
-      (spells_then (each 0 (transitionAt c t).arcs (λ j. of (λ (d : Card). arcAt d t j) arc)) _ c s.seam f.seam end
-      (tied-each 0 (transitionAt c t).arcs _ c
-      (λ j k y h p l. tied_of (λ (d : Card). arcAt d t j) arc c k y h (λ z. tied-arc k z h) p (l ∙ built_of (λ (d : Card). arcAt d t j) arc c ∙ built-arc (arcAt c t j)))
+      let a : s.value ≡ transition_at c t = ap (λ (y : Transition × List Arc). y.0) (d.0 ∙ q) in
+      let b : f.value ≡ table 0 (transition_at c t).arcs (λ j. arc_at c t j) = ap (λ (y : Transition × List Arc). y.1) (d.0 ∙ q) in
+      let r : read bytes (each 0 (transition_at c t).arcs (λ j. of (λ (d : Card). arc_at d t j) arc)) s.seam ≡ whole f.value f.seam =
+      subst (λ (y : Transition). read bytes (each 0 y.arcs (λ j. of (λ (d : Card). arc_at d t j) arc)) s.seam ≡ whole f.value f.seam) a f.first in
+      spells_then (of (λ (d : Card). transition_at d t) (transition v g)) _ c at s.seam end
+      (tied_of (λ (d : Card). transition_at d t) (transition v g) c at s.value s.seam (λ y. tied-transition v g at y s.seam) s.first a)
+      (rw (built_of (λ (d : Card). transition_at d t) (transition v g) c, built-transition v g (transition_at c t))
+      (spells_then (each 0 (transition_at c t).arcs (λ j. of (λ (d : Card). arc_at d t j) arc)) _ c s.seam f.seam end
+      (tied-each 0 (transition_at c t).arcs _ c
+      (λ j k y h p l. tied_of (λ (d : Card). arc_at d t j) arc c k y h (λ z. tied-arc k z h) p (l ∙ built_of (λ (d : Card). arc_at d t j) arc c ∙ built-arc (arc_at c t j)))
       s.seam f.value f.seam r
-      (b ∙ table_same 0 _ _ _ (λ j. sym (built_of (λ (d : Card). arcAt d t j) arc c ∙ built-arc (arcAt c t j)))))
+      (b ∙ table_same 0 _ _ _ (λ j. sym (built_of (λ (d : Card). arc_at d t j) arc c ∙ built-arc (arc_at c t j)))))
       (spells-done _ c f.seam end d.1)))
 
 -- transitions with their arcs are known by the two lists that they make
@@ -249,9 +249,9 @@ unflatten (t ∷ ts) (u ∷ us) h k p q =
     let e : t ≡ u = λ i. (a i, b i) in
     cc
 
-arcsOf-long : (c : Card) (t : ℕ) → Long (transitionAt c t, arcsOf c t)
-unfolding Long arcsOf
-arcsOf-long c t = table-length 0 (transitionAt c t).arcs (λ j. arcAt c t j)
+arcs_of-long : (c : Card) (t : ℕ) → Long (transition_at c t, arcs_of c t)
+unfolding Long arcs_of
+arcs_of-long c t = table-length 0 (transition_at c t).arcs (λ j. arc_at c t j)
 
 with-same : (b : Card) (r q : Subnet) (ps vs : List Place) (ts us : List (Transition × List Arc)) → All Long ts → All Long us → with b r ps ts ≡ with b q vs us
     → (r ≡ q) × (ps ≡ vs) × (ts ≡ us)
@@ -277,104 +277,104 @@ module _ (bytes : List ℕ) (c sofar : Card) where
   g : ℕ
   g = sofar.signals
 
-  abbrev rowFormat : Format Card Subnet
-  rowFormat = of (λ (d : Card). subnetAt d s) (subnet s p t)
+  abbrev row_format : Format Card Subnet
+  row_format = of (λ (d : Card). subnet_at d s) (subnet s p t)
 
-  abbrev placesFormat : ℕ → Format Card (List Place)
-  placesFormat n = each p n (λ i. of (λ (d : Card). placeAt d i) (place s))
+  abbrev places_format : ℕ → Format Card (List Place)
+  places_format n = each p n (λ i. of (λ (d : Card). place_at d i) (place s))
 
-  abbrev transitionsFormat : ℕ → Format Card (List (Transition × List Arc))
-  transitionsFormat n = each t n (wholeTransition v g)
+  abbrev transitions_format : ℕ → Format Card (List (Transition × List Arc))
+  transitions_format n = each t n (whole_transition v g)
 
-  tied-parts : (at e1 e2 e3 end : ℕ) (r : Subnet) (ps : List Place) (ts : List (Transition × List Arc)) → read bytes rowFormat at ≡ whole r e1
-      → read bytes (placesFormat r.places) e1 ≡ whole ps e2 → read bytes (transitionsFormat r.transitions) e2 ≡ whole ts e3 → e3 ≡ end
-      → r ≡ subnetAt c s → ps ≡ table p (subnetAt c s).places (placeAt c) → ts ≡ table t (subnetAt c s).transitions (λ u. (transitionAt c u, arcsOf c u))
-      → Spells bytes (wholeSubnet sofar) c at end
-  unfolding wholeSubnet s p t v g
+  tied-parts : (at e1 e2 e3 end : ℕ) (r : Subnet) (ps : List Place) (ts : List (Transition × List Arc)) → read bytes row_format at ≡ whole r e1
+      → read bytes (places_format r.places) e1 ≡ whole ps e2 → read bytes (transitions_format r.transitions) e2 ≡ whole ts e3 → e3 ≡ end
+      → r ≡ subnet_at c s → ps ≡ table p (subnet_at c s).places (place_at c) → ts ≡ table t (subnet_at c s).transitions (λ u. (transition_at c u, arcs_of c u))
+      → Spells bytes (whole_subnet sofar) c at end
+  unfolding whole_subnet s p t v g
   tied-parts at e1 e2 e3 end r ps ts x y z w er eps ets =
-      let y' = subst (λ (k : Subnet). read bytes (placesFormat k.places) e1 ≡ whole ps e2) er y in
-      let z' = subst (λ (k : Subnet). read bytes (transitionsFormat k.transitions) e2 ≡ whole ts e3) er z in
-      spells_then bytes rowFormat _ c at e1 end (tied_of bytes (λ (d : Card). subnetAt d s) (subnet s p t) c at r e1 (λ k. tied-subnet bytes s p t at k e1) x er)
-      (rw (built_of (λ (d : Card). subnetAt d s) (subnet s p t) c, built-subnet s p t (subnetAt c s))
-      (spells_then bytes (placesFormat (subnetAt c s).places) _ c e1 e2 end
-      (tied-each bytes p (subnetAt c s).places _ c
-      (λ i k v h q l. tied_of bytes (λ (d : Card). placeAt d i) (place s) c k v h (λ m. tied-place bytes s k m h) q (l ∙ built_of (λ (d : Card). placeAt d i) (place s) c ∙ built-place s (placeAt c i)))
-      e1 ps e2 y' (eps ∙ table_same p _ _ _ (λ i. sym (built_of (λ (d : Card). placeAt d i) (place s) c ∙ built-place s (placeAt c i)))))
-      (spells_then bytes (transitionsFormat (subnetAt c s).transitions) _ c e2 e3 end
-      (tied-each bytes t (subnetAt c s).transitions _ c (λ u k y h q l. tied-wholeTransition bytes c v g u k y h q (l ∙ built-wholeTransition c v g u))
-      e2 ts e3 z' (ets ∙ table_same t _ _ _ (λ u. sym (built-wholeTransition c v g u))))
+      let y' = subst (λ (k : Subnet). read bytes (places_format k.places) e1 ≡ whole ps e2) er y in
+      let z' = subst (λ (k : Subnet). read bytes (transitions_format k.transitions) e2 ≡ whole ts e3) er z in
+      spells_then bytes row_format _ c at e1 end (tied_of bytes (λ (d : Card). subnet_at d s) (subnet s p t) c at r e1 (λ k. tied-subnet bytes s p t at k e1) x er)
+      (rw (built_of (λ (d : Card). subnet_at d s) (subnet s p t) c, built-subnet s p t (subnet_at c s))
+      (spells_then bytes (places_format (subnet_at c s).places) _ c e1 e2 end
+      (tied-each bytes p (subnet_at c s).places _ c
+      (λ i k v h q l. tied_of bytes (λ (d : Card). place_at d i) (place s) c k v h (λ m. tied-place bytes s k m h) q (l ∙ built_of (λ (d : Card). place_at d i) (place s) c ∙ built-place s (place_at c i)))
+      e1 ps e2 y' (eps ∙ table_same p _ _ _ (λ i. sym (built_of (λ (d : Card). place_at d i) (place s) c ∙ built-place s (place_at c i)))))
+      (spells_then bytes (transitions_format (subnet_at c s).transitions) _ c e2 e3 end
+      (tied-each bytes t (subnet_at c s).transitions _ c (λ u k y h q l. tied-whole_transition bytes c v g u k y h q (l ∙ built-whole_transition c v g u))
+      e2 ts e3 z' (ets ∙ table_same t _ _ _ (λ u. sym (built-whole_transition c v g u))))
       (spells-done bytes _ c e3 end w))))
 
-  row-known : (at e1 e2 e3 : ℕ) (b : Card) (r : Subnet) (ps : List Place) (ts : List (Transition × List Arc)) → read bytes (transitionsFormat r.transitions) e2 ≡ whole ts e3
-      → with sofar r ps ts ≡ b → b ≡ built (wholeSubnet sofar) c
-      → (r ≡ subnetAt c s) × (ps ≡ table p (subnetAt c s).places (placeAt c)) × (ts ≡ table t (subnetAt c s).transitions (λ u. (transitionAt c u, arcsOf c u)))
+  row-known : (at e1 e2 e3 : ℕ) (b : Card) (r : Subnet) (ps : List Place) (ts : List (Transition × List Arc)) → read bytes (transitions_format r.transitions) e2 ≡ whole ts e3
+      → with sofar r ps ts ≡ b → b ≡ built (whole_subnet sofar) c
+      → (r ≡ subnet_at c s) × (ps ≡ table p (subnet_at c s).places (place_at c)) × (ts ≡ table t (subnet_at c s).transitions (λ u. (transition_at c u, arcs_of c u)))
   unfolding s p t v g Long
   row-known at e1 e2 e3 b r ps ts z e q =
-      with-same sofar r (subnetAt c s) ps (table p (subnetAt c s).places (placeAt c)) ts (table t (subnetAt c s).transitions (λ u. (transitionAt c u, arcsOf c u)))
+      with-same sofar r (subnet_at c s) ps (table p (subnet_at c s).places (place_at c)) ts (table t (subnet_at c s).transitions (λ u. (transition_at c u, arcs_of c u)))
       (all_more (TransitionArcs v g) Long (λ k h. h.arcs.long) ts
-      (yields-read bytes (transitionsFormat r.transitions) (Listed (TransitionArcs v g) r.transitions)
-      (yields_each t r.transitions (wholeTransition v g) (TransitionArcs v g) (wholeTransition-yields v g)) e2 e3 ts z).members)
-      (all-table Long t _ _ (arcsOf-long c)) (e ∙ (q ∙ built-wholeSubnet c sofar))
+      (yields-read bytes (transitions_format r.transitions) (Listed (TransitionArcs v g) r.transitions)
+      (yields_each t r.transitions (whole_transition v g) (TransitionArcs v g) (whole_transition-yields v g)) e2 e3 ts z).members)
+      (all-table Long t _ _ (arcs_of-long c)) (e ∙ (q ∙ built-whole_subnet c sofar))
 
-  pub tied-wholeSubnet : (at : ℕ) (b : Card) (end : ℕ) → read bytes (wholeSubnet sofar) at ≡ whole b end → b ≡ built (wholeSubnet sofar) c → Spells bytes (wholeSubnet sofar) c at end
-  unfolding wholeSubnet s p t v g
-  tied-wholeSubnet at b end e q = go (split bytes rowFormat _ at b end e)
+  pub tied-whole_subnet : (at : ℕ) (b : Card) (end : ℕ) → read bytes (whole_subnet sofar) at ≡ whole b end → b ≡ built (whole_subnet sofar) c → Spells bytes (whole_subnet sofar) c at end
+  unfolding whole_subnet s p t v g
+  tied-whole_subnet at b end e q = go (split bytes row_format _ at b end e)
     where
-      last : (r : Subnet) (ps : List Place) (e1 e2 : ℕ) → read bytes rowFormat at ≡ whole r e1 → read bytes (placesFormat r.places) e1 ≡ whole ps e2
-          → Split bytes (transitionsFormat r.transitions) (λ ts. done (with sofar r ps ts)) e2 b end → Spells bytes (wholeSubnet sofar) c at end
+      last : (r : Subnet) (ps : List Place) (e1 e2 : ℕ) → read bytes row_format at ≡ whole r e1 → read bytes (places_format r.places) e1 ≡ whole ps e2
+          → Split bytes (transitions_format r.transitions) (λ ts. done (with sofar r ps ts)) e2 b end → Spells bytes (whole_subnet sofar) c at end
       last r ps e1 e2 x y z =
           let d = read_done bytes Card (with sofar r ps z.value) b z.seam end z.second in
           let k = row-known at e1 e2 z.seam b r ps z.value z.first d.0 q in
           tied-parts at e1 e2 z.seam end r ps z.value x y z.first d.1 k.0 k.1 k.2
 
-      mid : (r : Subnet) (e1 : ℕ) → read bytes rowFormat at ≡ whole r e1
-          → Split bytes (placesFormat r.places) (λ ps. transitionsFormat r.transitions >>= (λ ts. done (with sofar r ps ts))) e1 b end → Spells bytes (wholeSubnet sofar) c at end
-      mid r e1 x y = last r y.value e1 y.seam x y.first (split bytes (transitionsFormat r.transitions) _ y.seam b end y.second)
+      mid : (r : Subnet) (e1 : ℕ) → read bytes row_format at ≡ whole r e1
+          → Split bytes (places_format r.places) (λ ps. transitions_format r.transitions >>= (λ ts. done (with sofar r ps ts))) e1 b end → Spells bytes (whole_subnet sofar) c at end
+      mid r e1 x y = last r y.value e1 y.seam x y.first (split bytes (transitions_format r.transitions) _ y.seam b end y.second)
 
-      go : Split bytes rowFormat (λ r. placesFormat r.places >>= (λ ps. transitionsFormat r.transitions >>= (λ ts. done (with sofar r ps ts)))) at b end
-          → Spells bytes (wholeSubnet sofar) c at end
-      go x = mid x.value x.seam x.first (split bytes (placesFormat x.value.places) _ x.seam b end x.second)
+      go : Split bytes row_format (λ r. places_format r.places >>= (λ ps. transitions_format r.transitions >>= (λ ts. done (with sofar r ps ts)))) at b end
+          → Spells bytes (whole_subnet sofar) c at end
+      go x = mid x.value x.seam x.first (split bytes (places_format x.value.places) _ x.seam b end x.second)
 
 module _ (bytes : List ℕ) (c : Card) (n : Counted c) (h : Header) where
   -- what was read of a card is its first rows
-  next-prefix : (k i at seam end : ℕ) (b : Card) → After h i (prefix c i) → i < length c.subnets → read bytes (wholeSubnet (prefix c i)) at ≡ whole b seam
-      → read bytes (grow k wholeSubnet b) seam ≡ whole c end → (b ≡ prefix c (suc i)) × After h (suc i) b
+  next-prefix : (k i at seam end : ℕ) (b : Card) → After h i (prefix c i) → i < length c.subnets → read bytes (whole_subnet (prefix c i)) at ≡ whole b seam
+      → read bytes (grow k whole_subnet b) seam ≡ whole c end → (b ≡ prefix c (suc i)) × After h (suc i) b
   next-prefix k i at seam end b a l x y =
-      let f = yields-read bytes (wholeSubnet (prefix c i)) (After h (suc i)) (wholeSubnet-yields h i (prefix c i) a) at seam b x in
-      let z = yields-read bytes (grow k wholeSubnet b) (Extends b) (grow-extends k b) seam end c y in
+      let f = yields-read bytes (whole_subnet (prefix c i)) (After h (suc i)) (whole_subnet-yields h i (prefix c i) a) at seam b x in
+      let z = yields-read bytes (grow k whole_subnet b) (Extends b) (grow-extends k b) seam end c y in
       (extends-prefix b c z f.rows ∙ ap (prefix c) f.subnets, f)
 
-  tied-grow : (k i at end : ℕ) → After h i (prefix c i) → i + k ≡ length c.subnets → read bytes (grow k wholeSubnet (prefix c i)) at ≡ whole c end
-      → Spells bytes (grow k wholeSubnet (prefix c i)) c at end
+  tied-grow : (k i at end : ℕ) → After h i (prefix c i) → i + k ≡ length c.subnets → read bytes (grow k whole_subnet (prefix c i)) at ≡ whole c end
+      → Spells bytes (grow k whole_subnet (prefix c i)) c at end
   unfolding grow
   tied-grow zero i at end a l e = spells-done bytes (prefix c i) c at end (read_done bytes Card (prefix c i) c at end e).1
-  tied-grow (suc k) i at end a l e = go (λ seam b m q. tied-grow k (suc i) seam end b m q) (split bytes (wholeSubnet (prefix c i)) (grow k wholeSubnet) at c end e)
+  tied-grow (suc k) i at end a l e = go (λ seam b m q. tied-grow k (suc i) seam end b m q) (split bytes (whole_subnet (prefix c i)) (grow k whole_subnet) at c end e)
     where
-      go : ((seam : ℕ) → After h (suc i) (prefix c (suc i)) → suc i + k ≡ length c.subnets → read bytes (grow k wholeSubnet (prefix c (suc i))) seam ≡ whole c end
-          → Spells bytes (grow k wholeSubnet (prefix c (suc i))) c seam end)
-          → Split bytes (wholeSubnet (prefix c i)) (grow k wholeSubnet) at c end → Spells bytes (wholeSubnet (prefix c i) >>= grow k wholeSubnet) c at end
+      go : ((seam : ℕ) → After h (suc i) (prefix c (suc i)) → suc i + k ≡ length c.subnets → read bytes (grow k whole_subnet (prefix c (suc i))) seam ≡ whole c end
+          → Spells bytes (grow k whole_subnet (prefix c (suc i))) c seam end)
+          → Split bytes (whole_subnet (prefix c i)) (grow k whole_subnet) at c end → Spells bytes (whole_subnet (prefix c i) >>= grow k whole_subnet) c at end
       go rest x =
           let m = built-more c n i (omega arith) in
           let p = next-prefix k i at x.seam end x.value a (omega arith) x.first x.second in
-          let q = subst (λ (b : Card). read bytes (grow k wholeSubnet b) x.seam ≡ whole c end) p.0 x.second in
-          spells_then bytes (wholeSubnet (prefix c i)) (grow k wholeSubnet) c at x.seam end
-          (tied-wholeSubnet bytes c (prefix c i) at x.value x.seam x.first (p.0 ∙ sym m))
+          let q = subst (λ (b : Card). read bytes (grow k whole_subnet b) x.seam ≡ whole c end) p.0 x.second in
+          spells_then bytes (whole_subnet (prefix c i)) (grow k whole_subnet) c at x.seam end
+          (tied-whole_subnet bytes c (prefix c i) at x.value x.seam x.first (p.0 ∙ sym m))
           (rw m (rest x.seam (subst (After h (suc i)) p.0 p.1) (omega arith) q))
 
 -- THE BYTES OF A CARD THAT IS READ SPELL THE CARD'S OWN FIELDS
 pub tied-card : (bytes : List ℕ) (c : Card) (end : ℕ) → read bytes card 0 ≡ whole c end → Spells bytes card c 0 end
 unfolding card start
-tied-card bytes c end e = go (split bytes (of headerOf header) (λ h. grow h.subnets wholeSubnet (start h)) 0 c end e)
+tied-card bytes c end e = go (split bytes (of header_of header) (λ h. grow h.subnets whole_subnet (start h)) 0 c end e)
   where
     n : Counted c
     n = rows-counted c (yields-read bytes card Wellformed card-yields 0 end c e).rows
 
-    begin : start (headerOf c) ≡ prefix c 0
+    begin : start (header_of c) ≡ prefix c 0
     begin = sym (prefix-none c n)
 
-    known : (h : Header) (seam : ℕ) → read bytes (grow h.subnets wholeSubnet (start h)) seam ≡ whole c end → h ≡ headerOf c
+    known : (h : Header) (seam : ℕ) → read bytes (grow h.subnets whole_subnet (start h)) seam ≡ whole c end → h ≡ header_of c
     known h seam y =
-        let a = yields-read bytes (grow h.subnets wholeSubnet (start h)) (After h (0 + h.subnets)) (grow-yields h) seam end c y in
+        let a = yields-read bytes (grow h.subnets whole_subnet (start h)) (After h (0 + h.subnets)) (grow-yields h) seam end c y in
         let v : h.version ≡ c.version = sym a.version in
         let g : h.signals ≡ c.signals = sym a.signals in
         let k : h.subnets ≡ length c.subnets = omega (arith, a.subnets) in
@@ -382,12 +382,12 @@ tied-card bytes c end e = go (split bytes (of headerOf header) (λ h. grow h.sub
         let q : h.scale ≡ c.scale = sym a.scale in
         λ i. record { version = v i; subnets = k i; signals = g i; limit = m i; scale = q i }
 
-    go : Split bytes (of headerOf header) (λ h. grow h.subnets wholeSubnet (start h)) 0 c end → Spells bytes card c 0 end
+    go : Split bytes (of header_of header) (λ h. grow h.subnets whole_subnet (start h)) 0 c end → Spells bytes card c 0 end
     go x =
         let k = known x.value x.seam x.second in
-        let q = subst (λ (h : Header). read bytes (grow h.subnets wholeSubnet (start h)) x.seam ≡ whole c end) k x.second in
-        let r = subst (λ (b : Card). read bytes (grow (length c.subnets) wholeSubnet b) x.seam ≡ whole c end) begin q in
-        spells_then bytes (of headerOf header) _ c 0 x.seam end
-        (tied_of bytes headerOf header c 0 x.value x.seam (λ h. tied-header bytes 0 h x.seam) x.first k)
-        (rw (built_of headerOf header c, built-header (headerOf c), begin)
-        (tied-grow bytes c n (headerOf c) (length c.subnets) 0 x.seam end (subst (After (headerOf c) 0) begin (no-subnets (headerOf c))) (zero-add (length c.subnets)) r))
+        let q = subst (λ (h : Header). read bytes (grow h.subnets whole_subnet (start h)) x.seam ≡ whole c end) k x.second in
+        let r = subst (λ (b : Card). read bytes (grow (length c.subnets) whole_subnet b) x.seam ≡ whole c end) begin q in
+        spells_then bytes (of header_of header) _ c 0 x.seam end
+        (tied_of bytes header_of header c 0 x.value x.seam (λ h. tied-header bytes 0 h x.seam) x.first k)
+        (rw (built_of header_of header c, built-header (header_of c), begin)
+        (tied-grow bytes c n (header_of c) (length c.subnets) 0 x.seam end (subst (After (header_of c) 0) begin (no-subnets (header_of c))) (zero-add (length c.subnets)) r))

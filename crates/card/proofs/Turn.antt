@@ -12,11 +12,11 @@ use lib.Seq.{take-suc-set, append_snoc, get_or-set_other}
 use lib.Dec.{ltb, leb}
 use borrow.Author.Tests.{lt-ltb, le-ltb, leb-true}
 use Rattle.card.specs.Numbers.{number}
-use Rattle.card.specs.Bits.{bit, bitField}
+use Rattle.card.specs.Bits.{bit, bit_field}
 use Rattle.card.specs.Format.{Format, done, get}
 use Rattle.card.specs.Grammar.{header, subnet, place, transition, arc}
 use Rattle.card.specs.Parsing.{Parsing, refused, whole, read}
-use Rattle.card.specs.inner.Layout.{width_at, width_of, faultAt, start_of, to, pick, move_at, orBad, stepAt, step_of, Sane}
+use Rattle.card.specs.inner.Layout.{width_at, width_of, fault_at, start_of, to, pick, move_at, or_bad, step_at, step_of, Sane}
 use Rattle.card.specs.declared.FormatFault.{FormatFault}
 use Rattle.card.specs.declared.FormatFault.TheVariants.{Truncated}
 use Rattle.card.specs.declared.layout.Phase.{Phase}
@@ -25,12 +25,12 @@ use Rattle.card.specs.declared.layout.Layout.{Layout}
 use Rattle.card.specs.declared.Counts.{Counts}
 use Rattle.card.specs.declared.layout.Move.{Move}
 use Rattle.card.specs.declared.layout.Move.TheVariants.{More, Done, Bad}
-use Rattle.card.specs.inner.Reader.{arcHeadWidth, IsArcHead}
+use Rattle.card.specs.inner.Reader.{arc_head_width, IsArcHead}
 use Rattle.card.specs.declared.reader.ArcHead.{ArcHead}
-use Rattle.card.specs.Tables.{tableSize, cardBits, hasRoom}
+use Rattle.card.specs.Tables.{table_size, card_bits, has_room}
 use Rattle.card.proofs.Yields.{bit-small, field-small}
-use Rattle.card.proofs.Shape.{One, numbersIn, cardS}
-use Rattle.card.proofs.Simulates.{denote, moveF, next_of, waits, sim, denote-start}
+use Rattle.card.proofs.Shape.{One, numbers_in, card_s}
+use Rattle.card.proofs.Simulates.{denote, move_f, next_of, waits, sim, denote-start}
 use Rattle.card.proofs.Bounds.{Budget, budget-card, sane-step, sane-start}
 
 -- a number that is not at fault leads on
@@ -66,19 +66,19 @@ good-move Weight l v = good-pick (ltb 0 l.arc_rows) _ _ tt (good-pick (ltb 0 l.t
 
 -- what a field leads to
 abbrev pub Leads : Layout → ℕ → Move → Type 0
-Leads l v (More m) = (faultAt l.phase l v ≡ none) × (next_of (denote l) v ≡ denote m)
-Leads l v (Done k) = (faultAt l.phase l v ≡ none) × (next_of (denote l) v ≡ done k)
-Leads l v (Bad f) = faultAt l.phase l v ≡ some f
+Leads l v (More m) = (fault_at l.phase l v ≡ none) × (next_of (denote l) v ≡ denote m)
+Leads l v (Done k) = (fault_at l.phase l v ≡ none) × (next_of (denote l) v ≡ done k)
+Leads l v (Bad f) = fault_at l.phase l v ≡ some f
 
 pub leads : (l : Layout) (v : ℕ) (r : Move) → r ≡ step_of l v → Leads l v r
-leads l v r e = go (faultAt l.phase l v) refl e
+leads l v r e = go (fault_at l.phase l v) refl e
   where
-    move : (x r : Move) → faultAt l.phase l v ≡ none → next_of (denote l) v ≡ moveF x → Good x → r ≡ x → Leads l v r
-    move x (More m) p q g r = (p, q ∙ ap moveF (sym r))
-    move x (Done k) p q g r = (p, q ∙ ap moveF (sym r))
+    move : (x r : Move) → fault_at l.phase l v ≡ none → next_of (denote l) v ≡ move_f x → Good x → r ≡ x → Leads l v r
+    move x (More m) p q g r = (p, q ∙ ap move_f (sym r))
+    move x (Done k) p q g r = (p, q ∙ ap move_f (sym r))
     move x (Bad f) p q g r = absurd (subst Good (sym r) g)
 
-    go : (x : Option FormatFault) → faultAt l.phase l v ≡ x → r ≡ orBad x (move_at l.phase l v) → Leads l v r
+    go : (x : Option FormatFault) → fault_at l.phase l v ≡ x → r ≡ or_bad x (move_at l.phase l v) → Leads l v r
     go none p q = move (move_at l.phase l v) r p (sim l.phase l v p) (good-move l.phase l v) q
     go (some f) p q = subst (Leads l v) (sym q) p
 
@@ -159,18 +159,18 @@ spared-move ArcPlace l v = omega arith
 spared-move Weight l v = spared-pick (ltb 0 l.arc_rows) _ _ _ (omega arith) (spared-pick (ltb 0 l.transition_rows) _ _ _ (omega arith) (spared-pick (ltb 0 l.subnets) _ _ _ (omega arith) tt))
 
 spare-step : (l m : Layout) (v : ℕ) → step_of l v ≡ More m → suc (spare m.phase) ≤ width_of l + spare l.phase
-spare-step l m v e = go (faultAt l.phase l v) e
+spare-step l m v e = go (fault_at l.phase l v) e
   where
-    go : (x : Option FormatFault) → orBad x (move_at l.phase l v) ≡ More m → suc (spare m.phase) ≤ width_of l + spare l.phase
+    go : (x : Option FormatFault) → or_bad x (move_at l.phase l v) ≡ More m → suc (spare m.phase) ≤ width_of l + spare l.phase
     go none q = subst (Spared (width_of l + spare l.phase)) q (spared-move l.phase l v)
     go (some f) q = let z : ◌≡◌ {A = ℕ} 0 1 = cc in absurd (omega arith)
 
 -- a table of so many numbers has room for those of so many bytes
-pub room-is : (bytes size : ℕ) → hasRoom bytes size ≡ true → (tableSize ≤ size) ⊎ (8 * bytes ≤ size)
-room-is bytes size e = go (leb tableSize size) refl e
+pub room-is : (bytes size : ℕ) → has_room bytes size ≡ true → (table_size ≤ size) ⊎ (8 * bytes ≤ size)
+room-is bytes size e = go (leb table_size size) refl e
   where
-    go : (b : Bool) → leb tableSize size ≡ b → cond b true (leb bytes (size / 8)) ≡ true → (tableSize ≤ size) ⊎ (8 * bytes ≤ size)
-    go true q h = inl (leb-true tableSize size q)
+    go : (b : Bool) → leb table_size size ≡ b → cond b true (leb bytes (size / 8)) ≡ true → (table_size ≤ size) ⊎ (8 * bytes ≤ size)
+    go true q h = inl (leb-true table_size size q)
     go false q h = inr (omega (arith, leb-true bytes (size / 8) h))
 
 pub zero_in : (n i : ℕ) → ◌≡◌ {A = ℕ} (get_or (replicate n 0) i 0) 0
@@ -181,46 +181,46 @@ zero_in (suc n) (suc i) = zero_in n i
 module _ (bytes : List ℕ) (size : ℕ) where
   -- reading what is left from here ends as reading all; the numbers so far stand in the table, and zeros behind them
   pub record Left (l : Layout) (at n : ℕ) (numbers : List ℕ) : Type 0 where
-    pub answer : read bytes (denote l) at ≡ read bytes cardS 0
-    pub values : take n numbers ++ numbersIn bytes (denote l) at ≡ numbersIn bytes cardS 0
+    pub answer : read bytes (denote l) at ≡ read bytes card_s 0
+    pub values : take n numbers ++ numbers_in bytes (denote l) at ≡ numbers_in bytes card_s 0
     pub zeros : (i : ℕ) → n ≤ i → get_or numbers i 0 ≡ 0
     pub long : length numbers ≡ size
-    pub room : hasRoom (length bytes) size ≡ true
+    pub room : has_room (length bytes) size ≡ true
     pub ahead : n + spare l.phase ≤ at
     pub sane : Sane l
-    pub budget : Budget (denote l) (tableSize - n) (cardBits - at)
-    pub low : at ≤ cardBits
+    pub budget : Budget (denote l) (table_size - n) (card_bits - at)
+    pub low : at ≤ card_bits
     pub inside : at ≤ 8 * length bytes
-    pub few : n ≤ tableSize
+    pub few : n ≤ table_size
 
-  pub left-start : (t : List ℕ) → t ≡ replicate size 0 → hasRoom (length bytes) size ≡ true → Left start_of 0 0 t
+  pub left-start : (t : List ℕ) → t ≡ replicate size 0 → has_room (length bytes) size ≡ true → Left start_of 0 0 t
   left-start t e room =
       record {
         answer = ap (λ (m : Format One Counts). read bytes m 0) denote-start;
-        values = ap (λ (m : Format One Counts). numbersIn bytes m 0) denote-start;
+        values = ap (λ (m : Format One Counts). numbers_in bytes m 0) denote-start;
         zeros = λ i h. ap (λ xs. get_or xs i 0) e ∙ zero_in size i;
         long = ap length e ∙ length-replicate {A = ℕ} size 0;
         room = room;
         ahead = omega arith;
         sane = sane-start;
-        budget = subst (λ (m : Format One Counts). Budget m tableSize cardBits) (sym denote-start) budget-card;
+        budget = subst (λ (m : Format One Counts). Budget m table_size card_bits) (sym denote-start) budget-card;
         low = omega arith;
         inside = omega arith;
         few = omega arith;
       }
 
   module _ (l : Layout) (at n : ℕ) (t : List ℕ) (w : ℕ) (h : Left l at n t) (ew : w ≡ width_of l) where
-    wait : denote l ≡ get w (λ u. 0) (faultAt l.phase l) (next_of (denote l))
-    wait = waits l.phase l ∙ ap (λ (k : ℕ). get k (λ u. 0) (faultAt l.phase l) (next_of (denote l))) (sym ew)
+    wait : denote l ≡ get w (λ u. 0) (fault_at l.phase l) (next_of (denote l))
+    wait = waits l.phase l ∙ ap (λ (k : ℕ). get k (λ u. 0) (fault_at l.phase l) (next_of (denote l))) (sym ew)
 
-    waited : Budget (get w (λ u. 0) (faultAt l.phase l) (next_of (denote l))) (tableSize - n) (cardBits - at)
-    waited = subst (λ (m : Format One Counts). Budget m (tableSize - n) (cardBits - at)) wait h.budget
+    waited : Budget (get w (λ u. 0) (fault_at l.phase l) (next_of (denote l))) (table_size - n) (card_bits - at)
+    waited = subst (λ (m : Format One Counts). Budget m (table_size - n) (card_bits - at)) wait h.budget
 
     -- there is room on the card, and in the largest card's table
-    pub left-room : (n < tableSize) × (at + w ≤ cardBits)
-    left-room = go (tableSize - n) refl waited
+    pub left-room : (n < table_size) × (at + w ≤ card_bits)
+    left-room = go (table_size - n) refl waited
       where
-        go : (k : ℕ) → tableSize - n ≡ k → Budget (get w (λ u. 0) (faultAt l.phase l) (next_of (denote l))) k (cardBits - at) → (n < tableSize) × (at + w ≤ cardBits)
+        go : (k : ℕ) → table_size - n ≡ k → Budget (get w (λ u. 0) (fault_at l.phase l) (next_of (denote l))) k (card_bits - at) → (n < table_size) × (at + w ≤ card_bits)
         go zero e b = absurd b
         go (suc k) e b = (omega arith, omega (arith, b.0, h.low))
 
@@ -228,33 +228,33 @@ module _ (bytes : List ℕ) (size : ℕ) where
     pub left-fits : at + w ≤ 8 * length bytes → n < size
     left-fits g = go (room-is (length bytes) size h.room)
       where
-        go : (tableSize ≤ size) ⊎ (8 * length bytes ≤ size) → n < size
+        go : (table_size ≤ size) ⊎ (8 * length bytes ≤ size) → n < size
         go (inl m) = omega (arith, left-room.0)
         go (inr m) = omega (arith, h.ahead, ew, spare-width l.phase l.version)
 
-    waiting : read bytes (get w (λ u. 0) (faultAt l.phase l) (next_of (denote l))) at ≡ read bytes cardS 0
+    waiting : read bytes (get w (λ u. 0) (fault_at l.phase l) (next_of (denote l))) at ≡ read bytes card_s 0
     waiting = ap (λ (m : Format One Counts). read bytes m at) (sym wait) ∙ h.answer
 
-    pub left-ends : 8 * length bytes < at + w → read bytes cardS 0 ≡ refused (number Truncated) at
+    pub left-ends : 8 * length bytes < at + w → read bytes card_s 0 ≡ refused (number Truncated) at
     unfolding read
     left-ends g = sym waiting ∙ rw (lt-ltb (8 * length bytes) (at + w) g)
 
-    module _ (v : ℕ) (r : Move) (g : at + w ≤ 8 * length bytes) (ev : v ≡ bitField (bit bytes) at w) (er : r ≡ step_of l v) where
-      on : (x : Option FormatFault) → faultAt l.phase l v ≡ x → read bytes (get w (λ u. 0) (faultAt l.phase l) (next_of (denote l))) at ≡ Rattle.card.specs.Parsing.unlessFault x at (read bytes (next_of (denote l) v) (at + w))
+    module _ (v : ℕ) (r : Move) (g : at + w ≤ 8 * length bytes) (ev : v ≡ bit_field (bit bytes) at w) (er : r ≡ step_of l v) where
+      on : (x : Option FormatFault) → fault_at l.phase l v ≡ x → read bytes (get w (λ u. 0) (fault_at l.phase l) (next_of (denote l))) at ≡ Rattle.card.specs.Parsing.unless_fault x at (read bytes (next_of (denote l) v) (at + w))
       unfolding read
       on x e = rw (le-ltb (8 * length bytes) (at + w) g, ← ev, e)
 
-      pub left-bad : (f : FormatFault) → r ≡ Bad f → read bytes cardS 0 ≡ refused (number f) at
+      pub left-bad : (f : FormatFault) → r ≡ Bad f → read bytes card_s 0 ≡ refused (number f) at
       left-bad f e =
           let k = subst (Leads l v) e (leads l v r er) in
           sym waiting ∙ on (some f) k
 
       -- one number more in the table
-      more-values : (k : Format One Counts) → next_of (denote l) v ≡ k → take (n + 1) (set t n v) ++ numbersIn bytes k (at + w) ≡ numbersIn bytes cardS 0
+      more-values : (k : Format One Counts) → next_of (denote l) v ≡ k → take (n + 1) (set t n v) ++ numbers_in bytes k (at + w) ≡ numbers_in bytes card_s 0
       more-values k e =
-          let a : numbersIn bytes (denote l) at ≡ v ∷ numbersIn bytes k (at + w) =
-          ap (λ (m : Format One Counts). numbersIn bytes m at) wait ∙ rw (← ev, e) in
-          rw (add-one, take-suc-set t n v (omega (arith, h.long, left-fits g))) (append_snoc (take n t) v (numbersIn bytes k (at + w)) ∙ ap (λ xs. take n t ++ xs) (sym a) ∙ h.values)
+          let a : numbers_in bytes (denote l) at ≡ v ∷ numbers_in bytes k (at + w) =
+          ap (λ (m : Format One Counts). numbers_in bytes m at) wait ∙ rw (← ev, e) in
+          rw (add-one, take-suc-set t n v (omega (arith, h.long, left-fits g))) (append_snoc (take n t) v (numbers_in bytes k (at + w)) ∙ ap (λ xs. take n t ++ xs) (sym a) ∙ h.values)
 
       more-zeros : (i : ℕ) → n + 1 ≤ i → get_or (set t n v) i 0 ≡ 0
       more-zeros i m = get_or-set_other t n i v 0 (λ e. omega arith) ∙ h.zeros i (omega arith)
@@ -270,20 +270,20 @@ module _ (bytes : List ℕ) (size : ℕ) where
             room = h.room;
             ahead = omega (arith, h.ahead, ew, spare-step l m v (sym er ∙ e));
             sane = sane-step l m v h.sane (sym er ∙ e);
-            budget = subst (λ (x : Format One Counts). Budget x (tableSize - (n + 1)) (cardBits - (at + w))) k.1 (spent k.0);
+            budget = subst (λ (x : Format One Counts). Budget x (table_size - (n + 1)) (card_bits - (at + w))) k.1 (spent k.0);
             low = left-room.1;
             inside = g;
             few = omega (arith, left-room.0);
           }
         where
-          spent : faultAt l.phase l v ≡ none → Budget (next_of (denote l) v) (tableSize - (n + 1)) (cardBits - (at + w))
+          spent : fault_at l.phase l v ≡ none → Budget (next_of (denote l) v) (table_size - (n + 1)) (card_bits - (at + w))
           spent e =
-              let q : tableSize - n ≡ suc (tableSize - (n + 1)) = omega (arith, left-room.0) in
-              let p : cardBits - at - w ≡ cardBits - (at + w) = omega arith in
-              let b : Budget (get w (λ u. 0) (faultAt l.phase l) (next_of (denote l))) (suc (tableSize - (n + 1))) (cardBits - at) = rw q at waited in
+              let q : table_size - n ≡ suc (table_size - (n + 1)) = omega (arith, left-room.0) in
+              let p : card_bits - at - w ≡ card_bits - (at + w) = omega arith in
+              let b : Budget (get w (λ u. 0) (fault_at l.phase l) (next_of (denote l))) (suc (table_size - (n + 1))) (card_bits - at) = rw q at waited in
               rw p at (b.1 v (rw ev (field-small (bit bytes) (bit-small bytes) at w)) e)
 
-      pub left-done : (k : Counts) → r ≡ Done k → (read bytes cardS 0 ≡ whole k (at + w)) × (take (n + 1) (set t n v) ≡ numbersIn bytes cardS 0) × (length (set t n v) ≡ size)
+      pub left-done : (k : Counts) → r ≡ Done k → (read bytes card_s 0 ≡ whole k (at + w)) × (take (n + 1) (set t n v) ≡ numbers_in bytes card_s 0) × (length (set t n v) ≡ size)
           × ((i : ℕ) → n + 1 ≤ i → get_or (set t n v) i 0 ≡ 0)
       unfolding read
       left-done k e =
@@ -295,9 +295,9 @@ module _ (bytes : List ℕ) (size : ℕ) where
           )
 
   -- an arc's fields before the weight, read at once
-  module _ (l : Layout) (at n : ℕ) (t : List ℕ) (h : Left l at n t) (e : l.phase ≡ Direction) (g : at + arcHeadWidth ≤ 8 * length bytes) (x : ArcHead) (ex : IsArcHead bytes at x) where
-    untested : (p q : Phase) (v : ℕ) → l.phase ≡ p → stepAt p l v ≡ More (to l q) → More (to l q) ≡ step_of l v
-    untested p q v i s = sym (ap (λ (y : Phase). stepAt y l v) i ∙ s)
+  module _ (l : Layout) (at n : ℕ) (t : List ℕ) (h : Left l at n t) (e : l.phase ≡ Direction) (g : at + arc_head_width ≤ 8 * length bytes) (x : ArcHead) (ex : IsArcHead bytes at x) where
+    untested : (p q : Phase) (v : ℕ) → l.phase ≡ p → step_at p l v ≡ More (to l q) → More (to l q) ≡ step_of l v
+    untested p q v i s = sym (ap (λ (y : Phase). step_at y l v) i ∙ s)
 
     first : Left (to l ArcSubnet) (at + 1) (n + 1) (set t n x.direction)
     unfolding arc
@@ -311,11 +311,11 @@ module _ (bytes : List ℕ) (size : ℕ) where
     unfolding arc
     third = left-more (to l ArcPlace) (at + 1 + 5) (n + 1 + 1) _ 8 second refl x.place (More (to l Weight)) (omega arith) ex.place refl (to l Weight) refl
 
-    pub arc-room : (n + 2 < tableSize) × (n + 2 < size)
+    pub arc-room : (n + 2 < table_size) × (n + 2 < size)
     unfolding arc
     arc-room = (omega (arith, (left-room (to l ArcPlace) (at + 1 + 5) (n + 1 + 1) _ 8 second refl).0), omega (arith, left-fits (to l ArcPlace) (at + 1 + 5) (n + 1 + 1) _ 8 second refl (omega arith)))
 
-    pub left-arc : Left (to l Weight) (at + arcHeadWidth) (n + 3) (set (set (set t n x.direction) (n + 1) x.subnet) (n + 2) x.place)
+    pub left-arc : Left (to l Weight) (at + arc_head_width) (n + 3) (set (set (set t n x.direction) (n + 1) x.subnet) (n + 2) x.place)
     unfolding arc
     left-arc =
         let p : at + 1 + 5 + 8 ≡ at + 14 = omega arith in

@@ -10,9 +10,9 @@ use lib.ListN.{length}
 use lib.Dec.{eqb}
 use borrow.Author.Tests.{lt-ltb, le-ltb, eqb-true, eqb-false}
 use Rattle.card.specs.Finite.{table}
-use Rattle.card.specs.Bits.{bit, bitField}
+use Rattle.card.specs.Bits.{bit, bit_field}
 use Rattle.card.specs.Format.{Format, done, get, of, each, ◌>>=◌}
-use Rattle.card.specs.Parsing.{Parsing, whole, read, unlessFault}
+use Rattle.card.specs.Parsing.{Parsing, whole, read, unless_fault}
 use Rattle.card.specs.Writing.{Field, fields, all_fit}
 use Rattle.card.specs.declared.FormatFault.{FormatFault}
 use Rattle.card.proofs.Decides.{and_is, lt-is}
@@ -31,7 +31,7 @@ built (get w value fault next) u = built (next (value u)) u
 -- what reading says, if the fields hold the numbers of u
 abbrev pub walk : {U A : Type 0} → Format U A → U → (at : ℕ) → Parsing A
 walk (done a) u at = whole a at
-walk (get w value fault next) u at = unlessFault (fault (value u)) at (walk (next (value u)) u (at + w))
+walk (get w value fault next) u at = unless_fault (fault (value u)) at (walk (next (value u)) u (at + w))
 
 -- a property of each number of u: of its field's width, of the number and of its fault
 abbrev pub Every : {U A : Type 0} → (ℕ → ℕ → Option FormatFault → Type 0) → Format U A → U → Type 0
@@ -51,7 +51,7 @@ Proper w v f = (f ≡ none) × (v < 2 ^ w)
 -- the bytes hold the fields from bit at on
 abbrev pub Spelt : (bytes : List ℕ) → (at : ℕ) → List Field → Type 0
 Spelt bytes at [] = Unit {0}
-Spelt bytes at (f ∷ fs) = (bitField (bit bytes) at f.width ≡ f.value) × Spelt bytes (at + f.width) fs
+Spelt bytes at (f ∷ fs) = (bit_field (bit bytes) at f.width ≡ f.value) × Spelt bytes (at + f.width) fs
 
 -- one format, and then another
 module _ {U A B : Type 0} where
@@ -144,7 +144,7 @@ module _ {U A : Type 0} where
   unfolding fields read
   read-spelt bytes (done a) u at s h = refl
   read-spelt bytes (get w value fault next) u at s h =
-      let e : bitField (bit bytes) at w ≡ value u = s.0 in
+      let e : bit_field (bit bytes) at w ≡ value u = s.0 in
       rw (le-ltb (8 * length bytes) (at + w) (omega arith), e, read-spelt bytes (next (value u)) u (at + w) s.1 (omega arith))
 
   -- a clean walk makes what the numbers build, and ends behind the fields
@@ -160,6 +160,6 @@ module _ {U A : Type 0} where
   walk-clean (get w value fault next) u at end a e = go (fault (value u)) refl (walk-clean (next (value u)) u (at + w) end a) e
     where
       go : (x : Option FormatFault) → fault (value u) ≡ x → (walk (next (value u)) u (at + w) ≡ whole a end → Every NoFault (next (value u)) u)
-          → unlessFault x at (walk (next (value u)) u (at + w)) ≡ whole a end → (fault (value u) ≡ none) × Every NoFault (next (value u)) u
+          → unless_fault x at (walk (next (value u)) u (at + w)) ≡ whole a end → (fault (value u) ≡ none) × Every NoFault (next (value u)) u
       go none p rest q = (p, rest q)
       go (some f) p rest q = absurd (not-whole _ _ _ _ q)

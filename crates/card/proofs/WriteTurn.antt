@@ -13,17 +13,17 @@ use lib.Dec.{ltb}
 use borrow.Author.Tests.{ltb-true}
 use Rattle.card.specs.Numbers.{number}
 use Rattle.card.specs.Finite.{table}
-use Rattle.card.specs.Bits.{bit, bitField}
+use Rattle.card.specs.Bits.{bit, bit_field}
 use Rattle.card.specs.inner.Spans.{Put}
 use Rattle.card.specs.Card.{Card}
 use Rattle.card.specs.Format.{Format, done, get}
 use Rattle.card.specs.Grammar.{card}
-use Rattle.card.specs.Parsing.{refused, whole, readCard}
+use Rattle.card.specs.Parsing.{refused, whole, read_card}
 use Rattle.card.specs.Writing.{Field, fields, encode, all_fit, counted}
-use Rattle.card.specs.Tables.{numbersOf, tableSize, cardBits, cardBytes}
+use Rattle.card.specs.Tables.{numbers_of, table_size, card_bits, card_bytes}
 use Rattle.card.specs.Spelling.{Lines, IsSpelt, IsUnspelt}
 use Rattle.card.specs.Spelling
-use Rattle.card.specs.inner.Layout.{width_of, faultAt, start_of, step_of, Sane}
+use Rattle.card.specs.inner.Layout.{width_of, fault_at, start_of, step_of, Sane}
 use Rattle.card.specs.declared.FormatFault.{FormatFault}
 use Rattle.card.specs.declared.layout.Layout.{Layout}
 use Rattle.card.specs.declared.Counts.{Counts}
@@ -36,7 +36,7 @@ use Rattle.card.proofs.Walk.{bits, walk, Spelt}
 use Rattle.card.proofs.BitLaws.{field-local, byte-field, lt-or-ge}
 use Rattle.card.proofs.Pack.{spell-fill, spell-length, spell-bytes, spell-spelt}
 use Rattle.card.proofs.RoundTrip.{read-encode, spelt-same, counted_is, walk-whole}
-use Rattle.card.proofs.Shape.{One, erase, countsOf, erase-card}
+use Rattle.card.proofs.Shape.{One, erase, counts_of, erase-card}
 use Rattle.card.proofs.Simulates.{denote, next_of, waits, denote-start}
 use Rattle.card.proofs.Bounds.{Budget, budget-card, sane-step, sane-start}
 use Rattle.card.proofs.Turn.{Leads, leads, zero_in}
@@ -44,7 +44,7 @@ use Rattle.card.proofs.Turn.{Leads, leads, zero_in}
 -- what is still to be spelt of c: a format, whose shape the layout has, and the fields that are spelt
 pub record Rest (c : Card) (l : Layout) (at n : ℕ) (bytes : List ℕ) : Type 0 where
   pub format : Format Card Card
-  pub shape : erase countsOf format ≡ denote l
+  pub shape : erase counts_of format ≡ denote l
   pub walks : walk format c at ≡ walk card c 0
   pub front : List Field
   pub joined : front ++ fields format c ≡ fields card c
@@ -55,10 +55,10 @@ pub record Rest (c : Card) (l : Layout) (at n : ℕ) (bytes : List ℕ) : Type 0
 module _ (numbers : List ℕ) where
   pub record Behind (l : Layout) (at n : ℕ) (bytes : List ℕ) : Type 0 where
     pub sane : Sane l
-    pub budget : Budget (denote l) (tableSize - n) (cardBits - at)
-    pub low : at ≤ cardBits
-    pub few : n ≤ tableSize
-    pub long : length bytes ≡ cardBytes
+    pub budget : Budget (denote l) (table_size - n) (card_bits - at)
+    pub low : at ≤ card_bits
+    pub few : n ≤ table_size
+    pub long : length bytes ≡ card_bytes
     pub small : (k : ℕ) → get_or bytes k 0 < 256
     pub zeros : (i : ℕ) → at ≤ i → bit bytes i ≡ 0
     pub rest : (c : Card) → Lines c numbers → Rest c l at n bytes
@@ -70,8 +70,8 @@ module _ (numbers : List ℕ) where
     pub after : ℕ → Format Card Card
     pub right : value c ≡ v
     pub fits : v < 2 ^ w
-    pub faults : fault v ≡ faultAt l.phase l v
-    pub shape : erase countsOf (after v) ≡ next_of (denote l) v
+    pub faults : fault v ≡ fault_at l.phase l v
+    pub shape : erase counts_of (after v) ≡ next_of (denote l) v
     pub walks : walk (get w value fault after) c at ≡ walk card c 0
     pub front : List Field
     pub joined : front ++ (record { width = w; value = v } ∷ fields (after v) c) ≡ fields card c
@@ -96,19 +96,19 @@ length_front : (front back : List Field) (f : Field) → length front < length (
 length_front [] back f = omega arith
 length_front (x ∷ front) back f = omega (arith, length_front front back f)
 
-module _ (numbers : List ℕ) (c : Card) (k : Lines c numbers) (l : Layout) (at n : ℕ) (bytes : List ℕ) (w v : ℕ) (room : n < tableSize) (ew : w ≡ width_of l) (ev : v ≡ get_or numbers n 0) where
+module _ (numbers : List ℕ) (c : Card) (k : Lines c numbers) (l : Layout) (at n : ℕ) (bytes : List ℕ) (w v : ℕ) (room : n < table_size) (ew : w ≡ width_of l) (ev : v ≡ get_or numbers n 0) where
   pub next-of : Rest c l at n bytes → Next numbers c l at n bytes w v
-  unfolding fields numbersOf
+  unfolding fields numbers_of
   next-of r = go r.format r.shape r.walks r.joined
     where
-      wait : denote l ≡ get w (λ u. 0) (faultAt l.phase l) (next_of (denote l))
-      wait = waits l.phase l ∙ ap (λ (i : ℕ). get i (λ u. 0) (faultAt l.phase l) (next_of (denote l))) (sym ew)
+      wait : denote l ≡ get w (λ u. 0) (fault_at l.phase l) (next_of (denote l))
+      wait = waits l.phase l ∙ ap (λ (i : ℕ). get i (λ u. 0) (fault_at l.phase l) (next_of (denote l))) (sym ew)
 
-      here : (value : Card → ℕ) (fault : ℕ → Option FormatFault) (after : ℕ → Format Card Card) → fault ≡ faultAt l.phase l → (λ x. erase countsOf (after x)) ≡ next_of (denote l)
+      here : (value : Card → ℕ) (fault : ℕ → Option FormatFault) (after : ℕ → Format Card Card) → fault ≡ fault_at l.phase l → (λ x. erase counts_of (after x)) ≡ next_of (denote l)
           → walk (get w value fault after) c at ≡ walk card c 0 → r.front ++ (record { width = w; value = value c } ∷ fields (after (value c)) c) ≡ fields card c → Next numbers c l at n bytes w v
       here value fault after ef ea x j =
-          let q : numbersOf c ≡ map (λ f. f.value) (r.front ++ (record { width = w; value = value c } ∷ fields (after (value c)) c)) = ap (map (λ f. f.value)) (sym j) in
-          let l1 : n < length (numbersOf c) = rw (q, ← r.count) (length_front r.front _ _) in
+          let q : numbers_of c ≡ map (λ f. f.value) (r.front ++ (record { width = w; value = value c } ∷ fields (after (value c)) c)) = ap (map (λ f. f.value)) (sym j) in
+          let l1 : n < length (numbers_of c) = rw (q, ← r.count) (length_front r.front _ _) in
           let e : value c ≡ v =
           sym (ev ∙ k.entries n room l1 ∙ ap (λ xs. get_or xs n 0) q ∙ ap (λ (i : ℕ). get_or (map (λ f. f.value) (r.front ++ (record { width = w; value = value c } ∷ fields (after (value c)) c))) i 0) (sym r.count)
           ∙ value-front r.front _ _) in
@@ -129,13 +129,13 @@ module _ (numbers : List ℕ) (c : Card) (k : Lines c numbers) (l : Layout) (at 
             spelt = r.spelt;
           }
 
-      go : (m : Format Card Card) → erase countsOf m ≡ denote l → walk m c at ≡ walk card c 0 → r.front ++ fields m c ≡ fields card c → Next numbers c l at n bytes w v
+      go : (m : Format Card Card) → erase counts_of m ≡ denote l → walk m c at ≡ walk card c 0 → r.front ++ fields m c ≡ fields card c → Next numbers c l at n bytes w v
       go (done a) e x j = absurd (let y = e ∙ wait in let z : ◌≡◌ {A = ℕ} 0 1 = cc in omega arith)
       go (get u value fault after) e x j =
-          let y : get u (λ z. 0) fault (λ z. erase countsOf (after z)) ≡ get w (λ z. 0) (faultAt l.phase l) (next_of (denote l)) = e ∙ wait in
+          let y : get u (λ z. 0) fault (λ z. erase counts_of (after z)) ≡ get w (λ z. 0) (fault_at l.phase l) (next_of (denote l)) = e ∙ wait in
           let eu : u ≡ w = cc in
-          let ef : fault ≡ faultAt l.phase l = cc in
-          let ea : (λ z. erase countsOf (after z)) ≡ next_of (denote l) = cc in
+          let ef : fault ≡ fault_at l.phase l = cc in
+          let ea : (λ z. erase counts_of (after z)) ≡ next_of (denote l) = cc in
           here value fault after ef ea (subst (λ (i : ℕ). walk (get i value fault after) c at ≡ walk card c 0) eu x)
           (subst (λ (i : ℕ). r.front ++ (record { width = i; value = value c } ∷ fields (after (value c)) c) ≡ fields card c) eu j)
 
@@ -144,22 +144,22 @@ zero_bit : (n i : ℕ) → bit (replicate n 0) i ≡ 0
 unfolding bit
 zero_bit n i = rw (zero_in n (i / 8), zero-div)
 
-pub behind-start : (numbers : List ℕ) → Behind numbers start_of 0 0 (replicate cardBytes 0)
+pub behind-start : (numbers : List ℕ) → Behind numbers start_of 0 0 (replicate card_bytes 0)
 behind-start numbers =
     record {
       sane = sane-start;
-      budget = subst (λ (m : Format One Counts). Budget m tableSize cardBits) (sym denote-start) budget-card;
+      budget = subst (λ (m : Format One Counts). Budget m table_size card_bits) (sym denote-start) budget-card;
       low = omega arith;
       few = omega arith;
-      long = length-replicate {A = ℕ} cardBytes 0;
-      small = λ k. rw (zero_in cardBytes k) (omega arith);
-      zeros = λ i h. zero_bit cardBytes i;
+      long = length-replicate {A = ℕ} card_bytes 0;
+      small = λ k. rw (zero_in card_bytes k) (omega arith);
+      zeros = λ i h. zero_bit card_bytes i;
       rest = λ c k. record { format = card; shape = erase-card ∙ sym denote-start; walks = refl; front = []; joined = refl; count = refl; wide = refl; spelt = tt };
     }
 
 -- bytes that spell the fields of c, with zeros behind, are the bytes of its card
 module _ (c : Card) (bytes : List ℕ) (end : ℕ) (k : all_fit (fields card c) ≡ true) (e : end ≡ bits (fields card c))
-    (long : length bytes ≡ cardBytes) (small : (i : ℕ) → get_or bytes i 0 < 256) (zeros : (i : ℕ) → end ≤ i → bit bytes i ≡ 0) (s : Spelt bytes 0 (fields card c)) where
+    (long : length bytes ≡ card_bytes) (small : (i : ℕ) → get_or bytes i 0 < 256) (zeros : (i : ℕ) → end ≤ i → bit bytes i ≡ 0) (s : Spelt bytes 0 (fields card c)) where
   whole-bit : (i : ℕ) → bit bytes i ≡ bit (encode c) i
   unfolding encode
   whole-bit i = go (lt-or-ge i end)
@@ -175,12 +175,12 @@ module _ (c : Card) (bytes : List ℕ) (end : ℕ) (k : all_fit (fields card c) 
       ∙ field-local (bit bytes) (bit (encode c)) (8 * i) 8 (λ j a b. whole-bit j)
       ∙ sym (byte-field (encode c) (spell-bytes (fields card c)) i)
 
-  whole-bytes : bytes ≡ table 0 cardBytes (λ i. get_or (encode c) i 0)
+  whole-bytes : bytes ≡ table 0 card_bytes (λ i. get_or (encode c) i 0)
   whole-bytes =
-      ext_get_or 0 bytes (table 0 cardBytes (λ i. get_or (encode c) i 0)) (long ∙ sym (table-length 0 cardBytes (λ i. get_or (encode c) i 0)))
-      (λ i l. whole-byte i ∙ sym (table_at cardBytes (λ j. get_or (encode c) j 0) 0 i (omega (arith, long))))
+      ext_get_or 0 bytes (table 0 card_bytes (λ i. get_or (encode c) i 0)) (long ∙ sym (table-length 0 card_bytes (λ i. get_or (encode c) i 0)))
+      (λ i l. whole-byte i ∙ sym (table_at card_bytes (λ j. get_or (encode c) j 0) 0 i (omega (arith, long))))
 
-  pub whole-spelt : counted c ≡ true → (d : Card) → walk card c 0 ≡ whole d end → (r : CardSpelt) → r.answer ≡ Whole ((end + 7) / 8) → r.bytes ≡ bytes → IsSpelt (readCard (encode c)) r
+  pub whole-spelt : counted c ≡ true → (d : Card) → walk card c 0 ≡ whole d end → (r : CardSpelt) → r.answer ≡ Whole ((end + 7) / 8) → r.bytes ≡ bytes → IsSpelt (read_card (encode c)) r
   unfolding encode
   whole-spelt n d w r ea eb =
       let q : d ≡ c = (walk-whole c d end ((counted_is c).0 n) w).0 in
@@ -192,35 +192,35 @@ spelt-keep old new at [] h s = tt
 spelt-keep old new at (f ∷ fs) h s =
     (field-local (bit new) (bit old) at f.width (λ i a b. h i (omega arith)) ∙ s.0, spelt-keep old new (at + f.width) fs (λ i m. h i (omega arith)) s.1)
 
-spelt-snoc : (bytes : List ℕ) (at : ℕ) (fs : List Field) (f : Field) → Spelt bytes at fs → bitField (bit bytes) (at + bits fs) f.width ≡ f.value → Spelt bytes at (fs ++ (f ∷ []))
-spelt-snoc bytes at [] f s e = (ap (λ (i : ℕ). bitField (bit bytes) i f.width) (sym (add-zero at)) ∙ e, tt)
+spelt-snoc : (bytes : List ℕ) (at : ℕ) (fs : List Field) (f : Field) → Spelt bytes at fs → bit_field (bit bytes) (at + bits fs) f.width ≡ f.value → Spelt bytes at (fs ++ (f ∷ []))
+spelt-snoc bytes at [] f s e = (ap (λ (i : ℕ). bit_field (bit bytes) i f.width) (sym (add-zero at)) ∙ e, tt)
 spelt-snoc bytes at (x ∷ fs) f s e =
     let q : at + (x.width + bits fs) ≡ at + x.width + bits fs = omega arith in
-    (s.0, spelt-snoc bytes (at + x.width) fs f s.1 (ap (λ (i : ℕ). bitField (bit bytes) i f.width) (sym q) ∙ e))
+    (s.0, spelt-snoc bytes (at + x.width) fs f s.1 (ap (λ (i : ℕ). bit_field (bit bytes) i f.width) (sym q) ∙ e))
 
 module _ (numbers : List ℕ) (l : Layout) (at n : ℕ) (bytes : List ℕ) (w v : ℕ) (b : Behind numbers l at n bytes) (ew : w ≡ width_of l) where
-  wait : denote l ≡ get w (λ u. 0) (faultAt l.phase l) (next_of (denote l))
-  wait = waits l.phase l ∙ ap (λ (i : ℕ). get i (λ u. 0) (faultAt l.phase l) (next_of (denote l))) (sym ew)
+  wait : denote l ≡ get w (λ u. 0) (fault_at l.phase l) (next_of (denote l))
+  wait = waits l.phase l ∙ ap (λ (i : ℕ). get i (λ u. 0) (fault_at l.phase l) (next_of (denote l))) (sym ew)
 
-  waited : Budget (get w (λ u. 0) (faultAt l.phase l) (next_of (denote l))) (tableSize - n) (cardBits - at)
-  waited = subst (λ (m : Format One Counts). Budget m (tableSize - n) (cardBits - at)) wait b.budget
+  waited : Budget (get w (λ u. 0) (fault_at l.phase l) (next_of (denote l))) (table_size - n) (card_bits - at)
+  waited = subst (λ (m : Format One Counts). Budget m (table_size - n) (card_bits - at)) wait b.budget
 
-  pub behind-room : (n < tableSize) × (at + w ≤ cardBits)
-  behind-room = go (tableSize - n) refl waited
+  pub behind-room : (n < table_size) × (at + w ≤ card_bits)
+  behind-room = go (table_size - n) refl waited
     where
-      go : (k : ℕ) → tableSize - n ≡ k → Budget (get w (λ u. 0) (faultAt l.phase l) (next_of (denote l))) k (cardBits - at) → (n < tableSize) × (at + w ≤ cardBits)
+      go : (k : ℕ) → table_size - n ≡ k → Budget (get w (λ u. 0) (fault_at l.phase l) (next_of (denote l))) k (card_bits - at) → (n < table_size) × (at + w ≤ card_bits)
       go zero e h = absurd h
       go (suc k) e h = (omega arith, omega (arith, h.0, b.low))
 
   -- a number that does not fit is none of a card's
-  pub behind-wide : v ≡ get_or numbers n 0 → 2 ^ w ≤ v → (c : Card) → Lines c numbers → (r : CardSpelt) → IsSpelt (readCard (encode c)) r
+  pub behind-wide : v ≡ get_or numbers n 0 → 2 ^ w ≤ v → (c : Card) → Lines c numbers → (r : CardSpelt) → IsSpelt (read_card (encode c)) r
   behind-wide ev h c k r = let x = next-of numbers c k l at n bytes w v behind-room.0 ew ev (b.rest c k) in absurd (omega (arith, x.fits))
 
   module _ (r : Move) (new : List ℕ) (ev : v ≡ get_or numbers n 0) (fits : v < 2 ^ w) (put : Put bytes at w v new) (er : r ≡ step_of l v) where
     next : (c : Card) → Lines c numbers → Next numbers c l at n bytes w v
     next c k = next-of numbers c k l at n bytes w v behind-room.0 ew ev (b.rest c k)
 
-    pub behind-bad : (f : FormatFault) → r ≡ Bad f → (c : Card) → Lines c numbers → (s : CardSpelt) → IsUnspelt f at s → IsSpelt (readCard (encode c)) s
+    pub behind-bad : (f : FormatFault) → r ≡ Bad f → (c : Card) → Lines c numbers → (s : CardSpelt) → IsUnspelt f at s → IsSpelt (read_card (encode c)) s
     behind-bad f e c k s u =
         let x = next c k in
         let y = subst (Leads l v) e (leads l v r er) in
@@ -241,7 +241,7 @@ module _ (numbers : List ℕ) (l : Layout) (at n : ℕ) (bytes : List ℕ) (w v 
         let y = subst (Leads l v) e (leads l v r er) in
         record {
           sane = sane-step l m v b.sane (sym er ∙ e);
-          budget = subst (λ (x : Format One Counts). Budget x (tableSize - (n + 1)) (cardBits - (at + w))) y.1 (spent y.0);
+          budget = subst (λ (x : Format One Counts). Budget x (table_size - (n + 1)) (card_bits - (at + w))) y.1 (spent y.0);
           low = behind-room.1;
           few = omega (arith, behind-room.0);
           long = put.long ∙ b.long;
@@ -250,14 +250,14 @@ module _ (numbers : List ℕ) (l : Layout) (at n : ℕ) (bytes : List ℕ) (w v 
           rest = λ c k. rest_more c (next c k) y.0 y.1;
         }
       where
-        spent : faultAt l.phase l v ≡ none → Budget (next_of (denote l) v) (tableSize - (n + 1)) (cardBits - (at + w))
+        spent : fault_at l.phase l v ≡ none → Budget (next_of (denote l) v) (table_size - (n + 1)) (card_bits - (at + w))
         spent e =
-            let q : tableSize - n ≡ suc (tableSize - (n + 1)) = omega (arith, behind-room.0) in
-            let p : cardBits - at - w ≡ cardBits - (at + w) = omega arith in
-            let x : Budget (get w (λ u. 0) (faultAt l.phase l) (next_of (denote l))) (suc (tableSize - (n + 1))) (cardBits - at) = rw q at waited in
+            let q : table_size - n ≡ suc (table_size - (n + 1)) = omega (arith, behind-room.0) in
+            let p : card_bits - at - w ≡ card_bits - (at + w) = omega arith in
+            let x : Budget (get w (λ u. 0) (fault_at l.phase l) (next_of (denote l))) (suc (table_size - (n + 1))) (card_bits - at) = rw q at waited in
             rw p at (x.1 v fits e)
 
-        rest_more : (c : Card) (x : Next numbers c l at n bytes w v) → faultAt l.phase l v ≡ none → next_of (denote l) v ≡ denote m → Rest c m (at + w) (n + 1) new
+        rest_more : (c : Card) (x : Next numbers c l at n bytes w v) → fault_at l.phase l v ≡ none → next_of (denote l) v ≡ denote m → Rest c m (at + w) (n + 1) new
         rest_more c x p q =
             record {
               format = x.after v;
@@ -271,7 +271,7 @@ module _ (numbers : List ℕ) (l : Layout) (at n : ℕ) (bytes : List ℕ) (w v 
             }
 
     -- the last number: what is spelt is the card
-    pub behind-done : (m : Counts) → r ≡ Done m → (c : Card) → Lines c numbers → (s : CardSpelt) → s.answer ≡ Whole ((at + w + 7) / 8) → s.bytes ≡ new → IsSpelt (readCard (encode c)) s
+    pub behind-done : (m : Counts) → r ≡ Done m → (c : Card) → Lines c numbers → (s : CardSpelt) → s.answer ≡ Whole ((at + w + 7) / 8) → s.bytes ≡ new → IsSpelt (read_card (encode c)) s
     unfolding fields
     behind-done m e c k s ea eb = go (x.after v) refl
       where
@@ -281,8 +281,8 @@ module _ (numbers : List ℕ) (l : Layout) (at n : ℕ) (bytes : List ℕ) (w v 
         y : Leads l v (Done m)
         y = subst (Leads l v) e (leads l v r er)
 
-        go : (f : Format Card Card) → x.after v ≡ f → IsSpelt (readCard (encode c)) s
-        go (get u value fault after) q = absurd (let p = ap (erase countsOf) (sym q) ∙ x.shape ∙ y.1 in let z : ◌≡◌ {A = ℕ} 0 1 = cc in omega arith)
+        go : (f : Format Card Card) → x.after v ≡ f → IsSpelt (read_card (encode c)) s
+        go (get u value fault after) q = absurd (let p = ap (erase counts_of) (sym q) ∙ x.shape ∙ y.1 in let z : ◌≡◌ {A = ℕ} 0 1 = cc in omega arith)
         go (done d) q =
             let all : x.front ++ (field ∷ []) ≡ fields card c = rw q at x.joined in
             let end : at + w ≡ bits (fields card c) = rw (← all) (sym (total-append (λ f. f.width) x.front (field ∷ []) ∙ omega (arith, x.wide))) in

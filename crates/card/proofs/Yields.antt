@@ -10,9 +10,9 @@ use lib.ListN.{length}
 use lib.Dec.{ltb}
 use Rattle.card.specs.Finite.{All}
 use Rattle.card.specs.Numbers.{number}
-use Rattle.card.specs.Bits.{bit, bitField}
+use Rattle.card.specs.Bits.{bit, bit_field}
 use Rattle.card.specs.Format.{Format, done, get, of, each, grow, ◌>>=◌}
-use Rattle.card.specs.Parsing.{Parsing, refused, whole, read, unlessFault}
+use Rattle.card.specs.Parsing.{Parsing, refused, whole, read, unless_fault}
 use Rattle.card.specs.declared.FormatFault.{FormatFault}
 use Rattle.card.specs.declared.FormatFault.TheVariants.{Truncated}
 
@@ -25,8 +25,8 @@ pub bit-small : (bytes : List ℕ) (i : ℕ) → bit bytes i < 2
 unfolding bit
 bit-small bytes i = omega arith
 
-pub field-small : (bits : ℕ → ℕ) → ((i : ℕ) → bits i < 2) → (at w : ℕ) → bitField bits at w < 2 ^ w
-unfolding bitField
+pub field-small : (bits : ℕ → ℕ) → ((i : ℕ) → bits i < 2) → (at w : ℕ) → bit_field bits at w < 2 ^ w
+unfolding bit_field
 field-small bits h at zero = omega arith
 field-small bits h at (suc w) = rw pow-suc (omega (arith, field-small bits h at w, h (at + w)))
 
@@ -41,10 +41,10 @@ module _ {U A : Type 0} where
       go (ltb (8 * length bytes) (at + w)) (fault v) (λ f. yields-read bytes (next v) P (h v (field-small (bit bytes) (bit-small bytes) at w) f) (at + w) end a) refl e
     where
       v : ℕ
-      v = bitField (bit bytes) at w
+      v = bit_field (bit bytes) at w
 
       go : (short : Bool) (fault? : Option FormatFault) → (fault v ≡ none → read bytes (next v) (at + w) ≡ whole a end → P a) → fault v ≡ fault?
-          → cond short (refused (number Truncated) at) (unlessFault fault? at (read bytes (next v) (at + w))) ≡ whole a end → P a
+          → cond short (refused (number Truncated) at) (unless_fault fault? at (read bytes (next v) (at + w))) ≡ whole a end → P a
       go true f k q r = absurd (not-whole _ _ _ _ r)
       go false none k q r = k q r
       go false (some f) k q r = absurd (not-whole _ _ _ _ r)

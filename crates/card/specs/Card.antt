@@ -47,8 +47,8 @@ pub record Card : Type 0 where
   pub arcs : List Arc
 
 -- a card as another version
-abbrev pub withVersion : (version : ℕ) → Card → Card
-withVersion v c =
+abbrev pub with_version : (version : ℕ) → Card → Card
+with_version v c =
     record {
       version = v;
       signals = c.signals;
@@ -61,20 +61,20 @@ withVersion v c =
     }
 
 -- how many numbers the header and a row have
-abbrev pub headerFields : ℕ
-headerFields = 5
+abbrev pub header_fields : ℕ
+header_fields = 5
 
-abbrev pub subnetFields : ℕ
-subnetFields = 4
+abbrev pub subnet_fields : ℕ
+subnet_fields = 4
 
-abbrev pub placeFields : ℕ
-placeFields = 3
+abbrev pub place_fields : ℕ
+place_fields = 3
 
-abbrev pub transitionFields : ℕ
-transitionFields = 3
+abbrev pub transition_fields : ℕ
+transition_fields = 3
 
-abbrev pub arcFields : ℕ
-arcFields = 4
+abbrev pub arc_fields : ℕ
+arc_fields = 4
 
 -- the kinds of a place: 0 normal, 1 in, 2 out, 3 in-out
 abbrev pub normal : ℕ
@@ -86,8 +86,8 @@ input = 1
 abbrev pub output : ℕ
 output = 2
 
-abbrev pub inOut : ℕ
-inOut = 3
+abbrev pub in_out : ℕ
+in_out = 3
 
 -- the directions of an arc: 0 place to transition, 1 transition to place
 abbrev pub draws : ℕ
@@ -96,48 +96,48 @@ draws = 0
 abbrev pub fills : ℕ
 fills = 1
 
-abbrev pub headerOf : Card → Header
-headerOf c = record { version = c.version; subnets = length c.subnets; signals = c.signals; limit = c.limit; scale = c.scale }
+abbrev pub header_of : Card → Header
+header_of c = record { version = c.version; subnets = length c.subnets; signals = c.signals; limit = c.limit; scale = c.scale }
 
 -- the rows by number: a subnet; a place and a transition by flat number; rows past the last hold zeros
-abbrev pub noSubnet : Subnet
-noSubnet = record { parent = 0; type = 0; places = 0; transitions = 0 }
+abbrev pub no_subnet : Subnet
+no_subnet = record { parent = 0; type = 0; places = 0; transitions = 0 }
 
-abbrev pub noPlace : Place
-noPlace = record { kind = 0; capacity = 0; tokens = 0 }
+abbrev pub no_place : Place
+no_place = record { kind = 0; capacity = 0; tokens = 0 }
 
-abbrev pub noTransition : Transition
-noTransition = record { signal = 0; arcs = 0; rank = 0 }
+abbrev pub no_transition : Transition
+no_transition = record { signal = 0; arcs = 0; rank = 0 }
 
-abbrev pub noArc : Arc
-noArc = record { direction = 0; subnet = 0; place = 0; weight = 0 }
+abbrev pub no_arc : Arc
+no_arc = record { direction = 0; subnet = 0; place = 0; weight = 0 }
 
-abbrev pub subnetAt : Card → ℕ → Subnet
-subnetAt c s = get_or c.subnets s noSubnet
+abbrev pub subnet_at : Card → ℕ → Subnet
+subnet_at c s = get_or c.subnets s no_subnet
 
-abbrev pub placeAt : Card → ℕ → Place
-placeAt c p = get_or c.places p noPlace
+abbrev pub place_at : Card → ℕ → Place
+place_at c p = get_or c.places p no_place
 
-abbrev pub transitionAt : Card → ℕ → Transition
-transitionAt c t = get_or c.transitions t noTransition
+abbrev pub transition_at : Card → ℕ → Transition
+transition_at c t = get_or c.transitions t no_transition
 
 -- the flat number of a subnet's first place and first transition: what all lower subnets list comes before it ('Flattening')
-unfoldable pub firstPlace : Card → ℕ → ℕ
-firstPlace c s = sum_to s (λ r. (subnetAt c r).places)
+unfoldable pub first_place : Card → ℕ → ℕ
+first_place c s = sum_to s (λ r. (subnet_at c r).places)
 
-unfoldable pub firstTransition : Card → ℕ → ℕ
-firstTransition c s = sum_to s (λ r. (subnetAt c r).transitions)
+unfoldable pub first_transition : Card → ℕ → ℕ
+first_transition c s = sum_to s (λ r. (subnet_at c r).transitions)
 
 -- the number of a transition's first arc, and its arc j
-unfoldable pub firstArc : Card → ℕ → ℕ
-firstArc c t = sum_to t (λ u. (transitionAt c u).arcs)
+unfoldable pub first_arc : Card → ℕ → ℕ
+first_arc c t = sum_to t (λ u. (transition_at c u).arcs)
 
-abbrev pub arcAt : Card → (t j : ℕ) → Arc
-arcAt c t j = get_or c.arcs (firstArc c t + j) noArc
+abbrev pub arc_at : Card → (t j : ℕ) → Arc
+arc_at c t j = get_or c.arcs (first_arc c t + j) no_arc
 
 -- the flat number of the place that an arc names, and its row
-abbrev pub flatPlace : Card → Arc → ℕ
-flatPlace c a = firstPlace c a.subnet + a.place
+abbrev pub flat_place : Card → Arc → ℕ
+flat_place c a = first_place c a.subnet + a.place
 
 abbrev pub place_of : Card → Arc → Place
-place_of c a = placeAt c (flatPlace c a)
+place_of c a = place_at c (flat_place c a)

@@ -23,13 +23,13 @@ any zero test = false
 any (suc n) test = any n test || test n
 
 -- the value, where the test holds; the value, where it fails
-abbrev pub someIf : {A : Type 0} → Bool → A → Option A
-someIf true a = some a
-someIf false a = none
+abbrev pub some_if : {A : Type 0} → Bool → A → Option A
+some_if true a = some a
+some_if false a = none
 
-abbrev pub someUnless : {A : Type 0} → Bool → A → Option A
-someUnless true a = none
-someUnless false a = some a
+abbrev pub some_unless : {A : Type 0} → Bool → A → Option A
+some_unless true a = none
+some_unless false a = some a
 
 -- the first of two that is there
 infixr 25 ◌otherwise◌
@@ -44,7 +44,7 @@ first_of from (suc n) f = f from otherwise first_of (suc from) n f
 
 -- the lowest number that passes the test
 abbrev pub lowest : (from n : ℕ) → (ℕ → Bool) → Option ℕ
-lowest from n test = first_of from n (λ i. someIf (test i) i)
+lowest from n test = first_of from n (λ i. some_if (test i) i)
 
 -- f from, f (from + 1), .., n of them, as a list
 unfoldable pub table : {A : Type 0} → (from n : ℕ) → (ℕ → A) → List A

@@ -2,7 +2,7 @@
 -- with a number there, and what comes after it. Reading makes an A by it and writing spells a U by it, so a layout is stated once.
 use Rattle.std.specs.Prelude.{ℕ, zero, suc, ◌+◌, Bool, List, [], ◌∷◌}
 use Rattle.std.proofs.Math.Option.{Option, none}
-use Rattle.card.specs.Finite.{someUnless}
+use Rattle.card.specs.Finite.{some_unless}
 use Rattle.card.specs.declared.FormatFault.{FormatFault}
 
 pub data Format (U A : Type 0) : Type 0 where
@@ -26,7 +26,7 @@ abbrev pub free : {U : Type 0} → (w : ℕ) → (U → ℕ) → Format U ℕ
 free w value = get w value (λ v. none) (λ v. done v)
 
 abbrev pub field : {U : Type 0} → (w : ℕ) → (U → ℕ) → (ℕ → Bool) → FormatFault → Format U ℕ
-field w value test fault = get w value (λ v. someUnless (test v) fault) (λ v. done v)
+field w value test fault = get w value (λ v. some_unless (test v) fault) (λ v. done v)
 
 -- the formats from, from + 1, .., n of them
 unfoldable pub each : {U A : Type 0} → (from n : ℕ) → (ℕ → Format U A) → Format U (List A)
@@ -49,9 +49,9 @@ size (done a) = 0
 size (get w value fault next) = w + size (next 0)
 
 -- the same where the first field holds v, by which the other widths go
-abbrev pub sizeFrom : {U A : Type 0} → (v : ℕ) → Format U A → ℕ
-sizeFrom v (done a) = 0
-sizeFrom v (get w value fault next) = w + size (next v)
+abbrev pub size_from : {U A : Type 0} → (v : ℕ) → Format U A → ℕ
+size_from v (done a) = 0
+size_from v (get w value fault next) = w + size (next v)
 
 -- its fields, where their number does not depend on what they hold
 unfoldable pub count : {U A : Type 0} → Format U A → ℕ

@@ -2,72 +2,72 @@
 use Rattle.std.specs.Prelude.{ℕ, ◌+◌, ◌*◌, ◌/◌, ◌≤◌, ◌≡◌, Bool, true, false, cond, List, map, length, get_or, leb}
 use Rattle.card.specs.Finite.{table}
 use Rattle.card.specs.Numbers.{number}
-use Rattle.card.specs.Card.{Card, headerFields, subnetFields, placeFields, transitionFields, arcFields}
-use Rattle.card.specs.Grammar.{maxSubnets, maxCount, maxArcs, card}
+use Rattle.card.specs.Card.{Card, header_fields, subnet_fields, place_fields, transition_fields, arc_fields}
+use Rattle.card.specs.Grammar.{max_subnets, max_count, max_arcs, card}
 use Rattle.card.specs.Parsing.{Parsing}
 use Rattle.card.specs.Writing.{fields}
-use Rattle.card.specs.Index.{startsSize, startsOf}
+use Rattle.card.specs.Index.{starts_size, starts_of}
 use Rattle.card.specs.declared.reader.ReadAnswer.{ReadAnswer}
 use Rattle.card.specs.declared.reader.ReadAnswer.TheVariants.{Whole, Refused}
 use Rattle.card.specs.declared.reader.CardRead.{CardRead}
 
 -- the most fields of a card: those of its header, and of so many subnets, places, and transitions with their arcs
-abbrev pub tableSize : ℕ
-tableSize = headerFields + subnetFields * maxSubnets + placeFields * maxCount + (transitionFields + arcFields * maxArcs) * maxCount
+abbrev pub table_size : ℕ
+table_size = header_fields + subnet_fields * max_subnets + place_fields * max_count + (transition_fields + arc_fields * max_arcs) * max_count
 
 -- the most bits and bytes of a card, all of whose rows are there (`most-bits`, `bytes-few`)
-abbrev pub cardBits : ℕ
-cardBits = 182153
+abbrev pub card_bits : ℕ
+card_bits = 182153
 
-abbrev pub cardBytes : ℕ
-cardBytes = 22770
+abbrev pub card_bytes : ℕ
+card_bytes = 22770
 
 -- the numbers of a card, field after field
-unfoldable pub numbersOf : Card → List ℕ
-numbersOf c = map (λ f. f.value) (fields card c)
+unfoldable pub numbers_of : Card → List ℕ
+numbers_of c = map (λ f. f.value) (fields card c)
 
 -- what the reader says: the three counts, or a number and a bit
 pub data ReadOutcome : Type 0 where
   whole : (subnets places transitions : ℕ) → ReadOutcome
   refused : (number bit : ℕ) → ReadOutcome
 
-abbrev pub readOutcome : ReadAnswer → ReadOutcome
-readOutcome (Whole k) = whole k.subnets k.places k.transitions
-readOutcome (Refused f at) = refused (number f) at
+abbrev pub read_outcome : ReadAnswer → ReadOutcome
+read_outcome (Whole k) = whole k.subnets k.places k.transitions
+read_outcome (Refused f at) = refused (number f) at
 
-abbrev pub outcomeOf : Parsing Card → ReadOutcome
-outcomeOf (Parsing.whole c end) = whole (length c.subnets) (length c.places) (length c.transitions)
-outcomeOf (Parsing.refused n at) = refused n at
+abbrev pub outcome_of : Parsing Card → ReadOutcome
+outcome_of (Parsing.whole c end) = whole (length c.subnets) (length c.places) (length c.transitions)
+outcome_of (Parsing.refused n at) = refused n at
 
 -- a table of so many numbers: those of a card, with zeros behind them
-unfoldable pub numbersTable : (size : ℕ) → Card → List ℕ
-numbersTable size c = table 0 size (λ i. get_or (numbersOf c) i 0)
+unfoldable pub numbers_table : (size : ℕ) → Card → List ℕ
+numbers_table size c = table 0 size (λ i. get_or (numbers_of c) i 0)
 
 abbrev pub zeros : (size : ℕ) → List ℕ
 zeros size = table 0 size (λ i. 0)
 
 -- the two tables of a card that was read: its numbers, and where its rows begin; of a refused one, zeros
 abbrev pub table_of : (size : ℕ) → Parsing Card → List ℕ
-table_of size (Parsing.whole c end) = numbersTable size c
+table_of size (Parsing.whole c end) = numbers_table size c
 table_of size (Parsing.refused n at) = zeros size
 
-abbrev pub startsRead : Parsing Card → List ℕ
-startsRead (Parsing.whole c end) = startsOf c
-startsRead (Parsing.refused n at) = zeros startsSize
+abbrev pub starts_read : Parsing Card → List ℕ
+starts_read (Parsing.whole c end) = starts_of c
+starts_read (Parsing.refused n at) = zeros starts_size
 
 pub record IsRead (x : Parsing Card) (r : CardRead) : Type 0 where
-  pub answer : readOutcome r.answer ≡ outcomeOf x
-  pub starts : r.starts ≡ startsRead x
+  pub answer : read_outcome r.answer ≡ outcome_of x
+  pub starts : r.starts ≡ starts_read x
 
 -- A table has room for the numbers of any card of so many bytes: it is the largest card's, or has a number for each bit. (Where fields of no
 -- bits stand on a card, fields with more bits than one stand before them.)
-abbrev pub hasRoom : (bytes size : ℕ) → Bool
-hasRoom bytes size = cond (leb tableSize size) true (leb bytes (size / 8))
+abbrev pub has_room : (bytes size : ℕ) → Bool
+has_room bytes size = cond (leb table_size size) true (leb bytes (size / 8))
 
 -- a table of so many numbers that was filled, and has room for all of them
 pub record IsTable (x : Parsing Card) (size : ℕ) (numbers : List ℕ) : Type 0 where
   pub is : numbers ≡ table_of size x
-  pub fits : (c : Card) (end : ℕ) → x ≡ Parsing.whole c end → length (numbersOf c) ≤ size
+  pub fits : (c : Card) (end : ℕ) → x ≡ Parsing.whole c end → length (numbers_of c) ≤ size
 
 -- a lent table after a reading: filled where it has room, else as it was
 abbrev pub IsLent : Parsing Card → (room : Bool) → (before after : List ℕ) → Type 0

@@ -1,8 +1,8 @@
 -- What 'The card' asks of a card's rows, as propositions: the ranges hold, and there are as many rows as the counts say.
 use Rattle.std.specs.Prelude.{ℕ, suc, ◌^◌, ◌≤◌, ◌<◌, ◌≡◌, ◌≢◌, length}
 use Rattle.card.specs.Finite.{All}
-use Rattle.card.specs.Card.{Card, Subnet, Place, Transition, Arc, normal, inOut, fills, subnetAt, placeAt, firstPlace, firstTransition, firstArc}
-use Rattle.card.specs.Grammar.{maxVersion, maxSubnets, maxCount, maxSignals, maxArcs, rankWidth, limitWidth, scaleWidth}
+use Rattle.card.specs.Card.{Card, Subnet, Place, Transition, Arc, normal, in_out, fills, subnet_at, place_at, first_place, first_transition, first_arc}
+use Rattle.card.specs.Grammar.{max_version, max_subnets, max_count, max_signals, max_arcs, rank_width, limit_width, scale_width}
 
 -- Subnet 0 is the main net: parent 0, type 0. Any other parent is a smaller number than the subnet's own. Each subnet has at least one place
 -- and one transition.
@@ -16,7 +16,7 @@ pub record SubnetRow (s : ℕ) (r : Subnet) : Type 0 where
 -- a place of subnet s: kind (in subnet 0 all places are normal), capacity 1 to 255, first tokens 0 to capacity
 pub record PlaceRow (s : ℕ) (p : Place) : Type 0 where
   pub main : s ≡ 0 → p.kind ≡ normal
-  pub kind : p.kind ≤ inOut
+  pub kind : p.kind ≤ in_out
   pub positive : 1 ≤ p.capacity
   pub capacity : p.capacity ≤ 255
   pub tokens : p.tokens ≤ p.capacity
@@ -25,8 +25,8 @@ pub record PlaceRow (s : ℕ) (p : Place) : Type 0 where
 pub record TransitionRow (version signals : ℕ) (t : Transition) : Type 0 where
   pub signal : t.signal < signals
   pub positive : 1 ≤ t.arcs
-  pub arcs : t.arcs ≤ maxArcs
-  pub rank : t.rank < 2 ^ rankWidth version
+  pub arcs : t.arcs ≤ max_arcs
+  pub rank : t.rank < 2 ^ rank_width version
 
 pub record ArcRow (a : Arc) : Type 0 where
   pub direction : a.direction ≤ fills
@@ -36,23 +36,23 @@ pub record ArcRow (a : Arc) : Type 0 where
 
 -- the rows below the header; over all subnets there are at most 255 places and 255 transitions
 pub record Rows (c : Card) : Type 0 where
-  pub placeCount : length c.places ≡ firstPlace c (length c.subnets)
-  pub transitionCount : length c.transitions ≡ firstTransition c (length c.subnets)
-  pub arcCount : length c.arcs ≡ firstArc c (length c.transitions)
-  pub fewPlaces : length c.places ≤ maxCount
-  pub fewTransitions : length c.transitions ≤ maxCount
-  pub subnet : (s : ℕ) → s < length c.subnets → SubnetRow s (subnetAt c s)
-  pub place : (s p : ℕ) → s < length c.subnets → firstPlace c s ≤ p → p < firstPlace c (suc s) → PlaceRow s (placeAt c p)
+  pub place_count : length c.places ≡ first_place c (length c.subnets)
+  pub transition_count : length c.transitions ≡ first_transition c (length c.subnets)
+  pub arc_count : length c.arcs ≡ first_arc c (length c.transitions)
+  pub few_places : length c.places ≤ max_count
+  pub few_transitions : length c.transitions ≤ max_count
+  pub subnet : (s : ℕ) → s < length c.subnets → SubnetRow s (subnet_at c s)
+  pub place : (s p : ℕ) → s < length c.subnets → first_place c s ≤ p → p < first_place c (suc s) → PlaceRow s (place_at c p)
   pub transitions : All (TransitionRow c.version c.signals) c.transitions
   pub arcs : All ArcRow c.arcs
 
 -- version 1 or 2, subnets S 1 to 32, signals G 1 to 63; limit and scale only from the versions on that bring them
 pub record Wellformed (c : Card) : Type 0 where
-  pub version : (1 ≤ c.version) × (c.version ≤ maxVersion)
-  pub someSubnets : 1 ≤ length c.subnets
-  pub fewSubnets : length c.subnets ≤ maxSubnets
-  pub someSignals : 1 ≤ c.signals
-  pub fewSignals : c.signals ≤ maxSignals
-  pub limit : c.limit < 2 ^ limitWidth c.version
-  pub scale : c.scale < 2 ^ scaleWidth c.version
+  pub version : (1 ≤ c.version) × (c.version ≤ max_version)
+  pub some_subnets : 1 ≤ length c.subnets
+  pub few_subnets : length c.subnets ≤ max_subnets
+  pub some_signals : 1 ≤ c.signals
+  pub few_signals : c.signals ≤ max_signals
+  pub limit : c.limit < 2 ^ limit_width c.version
+  pub scale : c.scale < 2 ^ scale_width c.version
   pub rows : Rows c

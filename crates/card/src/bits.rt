@@ -1,6 +1,6 @@
 // Fields of up to 16 bits, at any bit of a byte slice.
 ghost use Rattle.std.specs.Prelude.{◌≡◌, ◌+◌, ◌*◌, ◌^◌, ◌<◌, ◌≤◌, length, get_or, set, leb};
-ghost use Rattle.card.specs.Bits.{bit, bitField};
+ghost use Rattle.card.specs.Bits.{bit, bit_field};
 ghost use Rattle.card.specs.inner.Spans.{Span, patch, Put};
 
 fn byte(card: &[u8], k: usize) -> u32
@@ -45,9 +45,9 @@ fn span_at(card: &[u8], k: usize) -> u32
 
 // The field of width bits from bit at on.
 pub fn bit_field(card: &[u8], at: usize, width: usize) -> u16
-    requires width_bound { at + width ≤ 8 * length card.now }
-    requires width_bound_2 { width ≤ 16 }
-    ensures { (result ≡ bitField (bit card.now) at width) × (result < 2 ^ width) }
+    requires inside { at + width ≤ 8 * length card.now }
+    requires narrow { width ≤ 16 }
+    ensures { (result ≡ bit_field (bit card.now) at width) × (result < 2 ^ width) }
 {
     let x = span_at(card, at / 8);
     (x / pow2(24 - (at % 8 + width)) % pow2(width)) as u16
@@ -75,8 +75,8 @@ fn patched(x: u32, low: usize, width: usize, value: u16) -> u32
 
 // Writes the field of width bits from bit at on; every other bit stays.
 pub fn put_field(out: &mut [u8], at: usize, width: usize, value: u16)
-    requires width_bound { at + width ≤ 8 * length out.old }
-    requires width_bound_2 { (width ≤ 16) × (value < 2 ^ width) }
+    requires inside { at + width ≤ 8 * length out.old }
+    requires narrow { (width ≤ 16) × (value < 2 ^ width) }
     ensures { Put out.old at width value out.new }
 {
     let k = at / 8;

@@ -1,13 +1,13 @@
 // Fields at any bit of bytes, for the layers above.
 ghost use Rattle.std.specs.Prelude.{◌≡◌};
-ghost use Rattle.card.specs.Fields.{fieldAt};
+ghost use Rattle.card.specs.Fields.{field_at};
 
 use crate::bits::bit_field;
 
 // The field of width bits from bit at on; 0 where it is wider than 16 bits or the bytes end before it does. Two wrong readers that this
 // rules out: one that gives the bits that are there of a field that is cut off, and one that takes a byte's lowest bit for its first.
 pub fn field_at(bytes: &[u8], at: usize, width: usize) -> u16
-    ensures { result ≡ fieldAt bytes.now at width }
+    ensures { result ≡ field_at bytes.now at width }
 {
     if 16 < width {
         return 0;

@@ -4,8 +4,8 @@ ghost use Rattle.card.specs.Card.{Card};
 ghost use Rattle.card.specs.Format.{count, size};
 ghost use Rattle.card.specs.Grammar.{subnet, place, transition, arc};
 ghost use Rattle.card.specs.Wellformed.{Wellformed};
-ghost use Rattle.card.specs.Index.{Laid, startsOf};
-ghost use Rattle.card.specs.inner.Indexing.{Moved, OnCard, putSubnet, AtSubnet, TransitionsIndexed};
+ghost use Rattle.card.specs.Index.{Laid, starts_of};
+ghost use Rattle.card.specs.inner.Indexing.{Moved, OnCard, put_subnet, AtSubnet, TransitionsIndexed};
 ghost use Rattle.card.specs.inner.Runs.{Tells};
 
 use crate::layout::{
@@ -58,7 +58,7 @@ fn after_places(p: Position, places: u16) -> Position
 
 // Stores where subnet s begins, and the flat numbers of its first place and transition.
 fn put_subnet(starts: &mut [u32], s: u16, p: Position, place: u32, transition: u32)
-    ensures { starts.new ≡ putSubnet starts.old s p.row p.bit place transition }
+    ensures { starts.new ≡ put_subnet starts.old s p.row p.bit place transition }
 {
     let i = s as usize;
     put_wide(starts, i, p.row);
@@ -98,7 +98,7 @@ fn index_transitions(
 
 // Where the rows of a card begin whose numbers the table holds. The table of starts is that of specs/Index.antt.
 pub fn index(numbers: &[u16], subnets: u16) -> [u32; STARTS]
-    ensures { (c : Card) → Wellformed c → Laid c numbers.now → subnets ≡ length c.subnets → result ≡ startsOf c }
+    ensures { (c : Card) → Wellformed c → Laid c numbers.now → subnets ≡ length c.subnets → result ≡ starts_of c }
 {
     let mut starts = [0; STARTS];
     let mut p = Position {

@@ -1,9 +1,9 @@
 // The order of a card's fields, as a machine that reader and writer share: what comes next, how wide it is, where its number leads.
 ghost use Rattle.std.specs.Prelude.{◌≡◌, true, ℕ, ◌+◌, ◌^◌, ◌<◌, ◌≤◌};
-ghost use Rattle.card.specs.Format.{count, size, sizeFrom};
+ghost use Rattle.card.specs.Format.{count, size, size_from};
 ghost use Rattle.card.specs.Grammar;
 ghost use Rattle.card.specs.Grammar.{header, subnet, place, transition, arc};
-ghost use Rattle.card.specs.inner.Layout.{start_of, width_at, width_of, to, stepAt, step_of, IsArcField, ArcGoesOn, Sane};
+ghost use Rattle.card.specs.inner.Layout.{start_of, width_at, width_of, to, step_at, step_of, IsArcField, ArcGoesOn, Sane};
 ghost use Rattle.card.specs.declared.layout.Move.TheVariants.{More};
 ghost use Rattle.card.specs.declared.layout.Phase.TheVariants.{Version, SubnetCount, SignalCount, Limit, Scale, Parent, SubnetType, PlaceCount, TransitionCount, Kind, Capacity, Tokens, Signal, ArcCount, Rank, Direction, ArcSubnet, ArcPlace, Weight};
 
@@ -208,7 +208,7 @@ pub fn header_fields() -> u32
 }
 
 pub fn header_width(version: u16) -> u32
-    ensures { (result ≡ sizeFrom version header) × (result ≤ 64) }
+    ensures { (result ≡ size_from version header) × (result ≤ 64) }
 {
     (width_at(Phase::Version, version)
         + width_at(Phase::SubnetCount, version)
@@ -271,7 +271,7 @@ pub fn arc_width() -> u32
 }
 
 fn after_version(l: Layout, v: u16) -> Move
-    ensures { result ≡ stepAt Version l v }
+    ensures { result ≡ step_at Version l v }
 {
     if v < 1 {
         return Move::Bad(FormatFault::BadVersion);
@@ -285,7 +285,7 @@ fn after_version(l: Layout, v: u16) -> Move
 }
 
 fn after_subnet_count(l: Layout, v: u16) -> Move
-    ensures { result ≡ stepAt SubnetCount l v }
+    ensures { result ≡ step_at SubnetCount l v }
 {
     if v < 1 {
         return Move::Bad(FormatFault::BadSize);
@@ -299,7 +299,7 @@ fn after_subnet_count(l: Layout, v: u16) -> Move
 }
 
 fn after_signal_count(l: Layout, v: u16) -> Move
-    ensures { result ≡ stepAt SignalCount l v }
+    ensures { result ≡ step_at SignalCount l v }
 {
     if v < 1 {
         return Move::Bad(FormatFault::BadSize);
@@ -310,7 +310,7 @@ fn after_signal_count(l: Layout, v: u16) -> Move
 }
 
 fn after_parent(l: Layout, v: u16) -> Move
-    ensures { result ≡ stepAt Parent l v }
+    ensures { result ≡ step_at Parent l v }
 {
     if l.subnet == 0 {
         if v == 0 {
@@ -325,7 +325,7 @@ fn after_parent(l: Layout, v: u16) -> Move
 }
 
 fn after_type(l: Layout, v: u16) -> Move
-    ensures { result ≡ stepAt SubnetType l v }
+    ensures { result ≡ step_at SubnetType l v }
 {
     if l.subnet == 0 {
         if v == 0 {
@@ -338,7 +338,7 @@ fn after_type(l: Layout, v: u16) -> Move
 
 fn after_place_count(l: Layout, v: u16) -> Move
     requires { Sane l × (v < 2 ^ width_at PlaceCount 0) }
-    ensures { result ≡ stepAt PlaceCount l v }
+    ensures { result ≡ step_at PlaceCount l v }
 {
     if v < 1 {
         return Move::Bad(FormatFault::BadCount);
@@ -354,7 +354,7 @@ fn after_place_count(l: Layout, v: u16) -> Move
 
 fn after_transition_count(l: Layout, v: u16) -> Move
     requires { Sane l × (v < 2 ^ width_at TransitionCount 0) }
-    ensures { result ≡ stepAt TransitionCount l v }
+    ensures { result ≡ step_at TransitionCount l v }
 {
     if v < 1 {
         return Move::Bad(FormatFault::BadCount);
@@ -369,7 +369,7 @@ fn after_transition_count(l: Layout, v: u16) -> Move
 }
 
 fn after_kind(l: Layout, v: u16) -> Move
-    ensures { result ≡ stepAt Kind l v }
+    ensures { result ≡ step_at Kind l v }
 {
     if l.subnet == 0 {
         if v == 0 {
@@ -381,7 +381,7 @@ fn after_kind(l: Layout, v: u16) -> Move
 }
 
 fn after_capacity(l: Layout, v: u16) -> Move
-    ensures { result ≡ stepAt Capacity l v }
+    ensures { result ≡ step_at Capacity l v }
 {
     if v < 1 {
         return Move::Bad(FormatFault::BadPlace);
@@ -392,7 +392,7 @@ fn after_capacity(l: Layout, v: u16) -> Move
 }
 
 fn after_tokens(l: Layout, v: u16) -> Move
-    ensures { result ≡ stepAt Tokens l v }
+    ensures { result ≡ step_at Tokens l v }
 {
     if l.capacity < v {
         return Move::Bad(FormatFault::BadPlace);
@@ -406,7 +406,7 @@ fn after_tokens(l: Layout, v: u16) -> Move
 }
 
 fn after_signal(l: Layout, v: u16) -> Move
-    ensures { result ≡ stepAt Signal l v }
+    ensures { result ≡ step_at Signal l v }
 {
     if v < l.signals {
         return Move::More(moved(l, Phase::ArcCount));
@@ -415,7 +415,7 @@ fn after_signal(l: Layout, v: u16) -> Move
 }
 
 fn after_arc_count(l: Layout, v: u16) -> Move
-    ensures { result ≡ stepAt ArcCount l v }
+    ensures { result ≡ step_at ArcCount l v }
 {
     if v < 1 {
         return Move::Bad(FormatFault::BadTransition);
@@ -428,7 +428,7 @@ fn after_arc_count(l: Layout, v: u16) -> Move
 // Behind an arc comes another, or a transition, or a subnet, or nothing.
 fn after_weight(l: Layout, v: u16) -> Move
     requires { Sane l }
-    ensures { result ≡ stepAt Weight l v }
+    ensures { result ≡ step_at Weight l v }
 {
     if 0 < l.arc_rows {
         let mut m = l;

@@ -1,8 +1,8 @@
 // Reading a card: pass one, into a table of its numbers.
 ghost use Rattle.std.specs.Prelude.{◌≡◌, true, ◌+◌, ◌*◌, ◌≤◌, length, replicate};
-ghost use Rattle.card.specs.Parsing.{readCard, excess};
-ghost use Rattle.card.specs.Tables.{cardBits, hasRoom, IsRead, IsTable, IsLent};
-ghost use Rattle.card.specs.inner.Reader.{excessOf, arcHeadWidth, IsArcHead, ended_as, IsFilled};
+ghost use Rattle.card.specs.Parsing.{read_card, excess};
+ghost use Rattle.card.specs.Tables.{card_bits, has_room, IsRead, IsTable, IsLent};
+ghost use Rattle.card.specs.inner.Reader.{excess_of, arc_head_width, IsArcHead, ended_as, IsFilled};
 ghost use Rattle.card.specs.declared.layout.Phase.TheVariants.{Direction};
 
 use crate::bits::{bit_field, pow2};
@@ -36,8 +36,8 @@ pub enum Excess {
 
 // What follows a card that ends before bit end: its first nonzero fill bit, else the first bit of a further byte.
 fn excess_at(card: &[u8], end: usize) -> Excess
-    requires { (end ≤ 8 * length card.now) × (end ≤ cardBits) }
-    ensures { excessOf result ≡ excess card.now end }
+    requires { (end ≤ 8 * length card.now) × (end ≤ card_bits) }
+    ensures { excess_of result ≡ excess card.now end }
 {
     let bytes = (end + 7) / 8;
     let mut i = end;
@@ -63,8 +63,8 @@ pub struct ArcHead {
 
 // Says yes only where an arc comes next and all of its fields before the weight are there. Where these say no, the reader goes by `step`.
 fn arc_ahead(l: Layout, at: usize, bytes: usize) -> bool
-    requires { at ≤ cardBits }
-    ensures { result ≡ true → (l.phase ≡ Direction) × (at + arcHeadWidth ≤ 8 * bytes) }
+    requires { at ≤ card_bits }
+    ensures { result ≡ true → (l.phase ≡ Direction) × (at + arc_head_width ≤ 8 * bytes) }
 {
     if arc_next(l) {
         return (at + arc_head_width() + 7) / 8 <= bytes;
@@ -73,7 +73,7 @@ fn arc_ahead(l: Layout, at: usize, bytes: usize) -> bool
 }
 
 fn arc_head(card: &[u8], at: usize) -> ArcHead
-    requires { at + arcHeadWidth ≤ 8 * length card.now }
+    requires { at + arc_head_width ≤ 8 * length card.now }
     ensures { IsArcHead card.now at result }
 {
     let v = bit_field(card, at, arc_head_width());
@@ -89,7 +89,7 @@ fn arc_head(card: &[u8], at: usize) -> ArcHead
 
 // The answer once the last field, which ends before bit end, is read.
 fn ended(card: &[u8], end: usize, k: Counts) -> ReadAnswer
-    requires { (end ≤ 8 * length card.now) × (end ≤ cardBits) }
+    requires { (end ≤ 8 * length card.now) × (end ≤ card_bits) }
     ensures { result ≡ ended_as (excess card.now end) k }
 {
     match excess_at(card, end) {
@@ -100,9 +100,9 @@ fn ended(card: &[u8], end: usize, k: Counts) -> ReadAnswer
 
 // Reads the fields of a card into a lent table of zeros. Of a card that is refused some numbers may stand there.
 fn fill(card: &[u8], numbers: &mut [u16]) -> ReadAnswer
-    requires { (numbers.old ≡ replicate (length numbers.old) 0) × (hasRoom (length card.now) (length numbers.old) ≡ true) }
+    requires { (numbers.old ≡ replicate (length numbers.old) 0) × (has_room (length card.now) (length numbers.old) ≡ true) }
     ensures numbers_len_unchanged { length numbers.new ≡ length numbers.old }
-    ensures filled { IsFilled (readCard card.now) result numbers.new }
+    ensures filled { IsFilled (read_card card.now) result numbers.new }
 {
     let mut l = start();
     let mut at = 0;
@@ -150,7 +150,7 @@ fn fill(card: &[u8], numbers: &mut [u16]) -> ReadAnswer
 // Whether a table of so many numbers has room for those of any card of so many bytes. Two wrong answers that this rules out: one that asks for
 // the largest card's table always, and one that counts a byte for each number.
 pub fn has_room(bytes: usize, size: usize) -> bool
-    ensures { result ≡ hasRoom bytes size }
+    ensures { result ≡ has_room bytes size }
 {
     if TABLE <= size {
         return true;
@@ -160,10 +160,10 @@ pub fn has_room(bytes: usize, size: usize) -> bool
 
 // Reads a card into a lent table that has room for it.
 fn read_into(card: &[u8], numbers: &mut [u16]) -> CardRead
-    requires { hasRoom (length card.now) (length numbers.old) ≡ true }
+    requires { has_room (length card.now) (length numbers.old) ≡ true }
     ensures numbers_len_unchanged { length numbers.new ≡ length numbers.old }
-    ensures read { IsRead (readCard card.now) result }
-    ensures table { IsTable (readCard card.now) (length numbers.old) numbers.new }
+    ensures read { IsRead (read_card card.now) result }
+    ensures table { IsTable (read_card card.now) (length numbers.old) numbers.new }
 {
     clear(numbers);
     let a = fill(card, numbers);
@@ -185,8 +185,8 @@ fn read_into(card: &[u8], numbers: &mut [u16]) -> CardRead
 // between the numbers.
 pub fn read(card: &[u8], numbers: &mut [u16]) -> CardRead
     ensures numbers_len_unchanged { length numbers.new ≡ length numbers.old }
-    ensures read { IsRead (readCard card.now) result }
-    ensures lent { IsLent (readCard card.now) (hasRoom (length card.now) (length numbers.old)) numbers.old numbers.new }
+    ensures read { IsRead (read_card card.now) result }
+    ensures lent { IsLent (read_card card.now) (has_room (length card.now) (length numbers.old)) numbers.old numbers.new }
 {
     if has_room(card.len(), numbers.len()) {
         return read_into(card, numbers);

@@ -1,9 +1,9 @@
 // A card's tables in lent slices, and what 17 asks of them.
 ghost use Rattle.std.specs.Prelude.{◌≡◌, ℕ, ◌+◌, ◌/◌, ◌<◌, List, ◌++◌, length, get_or, eqb};
-ghost use Rattle.card.specs.Card.{subnetFields};
+ghost use Rattle.card.specs.Card.{subnet_fields};
 ghost use Rattle.card.specs.declared.Head.{Head};
-ghost use Rattle.card.specs.Rows.{tablesIn, wholeRows};
-ghost use Rattle.card.specs.inner.Runs.{column_sum, RowsFit, Tells, subnetWidths, placeWidths, transitionWidths, arcWidths, HeaderFits, ValuesFit, Leads, arcsBefore, transitionRun, runs, RunsInside, subnetRun, TablesInside, Gathered, inOrder};
+ghost use Rattle.card.specs.Rows.{tables_in, whole_rows};
+ghost use Rattle.card.specs.inner.Runs.{column_sum, RowsFit, Tells, subnet_widths, place_widths, transition_widths, arc_widths, HeaderFits, ValuesFit, Leads, arcs_before, transition_run, runs, RunsInside, subnet_run, TablesInside, Gathered, in_order};
 ghost use Rattle.card.specs.Writing.{counted};
 
 use crate::bits::{pow2, too_wide};
@@ -52,7 +52,7 @@ fn rows_fit(rows: &[u16], widths: &[usize]) -> bool
 
 // Whether each slice ends with a row.
 pub fn whole_rows(subnets: &[u16], places: &[u16], transitions: &[u16], arcs: &[u16]) -> bool
-    ensures { result ≡ wholeRows subnets.now places.now transitions.now arcs.now }
+    ensures { result ≡ whole_rows subnets.now places.now transitions.now arcs.now }
 {
     if subnets.len() % SUBNET_FIELDS != 0 {
         return false;
@@ -68,7 +68,7 @@ pub fn whole_rows(subnets: &[u16], places: &[u16], transitions: &[u16], arcs: &[
 
 // Whether there are as many rows as the counts say.
 pub fn counts_match(subnets: &[u16], places: &[u16], transitions: &[u16], arcs: &[u16]) -> bool
-    ensures { (h : Head) → result ≡ counted (tablesIn h subnets.now places.now transitions.now arcs.now) }
+    ensures { (h : Head) → result ≡ counted (tables_in h subnets.now places.now transitions.now arcs.now) }
 {
     if !adds_up(subnets, SUBNET_FIELDS, 2, places.len() / PLACE_FIELDS) {
         return false;
@@ -85,7 +85,7 @@ pub fn counts_match(subnets: &[u16], places: &[u16], transitions: &[u16], arcs: 
 }
 
 fn subnets_fit(rows: &[u16]) -> bool
-    ensures { Tells result (RowsFit rows.now subnetWidths) }
+    ensures { Tells result (RowsFit rows.now subnet_widths) }
 {
     let widths = [
         width_at(Phase::Parent, 0),
@@ -97,7 +97,7 @@ fn subnets_fit(rows: &[u16]) -> bool
 }
 
 fn places_fit(rows: &[u16]) -> bool
-    ensures { Tells result (RowsFit rows.now placeWidths) }
+    ensures { Tells result (RowsFit rows.now place_widths) }
 {
     let widths = [
         width_at(Phase::Kind, 0),
@@ -108,7 +108,7 @@ fn places_fit(rows: &[u16]) -> bool
 }
 
 fn transitions_fit(rows: &[u16], version: u16) -> bool
-    ensures { Tells result (RowsFit rows.now (transitionWidths version)) }
+    ensures { Tells result (RowsFit rows.now (transition_widths version)) }
 {
     let widths = [
         width_at(Phase::Signal, version),
@@ -119,7 +119,7 @@ fn transitions_fit(rows: &[u16], version: u16) -> bool
 }
 
 fn arcs_fit(rows: &[u16]) -> bool
-    ensures { Tells result (RowsFit rows.now arcWidths) }
+    ensures { Tells result (RowsFit rows.now arc_widths) }
 {
     let widths = [
         width_at(Phase::Direction, 0),
@@ -211,8 +211,8 @@ fn push_transitions(
 ) -> Cursor
     requires { RunsInside transitions.now arcs.now first count arc }
     ensures numbers_len_unchanged { length numbers.new ≡ length numbers.old }
-    ensures arc_value { result.arc ≡ arcsBefore transitions.now (first + count) }
-    ensures by_index { (xs : List ℕ) → Leads xs numbers.old n → Leads (xs ++ runs first count (transitionRun transitions.now arcs.now)) numbers.new result.n }
+    ensures arc_value { result.arc ≡ arcs_before transitions.now (first + count) }
+    ensures by_index { (xs : List ℕ) → Leads xs numbers.old n → Leads (xs ++ runs first count (transition_run transitions.now arcs.now)) numbers.new result.n }
 {
     let end = first + count;
     let mut m = n;
@@ -242,7 +242,7 @@ fn push_subnets(
 ) -> usize
     requires { TablesInside subnets.now places.now transitions.now arcs.now }
     ensures numbers_len_unchanged { length numbers.new ≡ length numbers.old }
-    ensures by_index { (xs : List ℕ) → Leads xs numbers.old n → Leads (xs ++ runs 0 (length subnets.now / subnetFields) (subnetRun subnets.now places.now transitions.now arcs.now)) numbers.new result }
+    ensures by_index { (xs : List ℕ) → Leads xs numbers.old n → Leads (xs ++ runs 0 (length subnets.now / subnet_fields) (subnet_run subnets.now places.now transitions.now arcs.now)) numbers.new result }
 {
     let end = subnets.len() / SUBNET_FIELDS;
     let mut m = n;
@@ -277,8 +277,8 @@ pub fn gather(
     arcs: &[u16],
 ) -> [u16; TABLE]
     requires tables_inside { TablesInside subnets.now places.now transitions.now arcs.now }
-    requires subnet_fields_len_bound { length subnets.now / subnetFields < 65536 }
-    ensures { Gathered (inOrder h subnets.now places.now transitions.now arcs.now) result }
+    requires few_subnets { length subnets.now / subnet_fields < 65536 }
+    ensures { Gathered (in_order h subnets.now places.now transitions.now arcs.now) result }
 {
     let mut numbers = [0; TABLE];
     let header = [

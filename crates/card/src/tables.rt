@@ -1,7 +1,7 @@
 // A card's rows, out of the table of its numbers and the table of where they start. Each function takes any tables and any row: where there
 // is no such entry, it gives 0.
 ghost use Rattle.std.specs.Prelude.{◌≡◌, ◌+◌, ◌*◌, ◌≤◌, ◌<◌, length, get_or, set, replicate};
-ghost use Rattle.card.specs.Index.{ArcThere, arcOf, placeField, arcField, subnetBitStart, firstPlaceStart, firstTransitionStart, transitionRowStart, transitionBitStart};
+ghost use Rattle.card.specs.Index.{ArcThere, arc_of, place_field, arc_field, subnet_bit_start, first_place_start, first_transition_start, transition_row_start, transition_bit_start};
 ghost use Rattle.card.specs.Format.{size};
 ghost use Rattle.card.specs.Grammar.{transition, arc};
 
@@ -53,7 +53,7 @@ pub fn put_wide(numbers: &mut [u32], i: usize, v: u32)
 
 // Number k of a place: n counts from the first of the subnet whose row begins at row.
 fn place_number(numbers: &[u16], row: u32, n: u16, k: u16) -> u16
-    ensures { result ≡ get_or numbers.now (placeField row n k) 0 }
+    ensures { result ≡ get_or numbers.now (place_field row n k) 0 }
 {
     number_at(
         numbers,
@@ -63,14 +63,14 @@ fn place_number(numbers: &[u16], row: u32, n: u16, k: u16) -> u16
 
 // Where the numbers of an arc begin: j counts from the first of the transition whose row begins at row.
 pub fn arc_start(row: u32, j: u16) -> usize
-    ensures { (result ≡ arcField row j 0) × (result ≤ 5000000000) }
+    ensures { (result ≡ arc_field row j 0) × (result ≤ 5000000000) }
 {
     row as usize + transition_fields() as usize + arc_fields() as usize * j as usize
 }
 
 // Number k of an arc.
 fn arc_number(numbers: &[u16], row: u32, j: u16, k: u16) -> u16
-    ensures { result ≡ get_or numbers.now (arcField row j k) 0 }
+    ensures { result ≡ get_or numbers.now (arc_field row j k) 0 }
 {
     number_at(numbers, arc_start(row, j) + k as usize)
 }
@@ -138,19 +138,19 @@ pub fn transition_count(numbers: &[u16], row: u32) -> u16
 
 // The fields of a place.
 pub fn kind(numbers: &[u16], row: u32, n: u16) -> u16
-    ensures { result ≡ get_or numbers.now (placeField row n 0) 0 }
+    ensures { result ≡ get_or numbers.now (place_field row n 0) 0 }
 {
     place_number(numbers, row, n, 0)
 }
 
 pub fn capacity(numbers: &[u16], row: u32, n: u16) -> u16
-    ensures { result ≡ get_or numbers.now (placeField row n 1) 0 }
+    ensures { result ≡ get_or numbers.now (place_field row n 1) 0 }
 {
     place_number(numbers, row, n, 1)
 }
 
 pub fn tokens(numbers: &[u16], row: u32, n: u16) -> u16
-    ensures { result ≡ get_or numbers.now (placeField row n 2) 0 }
+    ensures { result ≡ get_or numbers.now (place_field row n 2) 0 }
 {
     place_number(numbers, row, n, 2)
 }
@@ -176,25 +176,25 @@ pub fn rank(numbers: &[u16], row: u32) -> u16
 
 // The fields of an arc.
 pub fn arc_direction(numbers: &[u16], row: u32, j: u16) -> u16
-    ensures { result ≡ get_or numbers.now (arcField row j 0) 0 }
+    ensures { result ≡ get_or numbers.now (arc_field row j 0) 0 }
 {
     arc_number(numbers, row, j, 0)
 }
 
 pub fn arc_subnet(numbers: &[u16], row: u32, j: u16) -> u16
-    ensures { result ≡ get_or numbers.now (arcField row j 1) 0 }
+    ensures { result ≡ get_or numbers.now (arc_field row j 1) 0 }
 {
     arc_number(numbers, row, j, 1)
 }
 
 pub fn arc_place(numbers: &[u16], row: u32, j: u16) -> u16
-    ensures { result ≡ get_or numbers.now (arcField row j 2) 0 }
+    ensures { result ≡ get_or numbers.now (arc_field row j 2) 0 }
 {
     arc_number(numbers, row, j, 2)
 }
 
 pub fn arc_weight(numbers: &[u16], row: u32, j: u16) -> u16
-    ensures { result ≡ get_or numbers.now (arcField row j 3) 0 }
+    ensures { result ≡ get_or numbers.now (arc_field row j 3) 0 }
 {
     arc_number(numbers, row, j, 3)
 }
@@ -210,7 +210,7 @@ pub struct Arc {
 
 // Arc j of the transition whose row begins at row. Where its four numbers are there, one test is enough.
 pub fn arc_at(numbers: &[u16], row: u32, j: u16) -> Arc
-    ensures { ArcThere numbers.now row j (arcOf result) }
+    ensures { ArcThere numbers.now row j (arc_of result) }
 {
     let i = arc_start(row, j);
     if i + 3 < numbers.len() {
@@ -237,39 +237,39 @@ pub fn subnet_row(starts: &[u32], s: u16) -> u32
 }
 
 pub fn subnet_bit(starts: &[u32], s: u16) -> u32
-    ensures { result ≡ get_or starts.now (subnetBitStart s) 0 }
+    ensures { result ≡ get_or starts.now (subnet_bit_start s) 0 }
 {
     start_at(starts, SUBNET_BITS + s as usize)
 }
 
 // The flat number of subnet s's first place, and of its first transition.
 pub fn first_place(starts: &[u32], s: u16) -> u32
-    ensures { result ≡ get_or starts.now (firstPlaceStart s) 0 }
+    ensures { result ≡ get_or starts.now (first_place_start s) 0 }
 {
     start_at(starts, FIRST_PLACES + s as usize)
 }
 
 pub fn first_transition(starts: &[u32], s: u16) -> u32
-    ensures { result ≡ get_or starts.now (firstTransitionStart s) 0 }
+    ensures { result ≡ get_or starts.now (first_transition_start s) 0 }
 {
     start_at(starts, FIRST_TRANSITIONS + s as usize)
 }
 
 // Where transition t begins, and the first bit of its arc j.
 pub fn transition_row(starts: &[u32], t: u32) -> u32
-    ensures { result ≡ get_or starts.now (transitionRowStart t) 0 }
+    ensures { result ≡ get_or starts.now (transition_row_start t) 0 }
 {
     start_at(starts, TRANSITION_ROWS + t as usize)
 }
 
 pub fn transition_bit(starts: &[u32], t: u32) -> u32
-    ensures { result ≡ get_or starts.now (transitionBitStart t) 0 }
+    ensures { result ≡ get_or starts.now (transition_bit_start t) 0 }
 {
     start_at(starts, TRANSITION_BITS + t as usize)
 }
 
 pub fn arc_bit(numbers: &[u16], starts: &[u32], t: u32, j: u16) -> usize
-    ensures { result ≡ get_or starts.now (transitionBitStart t) 0 + size (transition (get_or numbers.now 0 0) 0) + size arc * j }
+    ensures { result ≡ get_or starts.now (transition_bit_start t) 0 + size (transition (get_or numbers.now 0 0) 0) + size arc * j }
 {
     transition_bit(starts, t) as usize
         + transition_width(version(numbers)) as usize

@@ -1,10 +1,10 @@
 // Spelling a card: its numbers, checked as the reader checks them, into bytes.
 ghost use Rattle.std.specs.Prelude.{◌≡◌, length, leb};
 ghost use Rattle.card.specs.Card.{Card};
-ghost use Rattle.card.specs.Parsing.{readCard};
+ghost use Rattle.card.specs.Parsing.{read_card};
 ghost use Rattle.card.specs.Writing.{encode};
-ghost use Rattle.card.specs.Rows.{readRows};
-ghost use Rattle.card.specs.Spelling.{IsSpelt, Lines, IsUnspelt, putInto};
+ghost use Rattle.card.specs.Rows.{read_rows};
+ghost use Rattle.card.specs.Spelling.{IsSpelt, Lines, IsUnspelt, put_into};
 
 use crate::bits::{put_field, too_wide};
 use crate::layout::{Move, arc_field, arc_goes_on, arc_step, start, step, width};
@@ -37,7 +37,7 @@ fn unspelt(f: FormatFault, at: usize) -> CardSpelt
 // Spells the numbers of a card, field after field. A number that does not fit its field is not one of a card's (see Lines). Two wrong
 // writers that this rules out: one that counts a byte too many, and one that refuses at the number of a field instead of its bit.
 fn spell_numbers(numbers: &[u16; TABLE]) -> CardSpelt
-    ensures { (c : Card) → Lines c numbers.now → IsSpelt (readCard (encode c)) result }
+    ensures { (c : Card) → Lines c numbers.now → IsSpelt (read_card (encode c)) result }
 {
     let mut bytes = [0; CARD_BYTES];
     let mut l = start();
@@ -83,7 +83,7 @@ pub fn spell(
     transitions: &[u16],
     arcs: &[u16],
 ) -> CardSpelt
-    ensures { IsSpelt (readRows head subnets.now places.now transitions.now arcs.now) result }
+    ensures { IsSpelt (read_rows head subnets.now places.now transitions.now arcs.now) result }
 {
     if !whole_rows(subnets, places, transitions, arcs) {
         return unspelt(FormatFault::BadTable, 0);
@@ -102,7 +102,7 @@ pub fn spell(
 // it has written, and one that goes on to the end of the buffer.
 pub fn put_card(card: &[u8], out: &mut [u8]) -> bool
     ensures value { result ≡ leb (length card.now) (length out.old) }
-    ensures out_after { out.new ≡ putInto card.now out.old }
+    ensures out_after { out.new ≡ put_into card.now out.old }
 {
     if out.len() < card.len() {
         return false;

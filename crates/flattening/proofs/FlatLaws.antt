@@ -7,25 +7,25 @@ use native.Mathlib.Omega.{arith}
 use native.Mathlib.Nat.{zero-add}
 use lib.ListN.{length, get_or, get_or-map}
 use Rattle.card.specs.Finite.{sum_to}
-use Rattle.card.specs.Card.{Place, Arc, Card, subnetAt, placeAt, transitionAt, arcAt, firstPlace, firstTransition, firstArc, flatPlace, place_of, noPlace, noArc}
+use Rattle.card.specs.Card.{Place, Arc, Card, subnet_at, place_at, transition_at, arc_at, first_place, first_transition, first_arc, flat_place, place_of, no_place, no_arc}
 use Rattle.card.specs.Writing.{encode}
 use Rattle.card.specs.Wellformed.{SubnetRow, PlaceRow, ArcRow, Rows}
 use Rattle.card.proofs.Sums.{sum-owner, sum_below, sum-unique, map-length, all_map, all_of, all-at}
 use Rattle.hierarchy.specs.Conditions.{IsPlace, Sees, Weighted, Repeats, SelfLoop, TransitionConditions, Conditions, Meets}
 use Rattle.hierarchy.specs.Judgement.{accepted, judge}
 use Rattle.hierarchy.proofs.Accepted.{accepted-meets, meets-accepted}
-use Rattle.flattening.specs.Flattening.{flatPlaceRow, flatArc, flatten, SameNet}
+use Rattle.flattening.specs.Flattening.{flat_place_row, flat_arc, flatten, SameNet}
 
 -- the rows of the flat card
-pub place-flat : (c : Card) (p : ℕ) → placeAt (flatten c) p ≡ flatPlaceRow (placeAt c p)
+pub place-flat : (c : Card) (p : ℕ) → place_at (flatten c) p ≡ flat_place_row (place_at c p)
 unfolding flatten
-place-flat c p = get_or-map flatPlaceRow c.places p noPlace
+place-flat c p = get_or-map flat_place_row c.places p no_place
 
-pub arc-flat : (c : Card) (t j : ℕ) → arcAt (flatten c) t j ≡ flatArc c (arcAt c t j)
-unfolding flatten firstArc firstPlace sum_to
-arc-flat c t j = get_or-map (flatArc c) c.arcs (firstArc c t + j) noArc
+pub arc-flat : (c : Card) (t j : ℕ) → arc_at (flatten c) t j ≡ flat_arc c (arc_at c t j)
+unfolding flatten first_arc first_place sum_to
+arc-flat c t j = get_or-map (flat_arc c) c.arcs (first_arc c t + j) no_arc
 
-pub transition-flat : (c : Card) (t : ℕ) → transitionAt (flatten c) t ≡ transitionAt c t
+pub transition-flat : (c : Card) (t : ℕ) → transition_at (flatten c) t ≡ transition_at c t
 unfolding flatten
 transition-flat c t = refl
 
@@ -46,32 +46,32 @@ net-flat c =
     }
 
 -- the place that an arc of the flat card names
-pub placeOf-flat : (c : Card) (a : Arc) → place_of (flatten c) (flatArc c a) ≡ flatPlaceRow (place_of c a)
-unfolding firstPlace sum_to
-placeOf-flat c a = rw zero-add (place-flat c (flatPlace c a))
+pub place_of-flat : (c : Card) (a : Arc) → place_of (flatten c) (flat_arc c a) ≡ flat_place_row (place_of c a)
+unfolding first_place sum_to
+place_of-flat c a = rw zero-add (place-flat c (flat_place c a))
 
 -- FLATTENING A FLAT CARD CHANGES NOTHING
-places-again : (ps : List Place) → map flatPlaceRow (map flatPlaceRow ps) ≡ map flatPlaceRow ps
+places-again : (ps : List Place) → map flat_place_row (map flat_place_row ps) ≡ map flat_place_row ps
 places-again [] = refl
 places-again (p ∷ ps) = rw (places-again ps)
 
-arcs-again : (c d : Card) (xs : List Arc) → map (flatArc d) (map (flatArc c) xs) ≡ map (flatArc c) xs
-unfolding firstPlace sum_to
+arcs-again : (c d : Card) (xs : List Arc) → map (flat_arc d) (map (flat_arc c) xs) ≡ map (flat_arc c) xs
+unfolding first_place sum_to
 arcs-again c d [] = refl
 arcs-again c d (a ∷ xs) = rw (zero-add, arcs-again c d xs)
 
 pub flatten-again : (c : Card) → flatten (flatten c) ≡ flatten c
 unfolding flatten
-flatten-again c = rw (map-length flatPlaceRow c.places, places-again c.places, arcs-again c (flatten c) c.arcs)
+flatten-again c = rw (map-length flat_place_row c.places, places-again c.places, arcs-again c (flatten c) c.arcs)
 
 pub flatten-bytes : (c : Card) → encode (flatten (flatten c)) ≡ encode (flatten c)
 flatten-bytes c = ap encode (flatten-again c)
 
 abbrev no-arc : Arc
-no-arc = noArc
+no-arc = no_arc
 
-within : (c : Card) (t k : ℕ) → firstArc c t ≤ k → k < firstArc c (suc t) → k - firstArc c t < (transitionAt c t).arcs
-unfolding firstArc sum_to
+within : (c : Card) (t k : ℕ) → first_arc c t ≤ k → k < first_arc c (suc t) → k - first_arc c t < (transition_at c t).arcs
+unfolding first_arc sum_to
 within c t k a b = omega arith
 
 module _ (c : Card) (m : Meets c) where
@@ -86,11 +86,11 @@ module _ (c : Card) (m : Meets c) where
   there i j n l (inl o) = (omega (arith, o.0), o.1)
   there i j n l (inr o) = (o.0.1, o.1.0)
 
-  pub flat-below : (i j n : ℕ) → i < S → Sees c i j n → firstPlace c j + n < length c.places
-  unfolding firstPlace
+  pub flat-below : (i j n : ℕ) → i < S → Sees c i j n → first_place c j + n < length c.places
+  unfolding first_place
   flat-below i j n l h =
       let t = there i j n l h in
-      omega (arith, rows.placeCount, sum_below S (λ r. (subnetAt c r).places) j n t.0 t.1)
+      omega (arith, rows.place_count, sum_below S (λ r. (subnet_at c r).places) j n t.0 t.1)
 
   -- a transition of the flat net is one of a subnet
   pub record Home (t : ℕ) : Type 0 where
@@ -99,48 +99,48 @@ module _ (c : Card) (m : Meets c) where
     pub sound : TransitionConditions c subnet t
 
   pub home : (t : ℕ) → t < length c.transitions → Home t
-  unfolding firstTransition
+  unfolding first_transition
   home t l =
-      let o = sum-owner S (λ r. (subnetAt c r).transitions) t (omega (arith, rows.transitionCount)) in
+      let o = sum-owner S (λ r. (subnet_at c r).transitions) t (omega (arith, rows.transition_count)) in
       record { subnet = o.range; below = o.below; sound = m.conditions.transitions o.range t o.below o.low o.high }
 
   module _ (t : ℕ) (h : Home t) where
-    arc-below : (j : ℕ) → j < (transitionAt c t).arcs → flatPlace c (arcAt c t j) < length c.places
+    arc-below : (j : ℕ) → j < (transition_at c t).arcs → flat_place c (arc_at c t j) < length c.places
     arc-below j l = flat-below h.subnet _ _ h.below (h.sound.sees j l)
 
-    flat-own : (j : ℕ) → j < (transitionAt c t).arcs → ((arcAt (flatten c) t j).subnet ≡ 0) × IsPlace (flatten c) (arcAt (flatten c) t j).subnet (arcAt (flatten c) t j).place
+    flat-own : (j : ℕ) → j < (transition_at c t).arcs → ((arc_at (flatten c) t j).subnet ≡ 0) × IsPlace (flatten c) (arc_at (flatten c) t j).subnet (arc_at (flatten c) t j).place
     unfolding flatten
     flat-own j l = rw (arc-flat c t j) (refl, arc-below j l)
 
-    flat-capacity : (j : ℕ) → (place_of (flatten c) (arcAt (flatten c) t j)).capacity ≡ (place_of c (arcAt c t j)).capacity
-    flat-capacity j = rw (arc-flat c t j, placeOf-flat c (arcAt c t j))
+    flat-capacity : (j : ℕ) → (place_of (flatten c) (arc_at (flatten c) t j)).capacity ≡ (place_of c (arc_at c t j)).capacity
+    flat-capacity j = rw (arc-flat c t j, place_of-flat c (arc_at c t j))
 
-    flat-weighted : (j : ℕ) → j < (transitionAt c t).arcs → Weighted (flatten c) (arcAt (flatten c) t j)
+    flat-weighted : (j : ℕ) → j < (transition_at c t).arcs → Weighted (flatten c) (arc_at (flatten c) t j)
     flat-weighted j l =
         let w = h.sound.weighted j l in
         record { positive = omega (arith, w.positive, (net-flat c).weights t j); fits = omega (arith, w.fits, flat-capacity j, (net-flat c).weights t j) }
 
     -- two arcs at one place of the flat card are at one place of the card
-    flat-met : (g j : ℕ) → g < (transitionAt c t).arcs → j < (transitionAt c t).arcs → (arcAt (flatten c) t g).place ≡ (arcAt (flatten c) t j).place
-        → ((arcAt c t g).subnet ≡ (arcAt c t j).subnet) × ((arcAt c t g).place ≡ (arcAt c t j).place)
-    unfolding firstPlace
+    flat-met : (g j : ℕ) → g < (transition_at c t).arcs → j < (transition_at c t).arcs → (arc_at (flatten c) t g).place ≡ (arc_at (flatten c) t j).place
+        → ((arc_at c t g).subnet ≡ (arc_at c t j).subnet) × ((arc_at c t g).place ≡ (arc_at c t j).place)
+    unfolding first_place
     flat-met g j l k e =
         let a = there h.subnet _ _ h.below (h.sound.sees g l) in
         let b = there h.subnet _ _ h.below (h.sound.sees j k) in
-        let p : flatPlace c (arcAt c t g) ≡ flatPlace c (arcAt c t j) = rw (arc-flat c t g, arc-flat c t j) at e in
-        sum-unique (λ s. (subnetAt c s).places) (arcAt c t g).subnet (arcAt c t j).subnet (arcAt c t g).place (arcAt c t j).place a.1 b.1 p
+        let p : flat_place c (arc_at c t g) ≡ flat_place c (arc_at c t j) = rw (arc-flat c t g, arc-flat c t j) at e in
+        sum-unique (λ s. (subnet_at c s).places) (arc_at c t g).subnet (arc_at c t j).subnet (arc_at c t g).place (arc_at c t j).place a.1 b.1 p
 
-    flat-single : (g j : ℕ) → g < j → j < (transitionAt c t).arcs → ¬ Repeats (arcAt (flatten c) t g) (arcAt (flatten c) t j)
+    flat-single : (g j : ℕ) → g < j → j < (transition_at c t).arcs → ¬ Repeats (arc_at (flatten c) t g) (arc_at (flatten c) t j)
     flat-single g j l k r =
         let u = flat-met g j (omega arith) k r.place in
-        let d : (arcAt c t g).direction ≡ (arcAt c t j).direction = rw (arc-flat c t g, arc-flat c t j) at r.direction in
+        let d : (arc_at c t g).direction ≡ (arc_at c t j).direction = rw (arc-flat c t g, arc-flat c t j) at r.direction in
         h.sound.single g j l k (record { direction = d; subnet = u.0; place = u.1 })
 
-    flat-loops : (g j : ℕ) → g < j → j < (transitionAt c t).arcs → SelfLoop (arcAt (flatten c) t g) (arcAt (flatten c) t j)
-        → (arcAt (flatten c) t g).weight + (arcAt (flatten c) t j).weight ≤ (place_of (flatten c) (arcAt (flatten c) t j)).capacity
+    flat-loops : (g j : ℕ) → g < j → j < (transition_at c t).arcs → SelfLoop (arc_at (flatten c) t g) (arc_at (flatten c) t j)
+        → (arc_at (flatten c) t g).weight + (arc_at (flatten c) t j).weight ≤ (place_of (flatten c) (arc_at (flatten c) t j)).capacity
     flat-loops g j l k r =
         let u = flat-met g j (omega arith) k r.place in
-        let d : (arcAt c t g).direction ≢ (arcAt c t j).direction = rw (arc-flat c t g, arc-flat c t j) at r.directions in
+        let d : (arc_at c t g).direction ≢ (arc_at c t j).direction = rw (arc-flat c t g, arc-flat c t j) at r.directions in
         let w = h.sound.loops g j l k (record { directions = d; subnet = u.0; place = u.1 }) in
         omega (arith, w, flat-capacity j, (net-flat c).weights t g, (net-flat c).weights t j)
 
@@ -157,7 +157,7 @@ module _ (c : Card) (m : Meets c) where
         }
 
   flat-conditions : Conditions (flatten c)
-  unfolding flatten firstTransition sum_to
+  unfolding flatten first_transition sum_to
   flat-conditions =
       record {
         transitions = λ i t l a b.
@@ -168,52 +168,52 @@ module _ (c : Card) (m : Meets c) where
       }
 
   some-places : 1 ≤ length c.places
-  unfolding firstPlace
+  unfolding first_place
   some-places =
-      let z : 0 < S = omega (arith, m.wellformed.someSubnets) in
-      omega (arith, rows.placeCount, (rows.subnet 0 z).places, sum_below S (λ r. (subnetAt c r).places) 0 0 z (rows.subnet 0 z).places)
+      let z : 0 < S = omega (arith, m.wellformed.some_subnets) in
+      omega (arith, rows.place_count, (rows.subnet 0 z).places, sum_below S (λ r. (subnet_at c r).places) 0 0 z (rows.subnet 0 z).places)
 
   some-transitions : 1 ≤ length c.transitions
-  unfolding firstTransition
+  unfolding first_transition
   some-transitions =
-      let z : 0 < S = omega (arith, m.wellformed.someSubnets) in
-      omega (arith, rows.transitionCount, sum_below S (λ r. (subnetAt c r).transitions) 0 0 z (rows.subnet 0 z).transitions)
+      let z : 0 < S = omega (arith, m.wellformed.some_subnets) in
+      omega (arith, rows.transition_count, sum_below S (λ r. (subnet_at c r).transitions) 0 0 z (rows.subnet 0 z).transitions)
 
-  flat-subnet : SubnetRow 0 (subnetAt (flatten c) 0)
+  flat-subnet : SubnetRow 0 (subnet_at (flatten c) 0)
   unfolding flatten
   flat-subnet =
       record { main = λ e. (refl, refl); parent = λ n. absurd (n refl); type = omega arith; places = some-places; transitions = some-transitions }
 
-  pub flat-place : (p : ℕ) → p < length c.places → PlaceRow 0 (placeAt (flatten c) p)
-  unfolding firstPlace
+  pub flat-place : (p : ℕ) → p < length c.places → PlaceRow 0 (place_at (flatten c) p)
+  unfolding first_place
   flat-place p l =
-      let o = sum-owner S (λ r. (subnetAt c r).places) p (omega (arith, rows.placeCount)) in
+      let o = sum-owner S (λ r. (subnet_at c r).places) p (omega (arith, rows.place_count)) in
       let k = rows.place o.range p o.below o.low o.high in
       rw (place-flat c p) (record { main = λ e. refl; kind = omega arith; positive = k.positive; capacity = k.capacity; tokens = k.tokens })
 
-  flat-arc : (k : ℕ) → k < length c.arcs → ArcRow (flatArc c (get_or c.arcs k no-arc))
-  unfolding firstArc
+  flat-arc : (k : ℕ) → k < length c.arcs → ArcRow (flat_arc c (get_or c.arcs k no-arc))
+  unfolding first_arc
   flat-arc k l =
-      let o = sum-owner (length c.transitions) (λ t. (transitionAt c t).arcs) k (omega (arith, rows.arcCount)) in
-      let e : sum_to o.range (λ t. (transitionAt c t).arcs) + (k - sum_to o.range (λ t. (transitionAt c t).arcs)) ≡ k = omega (arith, o.low) in
-      let b = arc-below o.range (home o.range o.below) (k - firstArc c o.range) (within c o.range k o.low o.high) in
-      let d : flatPlace c (get_or c.arcs k no-arc) < length c.places = rw e at b in
+      let o = sum-owner (length c.transitions) (λ t. (transition_at c t).arcs) k (omega (arith, rows.arc_count)) in
+      let e : sum_to o.range (λ t. (transition_at c t).arcs) + (k - sum_to o.range (λ t. (transition_at c t).arcs)) ≡ k = omega (arith, o.low) in
+      let b = arc-below o.range (home o.range o.below) (k - first_arc c o.range) (within c o.range k o.low o.high) in
+      let d : flat_place c (get_or c.arcs k no-arc) < length c.places = rw e at b in
       let a = all-at ArcRow c.arcs no-arc rows.arcs k l in
-      record { direction = a.direction; subnet = omega arith; place = omega (arith, rows.fewPlaces); weight = a.weight }
+      record { direction = a.direction; subnet = omega arith; place = omega (arith, rows.few_places); weight = a.weight }
 
   flat_rows : Rows (flatten c)
-  unfolding flatten firstPlace firstTransition firstArc sum_to
+  unfolding flatten first_place first_transition first_arc sum_to
   flat_rows =
       record {
-        placeCount = map-length flatPlaceRow c.places ∙ sym (zero-add (length c.places));
-        transitionCount = sym (zero-add (length c.transitions));
-        arcCount = map-length (flatArc c) c.arcs ∙ rows.arcCount;
-        fewPlaces = omega (arith, map-length flatPlaceRow c.places, rows.fewPlaces);
-        fewTransitions = rows.fewTransitions;
+        place_count = map-length flat_place_row c.places ∙ sym (zero-add (length c.places));
+        transition_count = sym (zero-add (length c.transitions));
+        arc_count = map-length (flat_arc c) c.arcs ∙ rows.arc_count;
+        few_places = omega (arith, map-length flat_place_row c.places, rows.few_places);
+        few_transitions = rows.few_transitions;
         subnet = λ s l. let e : s ≡ 0 = omega arith in rw e flat-subnet;
         place = λ s p l a b. let e : s ≡ 0 = omega arith in rw e (flat-place p (rw (e, zero-add) at b));
         transitions = rows.transitions;
-        arcs = all_map ArcRow (flatArc c) c.arcs (all_of (λ a. ArcRow (flatArc c a)) c.arcs no-arc flat-arc);
+        arcs = all_map ArcRow (flat_arc c) c.arcs (all_of (λ a. ArcRow (flat_arc c a)) c.arcs no-arc flat-arc);
       }
 
 -- THE FLAT CARD OF A CARD THAT MEETS THE CONDITIONS MEETS THEM
@@ -223,10 +223,10 @@ flat-meets c m =
     record {
       wellformed = record {
         version = m.wellformed.version;
-        someSubnets = omega arith;
-        fewSubnets = omega arith;
-        someSignals = m.wellformed.someSignals;
-        fewSignals = m.wellformed.fewSignals;
+        some_subnets = omega arith;
+        few_subnets = omega arith;
+        some_signals = m.wellformed.some_signals;
+        few_signals = m.wellformed.few_signals;
         limit = m.wellformed.limit;
         scale = m.wellformed.scale;
         rows = flat_rows c m;

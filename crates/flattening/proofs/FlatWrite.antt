@@ -7,24 +7,24 @@ use lib.ListN.{length, get_or, take, get_or-map}
 use lib.Seq.{ext_get_or, get_or-take, length-take-le}
 use borrow.Author.Tests.{eq-eqb}
 use Rattle.card.specs.Finite.{table}
-use Rattle.card.specs.Card.{Place, Transition, Arc, Card, placeAt, transitionAt, noPlace, noTransition, noArc, transitionFields}
-use Rattle.card.specs.Rows.{entry, tablesIn, wholeRows, readRows, head_of}
+use Rattle.card.specs.Card.{Place, Transition, Arc, Card, place_at, transition_at, no_place, no_transition, no_arc, transition_fields}
+use Rattle.card.specs.Rows.{entry, tables_in, whole_rows, read_rows, head_of}
 use Rattle.card.specs.Writing.{encode}
 use Rattle.card.proofs.Sums.{table-length, table_at, map-length}
 use Rattle.hierarchy.specs.Conditions.{Meets}
 use Rattle.card.specs.Index.{Loaded}
-use Rattle.hierarchy.specs.Numbers.{number, checkOutcome}
-use Rattle.hierarchy.specs.Judgement.{Judgement, accepted, refused, judged, judge, judgeTables, answer, outcomeOf}
-use Rattle.hierarchy.specs.Output.{delivered, writeRows, IsWritten}
+use Rattle.hierarchy.specs.Numbers.{number, check_outcome}
+use Rattle.hierarchy.specs.Judgement.{Judgement, accepted, refused, judged, judge, judge_tables, answer, outcome_of}
+use Rattle.hierarchy.specs.Output.{delivered, write_rows, IsWritten}
 use Rattle.hierarchy.specs.declared.Written.{Written}
 use Rattle.hierarchy.specs.declared.Written.TheVariants.{Refused as NotWritten}
 use Rattle.hierarchy.specs.declared.Answer.TheVariants.{Accepted, Refused}
 use Rattle.hierarchy.specs.declared.CardFault.{CardFault}
 use Rattle.hierarchy.specs.declared.Answer.{Answer}
 use Rattle.hierarchy.proofs.Accepted.{accepted-meets, meets-written, Checked}
-use Rattle.flattening.specs.Flattening.{flatPlaceRow, flatArc, flatten, flattenCall}
+use Rattle.flattening.specs.Flattening.{flat_place_row, flat_arc, flatten, flatten_call}
 use Rattle.flattening.specs.inner.FlatRows.{Sizes, PlacesTo, TransitionsTo, ArcsTo}
-use Rattle.card.specs.Grammar.{maxCount, maxArcs}
+use Rattle.card.specs.Grammar.{max_count, max_arcs}
 use Rattle.flattening.proofs.FlatLaws.{flat-meets}
 
 map_same : {A : Type 0} (xs : List A) → map (λ x. x) xs ≡ xs
@@ -48,7 +48,7 @@ rows-map f xs d n row e h =
     (λ i l. let b : i < n = omega (arith, table-length 0 n row) in table_at n row (f d) i b ∙ h i (omega arith) ∙ sym (get_or-map f xs i d))
 
 module _ (c : Card) (m : Meets c) (ps ts arcs : List ℕ) (hp : PlacesTo c ps (length c.places)) (ht : TransitionsTo c ts (length c.transitions)) (ha : ArcsTo c arcs (length c.arcs))
-    (few : length c.arcs ≤ maxArcs * maxCount) where
+    (few : length c.arcs ≤ max_arcs * max_count) where
   abbrev P : ℕ
   P = length c.places
 
@@ -59,79 +59,79 @@ module _ (c : Card) (m : Meets c) (ps ts arcs : List ℕ) (hp : PlacesTo c ps (l
   A = length c.arcs
 
   places-long : length (take (3 * P) ps) ≡ 3 * P
-  places-long = cut-long 3 P ps (omega (arith, hp.long, m.wellformed.rows.fewPlaces))
+  places-long = cut-long 3 P ps (omega (arith, hp.long, m.wellformed.rows.few_places))
 
-  transitions-long : length (take (transitionFields * T) ts) ≡ transitionFields * T
-  transitions-long = cut-long transitionFields T ts (omega (arith, ht.long, m.wellformed.rows.fewTransitions))
+  transitions-long : length (take (transition_fields * T) ts) ≡ transition_fields * T
+  transitions-long = cut-long transition_fields T ts (omega (arith, ht.long, m.wellformed.rows.few_transitions))
 
   arcs-long : length (take (4 * A) arcs) ≡ 4 * A
   arcs-long = cut-long 4 A arcs (omega (arith, ha.long, few))
 
-  same_place : (i : ℕ) → i < P → ◌≡◌ {A = Place} (record { kind = entry (take (3 * P) ps) 3 i 0; capacity = entry (take (3 * P) ps) 3 i 1; tokens = entry (take (3 * P) ps) 3 i 2 }) (flatPlaceRow (placeAt c i))
+  same_place : (i : ℕ) → i < P → ◌≡◌ {A = Place} (record { kind = entry (take (3 * P) ps) 3 i 0; capacity = entry (take (3 * P) ps) 3 i 1; tokens = entry (take (3 * P) ps) 3 i 2 }) (flat_place_row (place_at c i))
   same_place i l =
       let x = hp.held i l in
       rw (cut-entry 3 P ps i 0 (omega arith), cut-entry 3 P ps i 1 (omega arith), cut-entry 3 P ps i 2 (omega arith), x.kind, x.capacity, x.tokens)
 
-  same-transition : (i : ℕ) → i < T → ◌≡◌ {A = Transition} (record { signal = entry (take (transitionFields * T) ts) transitionFields i 0; arcs = entry (take (transitionFields * T) ts) transitionFields i 1; rank = entry (take (transitionFields * T) ts) transitionFields i 2 }) (transitionAt c i)
+  same-transition : (i : ℕ) → i < T → ◌≡◌ {A = Transition} (record { signal = entry (take (transition_fields * T) ts) transition_fields i 0; arcs = entry (take (transition_fields * T) ts) transition_fields i 1; rank = entry (take (transition_fields * T) ts) transition_fields i 2 }) (transition_at c i)
   same-transition i l =
       let x = ht.held i l in
-      rw (cut-entry transitionFields T ts i 0 (omega arith), cut-entry transitionFields T ts i 1 (omega arith), cut-entry transitionFields T ts i 2 (omega arith), x.signal, x.arcs, x.rank)
+      rw (cut-entry transition_fields T ts i 0 (omega arith), cut-entry transition_fields T ts i 1 (omega arith), cut-entry transition_fields T ts i 2 (omega arith), x.signal, x.arcs, x.rank)
 
   same-arc : (i : ℕ) → i < A
       → ◌≡◌ {A = Arc} (record { direction = entry (take (4 * A) arcs) 4 i 0; subnet = entry (take (4 * A) arcs) 4 i 1; place = entry (take (4 * A) arcs) 4 i 2; weight = entry (take (4 * A) arcs) 4 i 3 })
-      (flatArc c (get_or c.arcs i noArc))
+      (flat_arc c (get_or c.arcs i no_arc))
   same-arc i l =
       let x = ha.held i l in
       rw (cut-entry 4 A arcs i 0 (omega arith), cut-entry 4 A arcs i 1 (omega arith), cut-entry 4 A arcs i 2 (omega arith), cut-entry 4 A arcs i 3 (omega arith), x.direction, x.subnet, x.place, x.weight)
 
   -- THE ROWS ARE THE FLAT CARD'S TABLES
-  flat-tables : tablesIn (head_of c) (0 ∷ 0 ∷ P ∷ T ∷ []) (take (3 * P) ps) (take (transitionFields * T) ts) (take (4 * A) arcs) ≡ flatten c
-  unfolding tablesIn flatten table
+  flat-tables : tables_in (head_of c) (0 ∷ 0 ∷ P ∷ T ∷ []) (take (3 * P) ps) (take (transition_fields * T) ts) (take (4 * A) arcs) ≡ flatten c
+  unfolding tables_in flatten table
   flat-tables =
       rw (
-        rows-map flatPlaceRow c.places noPlace (length (take (3 * P) ps) / 3) _ (omega (arith, places-long)) same_place,
-        rows-map (λ x. x) c.transitions noTransition (length (take (transitionFields * T) ts) / transitionFields) _ (omega (arith, transitions-long)) same-transition,
-        rows-map (flatArc c) c.arcs noArc (length (take (4 * A) arcs) / 4) _ (omega (arith, arcs-long)) same-arc,
+        rows-map flat_place_row c.places no_place (length (take (3 * P) ps) / 3) _ (omega (arith, places-long)) same_place,
+        rows-map (λ x. x) c.transitions no_transition (length (take (transition_fields * T) ts) / transition_fields) _ (omega (arith, transitions-long)) same-transition,
+        rows-map (flat_arc c) c.arcs no_arc (length (take (4 * A) arcs) / 4) _ (omega (arith, arcs-long)) same-arc,
         map_same c.transitions,
       )
 
-  judged-flat : judged (readRows (head_of c) (0 ∷ 0 ∷ P ∷ T ∷ []) (take (3 * P) ps) (take (transitionFields * T) ts) (take (4 * A) arcs)) ≡ accepted (flatten c)
-  unfolding readRows wholeRows judgeTables
+  judged-flat : judged (read_rows (head_of c) (0 ∷ 0 ∷ P ∷ T ∷ []) (take (3 * P) ps) (take (transition_fields * T) ts) (take (4 * A) arcs)) ≡ accepted (flatten c)
+  unfolding read_rows whole_rows judge_tables
   judged-flat =
       rw (
         eq-eqb (length (take (3 * P) ps) % 3) 0 (omega (arith, places-long)),
-        eq-eqb (length (take (transitionFields * T) ts) % transitionFields) 0 (omega (arith, transitions-long)),
+        eq-eqb (length (take (transition_fields * T) ts) % transition_fields) 0 (omega (arith, transitions-long)),
         eq-eqb (length (take (4 * A) arcs) % 4) 0 (omega (arith, arcs-long)),
         flat-tables,
-      ) (unfold judgeTables in meets-written (flatten c) (flat-meets c m))
+      ) (unfold judge_tables in meets-written (flatten c) (flat-meets c m))
 
   pub flat-written : (v g l q p t a : ℕ) → v ≡ c.version → g ≡ c.signals → l ≡ c.limit → q ≡ c.scale → p ≡ P → t ≡ T → a ≡ A → (buffer out : List ℕ) (r : Written)
-      → IsWritten (writeRows (record { version = v; signals = g; limit = l; scale = q }) (0 ∷ 0 ∷ p ∷ t ∷ []) (take (3 * p) ps) (take (transitionFields * t) ts) (take (4 * a) arcs) buffer) r out → IsWritten (delivered (accepted c) (λ d. encode (flatten d)) buffer) r out
-  unfolding writeRows
+      → IsWritten (write_rows (record { version = v; signals = g; limit = l; scale = q }) (0 ∷ 0 ∷ p ∷ t ∷ []) (take (3 * p) ps) (take (transition_fields * t) ts) (take (4 * a) arcs) buffer) r out → IsWritten (delivered (accepted c) (λ d. encode (flatten d)) buffer) r out
+  unfolding write_rows
   flat-written v g l q p t a ev eg el eq ep et ea buffer out r h = subst (λ (x : Judgement). IsWritten (delivered x encode buffer) r out) judged-flat (rw (ev, eg, el, eq, ep, et, ea) at h)
 
 -- the sizes that the check's answer tells, narrowed to 16 bits
-pub accepted-sizes : (bytes : List ℕ) (a : Answer) (c : Card) → checkOutcome a ≡ answer bytes → judge bytes ≡ accepted c → (s p t s' p' t' : ℕ) → a ≡ Accepted s p t
+pub accepted-sizes : (bytes : List ℕ) (a : Answer) (c : Card) → check_outcome a ≡ answer bytes → judge bytes ≡ accepted c → (s p t s' p' t' : ℕ) → a ≡ Accepted s p t
     → (s < 65536 → s' ≡ s) → (p < 65536 → p' ≡ p) → (t < 65536 → t' ≡ t) → Sizes c s' p' t'
 accepted-sizes bytes a c h j s p t s' p' t' e es ep et =
-    let q : checkOutcome (Accepted s p t) ≡ outcomeOf (accepted c) = sym (ap checkOutcome e) ∙ h ∙ ap outcomeOf j in
+    let q : check_outcome (Accepted s p t) ≡ outcome_of (accepted c) = sym (ap check_outcome e) ∙ h ∙ ap outcome_of j in
     let w = (accepted-meets bytes c j).wellformed in
     let x : s ≡ length c.subnets = cc in
     let y : p ≡ length c.places = cc in
     let z : t ≡ length c.transitions = cc in
     record {
-      subnets = es (omega (arith, x, w.fewSubnets)) ∙ x;
-      places = ep (omega (arith, y, w.rows.fewPlaces)) ∙ y;
-      transitions = et (omega (arith, z, w.rows.fewTransitions)) ∙ z;
+      subnets = es (omega (arith, x, w.few_subnets)) ∙ x;
+      places = ep (omega (arith, y, w.rows.few_places)) ∙ y;
+      transitions = et (omega (arith, z, w.rows.few_transitions)) ∙ z;
     }
 
 -- flattening a card that was checked
 module _ (bytes buffer : List ℕ) (k : Answer) (numbers starts : List ℕ) (h : Checked (judge bytes) k numbers starts) where
-  pub flatten-refused : (f : CardFault) (at : ℕ) (r : Written) → k ≡ Refused f at → r ≡ NotWritten f at → IsWritten (flattenCall bytes buffer) r buffer
-  unfolding flattenCall
-  flatten-refused f at r e t = go (judge bytes) (sym (ap checkOutcome e) ∙ h.answer)
+  pub flatten-refused : (f : CardFault) (at : ℕ) (r : Written) → k ≡ Refused f at → r ≡ NotWritten f at → IsWritten (flatten_call bytes buffer) r buffer
+  unfolding flatten_call
+  flatten-refused f at r e t = go (judge bytes) (sym (ap check_outcome e) ∙ h.answer)
     where
-      go : (x : Judgement) → checkOutcome (Refused f at) ≡ outcomeOf x → IsWritten (delivered x (λ d. encode (flatten d)) buffer) r buffer
+      go : (x : Judgement) → check_outcome (Refused f at) ≡ outcome_of x → IsWritten (delivered x (λ d. encode (flatten d)) buffer) r buffer
       go (refused n i) q =
           let a : number f ≡ n = cc in
           let b : at ≡ i = cc in
@@ -140,11 +140,11 @@ module _ (bytes buffer : List ℕ) (k : Answer) (numbers starts : List ℕ) (h :
 
   pub flatten-accepted : (s p t s' p' t' : ℕ) → k ≡ Accepted s p t → (s < 65536 → s' ≡ s) → (p < 65536 → p' ≡ p) → (t < 65536 → t' ≡ t) → (out : List ℕ) (r : Written)
       → ((c : Card) → Meets c → Loaded c numbers starts → Sizes c s' p' t' → IsWritten (delivered (accepted c) (λ d. encode (flatten d)) buffer) r out)
-      → IsWritten (flattenCall bytes buffer) r out
-  unfolding flattenCall
-  flatten-accepted s p t s' p' t' e es ep et out r g = go (judge bytes) refl (sym (ap checkOutcome e) ∙ h.answer)
+      → IsWritten (flatten_call bytes buffer) r out
+  unfolding flatten_call
+  flatten-accepted s p t s' p' t' e es ep et out r g = go (judge bytes) refl (sym (ap check_outcome e) ∙ h.answer)
     where
-      go : (x : Judgement) → judge bytes ≡ x → checkOutcome (Accepted s p t) ≡ outcomeOf x → IsWritten (delivered x (λ d. encode (flatten d)) buffer) r out
+      go : (x : Judgement) → judge bytes ≡ x → check_outcome (Accepted s p t) ≡ outcome_of x → IsWritten (delivered x (λ d. encode (flatten d)) buffer) r out
       go (refused n i) j q = absurd (let z : ◌≡◌ {A = ℕ} 0 1 = cc in omega arith)
       go (accepted c) j q =
           g c (accepted-meets bytes c j) (h.loaded c j) (accepted-sizes bytes k c h.answer j s p t s' p' t' e es ep et)

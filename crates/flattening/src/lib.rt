@@ -6,15 +6,15 @@ mod tables;
 
 ghost use Rattle.std.specs.Prelude.{◌≡◌, true, length};
 ghost use Rattle.card.specs.Card.{Card};
-ghost use Rattle.card.specs.Parsing.{readCard};
-ghost use Rattle.card.specs.Tables.{hasRoom, IsTable};
+ghost use Rattle.card.specs.Parsing.{read_card};
+ghost use Rattle.card.specs.Tables.{has_room, IsTable};
 ghost use Rattle.card.specs.Index.{Loaded};
 ghost use Rattle.card.specs.Writing.{encode};
 ghost use Rattle.hierarchy.specs.Conditions.{Meets};
 ghost use Rattle.hierarchy.specs.Judgement.{accepted, judge};
 ghost use Rattle.hierarchy.specs.Output.{delivered, IsWritten};
-ghost use Rattle.flattening.specs.Flattening.{flatten, flattenCall};
-ghost use Rattle.flattening.specs.FlatCards.{flatRoom, IsFlatCard, IsFlatTable, IsLentFlat};
+ghost use Rattle.flattening.specs.Flattening.{flatten, flatten_call};
+ghost use Rattle.flattening.specs.FlatCards.{flat_room, IsFlatCard, IsFlatTable, IsLentFlat};
 ghost use Rattle.flattening.specs.inner.FlatRows.{Sizes};
 
 use card::reader::has_room;
@@ -81,7 +81,7 @@ fn write_flat<'a>(
 
 // Whether two tables of these lengths have room for the numbers of any card of so many bytes, and for those of its flat card.
 fn has_flat_room(bytes: usize, size: usize, flat_size: usize) -> bool
-    ensures { result ≡ flatRoom bytes size flat_size }
+    ensures { result ≡ flat_room bytes size flat_size }
 {
     if has_room(bytes, size) {
         return size == flat_size;
@@ -91,9 +91,9 @@ fn has_flat_room(bytes: usize, size: usize, flat_size: usize) -> bool
 
 // Flattens a card whose numbers are put in a lent table that has room for them.
 fn flatten_in(card: &[u8], numbers: &mut [u16], out: &mut [u8]) -> Written
-    requires { hasRoom (length card.now) (length numbers.old) ≡ true }
+    requires { has_room (length card.now) (length numbers.old) ≡ true }
     ensures numbers_len_unchanged { length numbers.new ≡ length numbers.old }
-    ensures written { IsWritten (flattenCall card.now out.old) result out.new }
+    ensures written { IsWritten (flatten_call card.now out.old) result out.new }
 {
     let k = load(card, numbers);
     let a = k.answer;
@@ -113,7 +113,7 @@ fn flatten_in(card: &[u8], numbers: &mut [u16], out: &mut [u8]) -> Written
 // Flattens a card into a lent buffer. Two wrong flattenings that this rules out: one that leaves an arc's place counted in its subnet, and
 // one that tells a short buffer before the card's own refusal.
 pub fn flatten(card: &[u8], out: &mut [u8]) -> Written
-    ensures { IsWritten (flattenCall card.now out.old) result out.new }
+    ensures { IsWritten (flatten_call card.now out.old) result out.new }
 {
     if card.len() <= SMALL_CARD {
         let mut numbers = [0; SMALL_TABLE];
@@ -133,11 +133,11 @@ pub struct FlatCard {
 
 // Loads a card and makes the tables of its flat card, in lent tables of one length that have room for them.
 fn load_flat_into(card: &[u8], numbers: &mut [u16], flat: &mut [u16]) -> FlatCard
-    requires { flatRoom (length card.now) (length numbers.old) (length flat.old) ≡ true }
+    requires { flat_room (length card.now) (length numbers.old) (length flat.old) ≡ true }
     ensures numbers_len_unchanged { length numbers.new ≡ length numbers.old }
     ensures flat_len_unchanged { length flat.new ≡ length flat.old }
     ensures flat_card { IsFlatCard card.now result }
-    ensures table { IsTable (readCard card.now) (length numbers.old) numbers.new }
+    ensures table { IsTable (read_card card.now) (length numbers.old) numbers.new }
     ensures flat_table { IsFlatTable (judge card.now) (length flat.old) flat.new }
 {
     let k = load(card, numbers);
@@ -165,7 +165,7 @@ pub fn load_flat(card: &[u8], numbers: &mut [u16], flat: &mut [u16]) -> FlatCard
     ensures numbers_len_unchanged { length numbers.new ≡ length numbers.old }
     ensures flat_len_unchanged { length flat.new ≡ length flat.old }
     ensures flat_card { IsFlatCard card.now result }
-    ensures lent_flat { IsLentFlat card.now (flatRoom (length card.now) (length numbers.old) (length flat.old)) numbers.old numbers.new flat.old flat.new }
+    ensures lent_flat { IsLentFlat card.now (flat_room (length card.now) (length numbers.old) (length flat.old)) numbers.old numbers.new flat.old flat.new }
 {
     if has_flat_room(card.len(), numbers.len(), flat.len()) {
         return load_flat_into(card, numbers, flat);

@@ -1,8 +1,8 @@
 // The two tables of the flat card, out of a card's two tables. Every function takes any slices; what it stores is the flat card's where
 // they hold an accepted card.
 ghost use Rattle.std.specs.Prelude.{◌≡◌, ◌≤◌};
-ghost use Rattle.card.specs.Tables.{tableSize};
-ghost use Rattle.flattening.specs.inner.FlatNumbers.{putThree, putFour, HeadPut, PlacePut, PlacesPut, AllPlacesPut, ArcPut, ArcsPut, TransitionPut, AllTransitionsPut, FlatTables};
+ghost use Rattle.card.specs.Tables.{table_size};
+ghost use Rattle.flattening.specs.inner.FlatNumbers.{put_three, put_four, HeadPut, PlacePut, PlacesPut, AllPlacesPut, ArcPut, ArcsPut, TransitionPut, AllTransitionsPut, FlatTables};
 
 use card::index::index;
 use card::tables::{
@@ -19,7 +19,7 @@ const PLACES: usize = HEADER_FIELDS + SUBNET_FIELDS;
 // Three numbers, from position at on.
 fn put_three(out: &mut [u16], at: usize, a: u16, b: u16, d: u16)
     requires { at ≤ 1000000 }
-    ensures { out.new ≡ putThree out.old at a b d }
+    ensures { out.new ≡ put_three out.old at a b d }
 {
     put_number(out, at, a);
     put_number(out, at + 1, b);
@@ -28,7 +28,7 @@ fn put_three(out: &mut [u16], at: usize, a: u16, b: u16, d: u16)
 
 fn put_four(out: &mut [u16], at: usize, a: u16, b: u16, d: u16, e: u16)
     requires { at ≤ 1000000 }
-    ensures { out.new ≡ putFour out.old at a b d e }
+    ensures { out.new ≡ put_four out.old at a b d e }
 {
     put_three(out, at, a, b, d);
     put_number(out, at + 3, e);
@@ -107,7 +107,7 @@ fn put_arcs(numbers: &[u16], starts: &[u32], row: u32, count: u16, at: usize, ou
 
 // The transition whose row begins at row, with its arcs, from position at on. The answer is where the next one goes.
 fn put_transition(numbers: &[u16], starts: &[u32], row: u32, at: usize, out: &mut [u16]) -> usize
-    requires { at ≤ tableSize }
+    requires { at ≤ table_size }
     ensures { TransitionPut numbers.now starts.now row at result out.old out.new }
 {
     let count = arc_count(numbers, row);

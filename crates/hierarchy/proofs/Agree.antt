@@ -7,21 +7,21 @@ use mathlib.Core.Option.{none}
 use native.Mathlib.Omega.{arith}
 use lib.ListN.{length}
 use Rattle.card.specs.Finite.{sum_to}
-use Rattle.card.proofs.Decides.{Decides, Clears, Some, eq_is, lt-is, le_is, not_is, and_is, or_is, implies-is, except-is, every-is, any-is, someUnless-is, otherwise-is, otherwise-given, firstOf-is}
-use Rattle.card.specs.Card.{Arc, Place, Card, normal, input, output, inOut, draws, fills, subnetAt, placeAt, transitionAt, arcAt, firstPlace, firstTransition, place_of}
-use Rattle.hierarchy.specs.Conditions.{kind_of, IsPlace, isChild, Child, children, child, Own, OfKind, Sees, Incident, Weighted, Repeats, SelfLoop, TransitionConditions, HasInterface, AlikePlaces, AlikeArcs, AlikeTransitions, SameType, Alike, Conditions}
-use Rattle.hierarchy.specs.Check.{seen, takes, directed, weighted, samePlace, repeats, single, selfLoop, loopsFit, hasUnit, hasInterface, alikePlaces, alikeArcs, alikeTransitions, sameType, alike, likeLower, arcFault, transitionFault, subnetFault, check}
+use Rattle.card.proofs.Decides.{Decides, Clears, Some, eq_is, lt-is, le_is, not_is, and_is, or_is, implies-is, except-is, every-is, any-is, some_unless-is, otherwise-is, otherwise-given, first_of-is}
+use Rattle.card.specs.Card.{Arc, Place, Card, normal, input, output, in_out, draws, fills, subnet_at, place_at, transition_at, arc_at, first_place, first_transition, place_of}
+use Rattle.hierarchy.specs.Conditions.{kind_of, IsPlace, is_child, Child, children, child, Own, OfKind, Sees, Incident, Weighted, Repeats, SelfLoop, TransitionConditions, HasInterface, AlikePlaces, AlikeArcs, AlikeTransitions, SameType, Alike, Conditions}
+use Rattle.hierarchy.specs.Check.{seen, takes, directed, weighted, same_place, repeats, single, self_loop, loops_fit, has_unit, has_interface, alike_places, alike_arcs, alike_transitions, same_type, alike, like_lower, arc_fault, transition_fault, subnet_fault, check}
 
 -- each condition
-child-is : (c : Card) (i j : ℕ) → Decides (isChild c i j) (Child c i j)
+child-is : (c : Card) (i j : ℕ) → Decides (is_child c i j) (Child c i j)
 child-is c i j =
-    Iff.trans (and_is _ _ _ _ (and_is _ _ _ _ (not_is _ _ (eq_is j i)) (lt-is j (length c.subnets))) (eq_is (subnetAt c j).parent i))
+    Iff.trans (and_is _ _ _ _ (and_is _ _ _ _ (not_is _ _ (eq_is j i)) (lt-is j (length c.subnets))) (eq_is (subnet_at c j).parent i))
     (λ h. (h.0.0, h.0.1, h.1), λ h. ((h.0, h.1), h.2))
 
 seen-is : (c : Card) (i : ℕ) (a : Arc) → Decides (seen c i a) (Sees c i a.subnet a.place)
 unfolding seen
 seen-is c i a =
-    Iff.trans (and_is _ _ _ _ (lt-is a.place (subnetAt c a.subnet).places)
+    Iff.trans (and_is _ _ _ _ (lt-is a.place (subnet_at c a.subnet).places)
     (or_is _ _ _ _ (eq_is a.subnet i) (and_is _ _ _ _ (child-is c i a.subnet) (not_is _ _ (eq_is (place_of c a).kind normal)))))
     (λ h. forth h.0 h.1, back)
   where
@@ -42,50 +42,50 @@ weighted-is c a =
     Iff.trans (and_is _ _ _ _ (le_is 1 a.weight) (le_is a.weight (place_of c a).capacity))
     (λ h. record { positive = h.0; fits = h.1 }, λ h. (h.positive, h.fits))
 
-samePlace-is : (a b : Arc) → Decides (samePlace a b) ((a.subnet ≡ b.subnet) × (a.place ≡ b.place))
-samePlace-is a b = and_is _ _ _ _ (eq_is a.subnet b.subnet) (eq_is a.place b.place)
+same_place-is : (a b : Arc) → Decides (same_place a b) ((a.subnet ≡ b.subnet) × (a.place ≡ b.place))
+same_place-is a b = and_is _ _ _ _ (eq_is a.subnet b.subnet) (eq_is a.place b.place)
 
 repeats-is : (a b : Arc) → Decides (repeats a b) (Repeats a b)
 repeats-is a b =
-    Iff.trans (and_is _ _ _ _ (eq_is a.direction b.direction) (samePlace-is a b))
+    Iff.trans (and_is _ _ _ _ (eq_is a.direction b.direction) (same_place-is a b))
     (λ h. record { direction = h.0; subnet = h.1.0; place = h.1.1 }, λ h. (h.direction, (h.subnet, h.place)))
 
-single-is : (c : Card) (t j : ℕ) → Decides (single c t j) ((i : ℕ) → i < j → ¬ Repeats (arcAt c t i) (arcAt c t j))
+single-is : (c : Card) (t j : ℕ) → Decides (single c t j) ((i : ℕ) → i < j → ¬ Repeats (arc_at c t i) (arc_at c t j))
 unfolding single
-single-is c t j = every-is j _ _ (λ i. not_is _ _ (repeats-is (arcAt c t i) (arcAt c t j)))
+single-is c t j = every-is j _ _ (λ i. not_is _ _ (repeats-is (arc_at c t i) (arc_at c t j)))
 
-selfLoop-is : (a b : Arc) → Decides (selfLoop a b) (SelfLoop a b)
-selfLoop-is a b =
-    Iff.trans (and_is _ _ _ _ (not_is _ _ (eq_is a.direction b.direction)) (samePlace-is a b))
+self_loop-is : (a b : Arc) → Decides (self_loop a b) (SelfLoop a b)
+self_loop-is a b =
+    Iff.trans (and_is _ _ _ _ (not_is _ _ (eq_is a.direction b.direction)) (same_place-is a b))
     (λ h. record { directions = h.0; subnet = h.1.0; place = h.1.1 }, λ h. (h.directions, (h.subnet, h.place)))
 
 -- arc j is within the capacity together with each lower arc that is a self-loop with it
 abbrev Within : Card → (t j : ℕ) → Type 0
-Within c t j = (h : ℕ) → h < j → SelfLoop (arcAt c t h) (arcAt c t j) → (arcAt c t h).weight + (arcAt c t j).weight ≤ (place_of c (arcAt c t j)).capacity
+Within c t j = (h : ℕ) → h < j → SelfLoop (arc_at c t h) (arc_at c t j) → (arc_at c t h).weight + (arc_at c t j).weight ≤ (place_of c (arc_at c t j)).capacity
 
-pub loopsFit-is : (c : Card) (t j : ℕ) → Decides (loopsFit c t j) (Within c t j)
-unfolding loopsFit
-loopsFit-is c t j =
-    every-is j _ _ (λ h. implies-is _ _ _ _ (selfLoop-is (arcAt c t h) (arcAt c t j)) (le_is ((arcAt c t h).weight + (arcAt c t j).weight) (place_of c (arcAt c t j)).capacity))
+pub loops_fit-is : (c : Card) (t j : ℕ) → Decides (loops_fit c t j) (Within c t j)
+unfolding loops_fit
+loops_fit-is c t j =
+    every-is j _ _ (λ h. implies-is _ _ _ _ (self_loop-is (arc_at c t h) (arc_at c t j)) (le_is ((arc_at c t h).weight + (arc_at c t j).weight) (place_of c (arc_at c t j)).capacity))
 
-unit-is : (c : Card) (t : ℕ) → Decides (hasUnit c t) (Some (transitionAt c t).arcs (λ j. (place_of c (arcAt c t j)).capacity ≡ 1))
-unfolding hasUnit
-unit-is c t = any-is _ _ _ (λ j. eq_is (place_of c (arcAt c t j)).capacity 1)
+unit-is : (c : Card) (t : ℕ) → Decides (has_unit c t) (Some (transition_at c t).arcs (λ j. (place_of c (arc_at c t j)).capacity ≡ 1))
+unfolding has_unit
+unit-is c t = any-is _ _ _ (λ j. eq_is (place_of c (arc_at c t j)).capacity 1)
 
-interface-is : (c : Card) (i : ℕ) → Decides (hasInterface c i) (HasInterface c i)
-unfolding hasInterface
+interface-is : (c : Card) (i : ℕ) → Decides (has_interface c i) (HasInterface c i)
+unfolding has_interface
 interface-is c i =
     Iff.trans (any-is _ _ _ (λ n. not_is _ _ (eq_is (kind_of c i n) normal))) (λ h. (h.0, (h.1, h.2)), λ h. (h.0, h.1.0, h.1.1))
 
 -- what a place of a child takes
 Takes : (kind direction : ℕ) → Type 0
-Takes kind direction = (direction ≡ draws → (kind ≡ output) ⊎ (kind ≡ inOut)) × (direction ≡ fills → (kind ≡ input) ⊎ (kind ≡ inOut))
+Takes kind direction = (direction ≡ draws → (kind ≡ output) ⊎ (kind ≡ in_out)) × (direction ≡ fills → (kind ≡ input) ⊎ (kind ≡ in_out))
 
 takes-is : (kind direction : ℕ) → Decides (takes kind direction) (Takes kind direction)
 unfolding Takes
 takes-is kind direction =
-    and_is _ _ _ _ (implies-is _ _ _ _ (eq_is direction draws) (or_is _ _ _ _ (eq_is kind output) (eq_is kind inOut)))
-    (implies-is _ _ _ _ (eq_is direction fills) (or_is _ _ _ _ (eq_is kind input) (eq_is kind inOut)))
+    and_is _ _ _ _ (implies-is _ _ _ _ (eq_is direction draws) (or_is _ _ _ _ (eq_is kind output) (eq_is kind in_out)))
+    (implies-is _ _ _ _ (eq_is direction fills) (or_is _ _ _ _ (eq_is kind input) (eq_is kind in_out)))
 
 -- of an arc at a place that is seen
 directed-is : (c : Card) (i : ℕ) (a : Arc) → Sees c i a.subnet a.place → Decides (directed c i a) (Incident c i a)
@@ -110,20 +110,20 @@ directed-is c i a h = Iff.trans (except-is _ _ _ _ (eq_is a.subnet i) (takes-is 
     forth (inl o) f = record { from = λ e. inl o; to = λ e. inl o }
     forth (inr o) f =
         record {
-          from = λ e. either output inOut o.0 o.1.0 ((f o.0.0).0 e);
-          to = λ e. either input inOut o.0 o.1.0 ((f o.0.0).1 e);
+          from = λ e. either output in_out o.0 o.1.0 ((f o.0.0).0 e);
+          to = λ e. either input in_out o.0 o.1.0 ((f o.0.0).1 e);
         }
 
     back : Sees c i a.subnet a.place → Incident c i a → ¬ (a.subnet ≡ i) → Takes (place_of c a).kind a.direction
-    back o h n = (λ e. kinds output inOut n (h.from e), λ e. kinds input inOut n (h.to e))
+    back o h n = (λ e. kinds output in_out n (h.from e), λ e. kinds input in_out n (h.to e))
 
-alikePlaces-is : (p q : Place) → Decides (alikePlaces p q) (AlikePlaces p q)
-alikePlaces-is p q =
+alike_places-is : (p q : Place) → Decides (alike_places p q) (AlikePlaces p q)
+alike_places-is p q =
     Iff.trans (and_is _ _ _ _ (eq_is p.kind q.kind) (eq_is p.capacity q.capacity))
     (λ h. record { kind = h.0; capacity = h.1 }, λ h. (h.kind, h.capacity))
 
-alikeArcs-is : (c : Card) (r s : ℕ) (a b : Arc) → Decides (alikeArcs c r s a b) (AlikeArcs c r s a b)
-alikeArcs-is c r s a b =
+alike_arcs-is : (c : Card) (r s : ℕ) (a b : Arc) → Decides (alike_arcs c r s a b) (AlikeArcs c r s a b)
+alike_arcs-is c r s a b =
     Iff.trans (and_is _ _ _ _ (and_is _ _ _ _ (and_is _ _ _ _ (eq_is a.direction b.direction) (eq_is a.weight b.weight)) (eq_is a.place b.place))
     (or_is _ _ _ _ (and_is _ _ _ _ (eq_is a.subnet r) (eq_is b.subnet s))
     (any-is (length (children c r)) _ _ (λ k. and_is _ _ _ _ (eq_is a.subnet (child c r k)) (eq_is b.subnet (child c s k)))))) (
@@ -131,49 +131,49 @@ alikeArcs-is c r s a b =
       λ h. (((h.direction, h.weight), h.place), h.subnet),
     )
 
-alikeTransitions-is : (c : Card) (r s t u : ℕ) → Decides (alikeTransitions c r s t u) (AlikeTransitions c r s t u)
-alikeTransitions-is c r s t u =
-    Iff.trans (and_is _ _ _ _ (eq_is (transitionAt c t).arcs (transitionAt c u).arcs) (every-is _ _ _ (λ j. alikeArcs-is c r s (arcAt c t j) (arcAt c u j))))
-    (λ h. record { arcCount = h.0; arcs = h.1 }, λ h. (h.arcCount, h.arcs))
+alike_transitions-is : (c : Card) (r s t u : ℕ) → Decides (alike_transitions c r s t u) (AlikeTransitions c r s t u)
+alike_transitions-is c r s t u =
+    Iff.trans (and_is _ _ _ _ (eq_is (transition_at c t).arcs (transition_at c u).arcs) (every-is _ _ _ (λ j. alike_arcs-is c r s (arc_at c t j) (arc_at c u j))))
+    (λ h. record { arc_count = h.0; arcs = h.1 }, λ h. (h.arc_count, h.arcs))
 
-pub sameType-is : (c : Card) (r s : ℕ) → Decides (sameType c r s) (SameType c r s)
-sameType-is c r s =
-    Iff.trans (and_is _ _ _ _ (eq_is (subnetAt c r).type (subnetAt c s).type) (not_is _ _ (eq_is (subnetAt c s).type 0)))
+pub same_type-is : (c : Card) (r s : ℕ) → Decides (same_type c r s) (SameType c r s)
+same_type-is c r s =
+    Iff.trans (and_is _ _ _ _ (eq_is (subnet_at c r).type (subnet_at c s).type) (not_is _ _ (eq_is (subnet_at c s).type 0)))
     (λ h. record { type = h.0; typed = h.1 }, λ h. (h.type, h.typed))
 
 pub alike_is : (c : Card) (r s : ℕ) → Decides (alike c r s) (Alike c r s)
 unfolding alike
 alike_is c r s =
     Iff.trans (and_is _ _ _ _ (and_is _ _ _ _ (and_is _ _ _ _ (and_is _ _ _ _ (and_is _ _ _ _
-    (eq_is (subnetAt c r).places (subnetAt c s).places)
-    (every-is _ _ _ (λ i. alikePlaces-is (placeAt c (firstPlace c r + i)) (placeAt c (firstPlace c s + i)))))
+    (eq_is (subnet_at c r).places (subnet_at c s).places)
+    (every-is _ _ _ (λ i. alike_places-is (place_at c (first_place c r + i)) (place_at c (first_place c s + i)))))
     (eq_is (length (children c r)) (length (children c s))))
-    (every-is _ _ _ (λ k. sameType-is c (child c r k) (child c s k))))
-    (eq_is (subnetAt c r).transitions (subnetAt c s).transitions))
-    (every-is _ _ _ (λ k. alikeTransitions-is c r s (firstTransition c r + k) (firstTransition c s + k)))) (
-      λ h. record { placeCount = h.0.0.0.0.0; places = h.0.0.0.0.1; childCount = h.0.0.0.1; children = h.0.0.1; transitionCount = h.0.1; transitions = h.1 },
-      λ h. (((((h.placeCount, h.places), h.childCount), h.children), h.transitionCount), h.transitions),
+    (every-is _ _ _ (λ k. same_type-is c (child c r k) (child c s k))))
+    (eq_is (subnet_at c r).transitions (subnet_at c s).transitions))
+    (every-is _ _ _ (λ k. alike_transitions-is c r s (first_transition c r + k) (first_transition c s + k)))) (
+      λ h. record { place_count = h.0.0.0.0.0; places = h.0.0.0.0.1; child_count = h.0.0.0.1; children = h.0.0.1; transition_count = h.0.1; transitions = h.1 },
+      λ h. (((((h.place_count, h.places), h.child_count), h.children), h.transition_count), h.transitions),
     )
 
-pub likeLower-is : (c : Card) (s : ℕ) → Decides (likeLower c s) ((r : ℕ) → r < s → SameType c r s → Alike c r s)
-unfolding likeLower
-likeLower-is c s = every-is s _ _ (λ r. implies-is _ _ _ _ (sameType-is c r s) (alike_is c r s))
+pub like_lower-is : (c : Card) (s : ℕ) → Decides (like_lower c s) ((r : ℕ) → r < s → SameType c r s → Alike c r s)
+unfolding like_lower
+like_lower-is c s = every-is s _ _ (λ r. implies-is _ _ _ _ (same_type-is c r s) (alike_is c r s))
 
 -- each search
-arcFault-is : (c : Card) (i t j : ℕ)
-    → Clears (arcFault c i t j) (Sees c i (arcAt c t j).subnet (arcAt c t j).place
-    × (Incident c i (arcAt c t j) × (Weighted c (arcAt c t j) × (((h : ℕ) → h < j → ¬ Repeats (arcAt c t h) (arcAt c t j)) × Within c t j))))
-unfolding arcFault
-arcFault-is c i t j =
-    otherwise-given _ _ _ _ (someUnless-is _ _ _ (seen-is c i (arcAt c t j)))
-    (λ seen. otherwise-is _ _ _ _ (someUnless-is _ _ _ (directed-is c i (arcAt c t j) seen))
-    (otherwise-is _ _ _ _ (someUnless-is _ _ _ (weighted-is c (arcAt c t j)))
-    (otherwise-is _ _ _ _ (someUnless-is _ _ _ (single-is c t j)) (someUnless-is _ _ _ (loopsFit-is c t j)))))
+arc_fault-is : (c : Card) (i t j : ℕ)
+    → Clears (arc_fault c i t j) (Sees c i (arc_at c t j).subnet (arc_at c t j).place
+    × (Incident c i (arc_at c t j) × (Weighted c (arc_at c t j) × (((h : ℕ) → h < j → ¬ Repeats (arc_at c t h) (arc_at c t j)) × Within c t j))))
+unfolding arc_fault
+arc_fault-is c i t j =
+    otherwise-given _ _ _ _ (some_unless-is _ _ _ (seen-is c i (arc_at c t j)))
+    (λ seen. otherwise-is _ _ _ _ (some_unless-is _ _ _ (directed-is c i (arc_at c t j) seen))
+    (otherwise-is _ _ _ _ (some_unless-is _ _ _ (weighted-is c (arc_at c t j)))
+    (otherwise-is _ _ _ _ (some_unless-is _ _ _ (single-is c t j)) (some_unless-is _ _ _ (loops_fit-is c t j)))))
 
-transitionFault-is : (c : Card) (i t : ℕ) → Clears (transitionFault c i t) (TransitionConditions c i t)
-unfolding transitionFault
-transitionFault-is c i t =
-    Iff.trans (otherwise-is _ _ _ _ (firstOf-is 0 (transitionAt c t).arcs (arcFault c i t) _ (arcFault-is c i t)) (someUnless-is _ _ _ (unit-is c t))) (
+transition_fault-is : (c : Card) (i t : ℕ) → Clears (transition_fault c i t) (TransitionConditions c i t)
+unfolding transition_fault
+transition_fault-is c i t =
+    Iff.trans (otherwise-is _ _ _ _ (first_of-is 0 (transition_at c t).arcs (arc_fault c i t) _ (arc_fault-is c i t)) (some_unless-is _ _ _ (unit-is c t))) (
       λ h. record {
         sees = λ j l. (h.0 j (omega arith) (omega arith)).0;
         incident = λ j l. (h.0 j (omega arith) (omega arith)).1.0;
@@ -185,18 +185,18 @@ transitionFault-is c i t =
       λ h. (λ j a b. (h.sees j (omega arith), (h.incident j (omega arith), (h.weighted j (omega arith), (λ g l. h.single g j l (omega arith), λ g l. h.loops g j l (omega arith))))), h.unit),
     )
 
-subnetFault-is : (c : Card) (s : ℕ) → Clears (subnetFault c s) ((t : ℕ) → firstTransition c s ≤ t → t < firstTransition c (suc s) → TransitionConditions c s t)
-unfolding subnetFault firstTransition sum_to
-subnetFault-is c s = firstOf-is (firstTransition c s) (subnetAt c s).transitions (transitionFault c s) (TransitionConditions c s) (transitionFault-is c s)
+subnet_fault-is : (c : Card) (s : ℕ) → Clears (subnet_fault c s) ((t : ℕ) → first_transition c s ≤ t → t < first_transition c (suc s) → TransitionConditions c s t)
+unfolding subnet_fault first_transition sum_to
+subnet_fault-is c s = first_of-is (first_transition c s) (subnet_at c s).transitions (transition_fault c s) (TransitionConditions c s) (transition_fault-is c s)
 
 -- THE CHECK FINDS NO FAULT JUST WHERE THE CONDITIONS HOLD
 pub check-is : (c : Card) → (check c ≡ none) ↔ Conditions c
 unfolding check
 check-is c =
-    Iff.trans (otherwise-is _ _ _ _ (firstOf-is 0 (length c.subnets) (subnetFault c) _ (subnetFault-is c))
+    Iff.trans (otherwise-is _ _ _ _ (first_of-is 0 (length c.subnets) (subnet_fault c) _ (subnet_fault-is c))
     (otherwise-is _ _ _ _
-    (firstOf-is 0 (length c.subnets) _ _ (λ s. someUnless-is _ _ _ (except-is _ _ _ _ (eq_is s 0) (interface-is c s))))
-    (firstOf-is 0 (length c.subnets) _ _ (λ s. someUnless-is _ _ _ (likeLower-is c s))))) (
+    (first_of-is 0 (length c.subnets) _ _ (λ s. some_unless-is _ _ _ (except-is _ _ _ _ (eq_is s 0) (interface-is c s))))
+    (first_of-is 0 (length c.subnets) _ _ (λ s. some_unless-is _ _ _ (like_lower-is c s))))) (
       λ h. record {
         transitions = λ s t l. h.0 s (omega arith) (omega arith) t;
         interfaces = λ s l. h.1.0 s (omega arith) (omega arith);

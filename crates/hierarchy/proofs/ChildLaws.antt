@@ -10,13 +10,13 @@ use lib.Seq.{get_or-set_same, get_or-set_other}
 use lib.Dec.{ltb, eqb}
 use borrow.Author.Tests.{ltb-true, lt-ltb, le-ltb, eqb-true, eqb-false, eq-eqb, ne_eqb}
 use Rattle.card.specs.Finite.{sum_to, table, keep}
-use Rattle.card.specs.Card.{Card, subnetAt}
+use Rattle.card.specs.Card.{Card, subnet_at}
 use Rattle.card.proofs.Sums.{sum_same, sum-front, sum_below}
 use Rattle.card.proofs.Decides.{Decides, Some, and_is, eq_is, any-is}
-use Rattle.hierarchy.specs.Conditions.{isChild, children, child}
+use Rattle.hierarchy.specs.Conditions.{is_child, children, child}
 use Rattle.card.specs.Finite.{one}
 use Rattle.hierarchy.specs.inner.Ordinals.{ordinal, AllOrdinals}
-use Rattle.hierarchy.specs.inner.Likeness.{bothKth}
+use Rattle.hierarchy.specs.inner.Likeness.{both_kth}
 use Rattle.hierarchy.proofs.WalkLaws.{Below, and_no}
 
 module _ (test : ℕ → Bool) where
@@ -78,62 +78,62 @@ module _ (test : ℕ → Bool) where
       go true e (suc k) l f = let z : 1 + k ≡ suc k = omega arith in rw z at (later true e k (f k (omega (arith, l))))
       go false e k l f = let z : 0 + k ≡ k = omega arith in rw z at (later false e k (f k l))
 
-ordinal-passing : (c : Card) (i j : ℕ) → ordinal c i j ≡ passing (isChild c i) 0 j
+ordinal-passing : (c : Card) (i j : ℕ) → ordinal c i j ≡ passing (is_child c i) 0 j
 unfolding ordinal
-ordinal-passing c i j = sym (passing-sum (isChild c i) 0 j ∙ sum_same j _ _ (λ h l. ap (λ (k : ℕ). one (isChild c i k)) (zero-add h)))
+ordinal-passing c i j = sym (passing-sum (is_child c i) 0 j ∙ sum_same j _ _ (λ h l. ap (λ (k : ℕ). one (is_child c i k)) (zero-add h)))
 
 -- as many children as there are below the number of subnets
 pub child-count : (c : Card) (i : ℕ) → length (children c i) ≡ ordinal c i (length c.subnets)
 unfolding children
-child-count c i = kept-length (isChild c i) 0 (length c.subnets) ∙ sym (ordinal-passing c i (length c.subnets))
+child-count c i = kept-length (is_child c i) 0 (length c.subnets) ∙ sym (ordinal-passing c i (length c.subnets))
 
 pub and_parts : (a b : Bool) → (a && b) ≡ true → (a ≡ true) × (b ≡ true)
 and_parts true b e = (refl, e)
 and_parts false b e = absurd (false≢true e)
 
-pub child-below : (c : Card) (i j : ℕ) → isChild c i j ≡ true → j < length c.subnets
+pub child-below : (c : Card) (i j : ℕ) → is_child c i j ≡ true → j < length c.subnets
 child-below c i j e =
     let other : Bool = not (eqb j i) in
     let there : Bool = ltb j (length c.subnets) in
-    ltb-true j (length c.subnets) (and_parts other there (and_parts (other && there) (eqb (subnetAt c j).parent i) e).0).1
+    ltb-true j (length c.subnets) (and_parts other there (and_parts (other && there) (eqb (subnet_at c j).parent i) e).0).1
 
-child-parent : (c : Card) (i j : ℕ) → isChild c i j ≡ true → (subnetAt c j).parent ≡ i
-child-parent c i j e = eqb-true (subnetAt c j).parent i (and_parts (not (eqb j i) && ltb j (length c.subnets)) (eqb (subnetAt c j).parent i) e).1
+child-parent : (c : Card) (i j : ℕ) → is_child c i j ≡ true → (subnet_at c j).parent ≡ i
+child-parent c i j e = eqb-true (subnet_at c j).parent i (and_parts (not (eqb j i) && ltb j (length c.subnets)) (eqb (subnet_at c j).parent i) e).1
 
 -- a child is the one of its ordinal
-pub child-at : (c : Card) (i j : ℕ) → isChild c i j ≡ true → child c i (ordinal c i j) ≡ j
+pub child-at : (c : Card) (i j : ℕ) → is_child c i j ≡ true → child c i (ordinal c i j) ≡ j
 unfolding children
 child-at c i j e =
-    rw (ordinal-passing c i j) (kept_at (isChild c i) 0 (length c.subnets) j (child-below c i j e) (subst (λ (k : ℕ). isChild c i k ≡ true) (sym (zero-add j)) e) ∙ zero-add j)
+    rw (ordinal-passing c i j) (kept_at (is_child c i) 0 (length c.subnets) j (child-below c i j e) (subst (λ (k : ℕ). is_child c i k ≡ true) (sym (zero-add j)) e) ∙ zero-add j)
 
-pub ordinal-below : (c : Card) (i j : ℕ) → isChild c i j ≡ true → ordinal c i j < length (children c i)
+pub ordinal-below : (c : Card) (i j : ℕ) → is_child c i j ≡ true → ordinal c i j < length (children c i)
 unfolding ordinal
 ordinal-below c i j e =
-    let f : ℕ → ℕ = λ h. one (isChild c i h) in
+    let f : ℕ → ℕ = λ h. one (is_child c i h) in
     let z : f j ≡ 1 = ap one e in
     omega (arith, child-count c i, sum_below (length c.subnets) f j 0 (child-below c i j e) (omega (arith, z)))
 
 -- the k-th child is a child, and its ordinal is k
 pub record Kth (c : Card) (i k j : ℕ) : Type 0 where
-  pub child : isChild c i j ≡ true
+  pub child : is_child c i j ≡ true
   pub ordinal : ordinal c i j ≡ k
 
 pub child-is : (c : Card) (i k : ℕ) → k < length (children c i) → Kth c i k (child c i k)
 unfolding children
-child-is c i k l = go (kept_of (isChild c i) 0 (length c.subnets) k l)
+child-is c i k l = go (kept_of (is_child c i) 0 (length c.subnets) k l)
   where
-    found : (j : ℕ) → isChild c i j ≡ true → ordinal c i j ≡ k → Kth c i k (child c i k)
+    found : (j : ℕ) → is_child c i j ≡ true → ordinal c i j ≡ k → Kth c i k (child c i k)
     found j e r = let q : child c i k ≡ j = ap (λ (m : ℕ). child c i m) (sym r) ∙ child-at c i j e in subst (λ (m : ℕ). Kth c i k m) (sym q) (record { child = e; ordinal = r })
 
-    go : Some (length c.subnets) (λ j. (isChild c i (0 + j) ≡ true) × (passing (isChild c i) 0 j ≡ k)) → Kth c i k (child c i k)
-    go h = found h.0 (subst (λ (m : ℕ). isChild c i m ≡ true) (zero-add h.0) h.2.0) (ordinal-passing c i h.0 ∙ h.2.1)
+    go : Some (length c.subnets) (λ j. (is_child c i (0 + j) ≡ true) × (passing (is_child c i) 0 j ≡ k)) → Kth c i k (child c i k)
+    go h = found h.0 (subst (λ (m : ℕ). is_child c i m ≡ true) (zero-add h.0) h.2.0) (ordinal-passing c i h.0 ∙ h.2.1)
 
 -- by their ordinals
 pub both-kth : (c : Card) (r s a b : ℕ) → length (children c r) ≡ length (children c s)
-    → bothKth c r s a b ≡ isChild c r a && (isChild c s b && eqb (ordinal c s b) (ordinal c r a))
+    → both_kth c r s a b ≡ is_child c r a && (is_child c s b && eqb (ordinal c s b) (ordinal c r a))
 both-kth c r s a b e =
     same_test _ _ _ _ (any-is (length (children c r)) _ _ (λ k. and_is _ _ _ _ (eq_is a (child c r k)) (eq_is b (child c s k))))
-    (and_is _ _ _ _ (itself (isChild c r a)) (and_is _ _ _ _ (itself (isChild c s b)) (eq_is (ordinal c s b) (ordinal c r a)))) forth back
+    (and_is _ _ _ _ (itself (is_child c r a)) (and_is _ _ _ _ (itself (is_child c s b)) (eq_is (ordinal c s b) (ordinal c r a)))) forth back
   where
     itself : (t : Bool) → Decides t (t ≡ true)
     itself t = (λ h. h, λ h. h)
@@ -147,7 +147,7 @@ both-kth c r s a b e =
     Kept = Some (length (children c r)) (λ k. (a ≡ child c r k) × (b ≡ child c s k))
 
     AllOrdinals : Type 0
-    AllOrdinals = (isChild c r a ≡ true) × ((isChild c s b ≡ true) × (ordinal c s b ≡ ordinal c r a))
+    AllOrdinals = (is_child c r a ≡ true) × ((is_child c s b ≡ true) × (ordinal c s b ≡ ordinal c r a))
 
     forth : Kept → AllOrdinals
     forth (k, l, p) =
@@ -167,7 +167,7 @@ pub ordinal-start : (c : Card) (i : ℕ) → 0 ≡ ordinal c i 0
 unfolding ordinal sum_to
 ordinal-start c i = refl
 
-pub ordinal-more : (c : Card) (i h n m : ℕ) (b : Bool) → n ≡ ordinal c i h → b ≡ isChild c i h → m ≡ one b → n + m ≡ ordinal c i (h + 1)
+pub ordinal-more : (c : Card) (i h n m : ℕ) (b : Bool) → n ≡ ordinal c i h → b ≡ is_child c i h → m ≡ one b → n + m ≡ ordinal c i (h + 1)
 unfolding ordinal sum_to
 ordinal-more c i h n m b e f g = let s : h + 1 ≡ suc h = omega arith in rw (s, ← f) (omega (arith, e, g))
 
@@ -178,35 +178,35 @@ pub child-counted : (c : Card) (n i x : ℕ) → n ≡ length c.subnets → x �
 child-counted c n i x e f = f ∙ ap (λ (k : ℕ). ordinal c i k) e ∙ sym (child-count c i)
 
 -- looking for the k-th child
-abbrev pub isKth : Card → (i k j : ℕ) → Bool
-isKth c i k j = isChild c i j && eqb (ordinal c i j) k
+abbrev pub is_kth : Card → (i k j : ℕ) → Bool
+is_kth c i k j = is_child c i j && eqb (ordinal c i j) k
 
-pub kth-found : (c : Card) (i k j : ℕ) → isKth c i k j ≡ true → j ≡ child c i k
+pub kth-found : (c : Card) (i k j : ℕ) → is_kth c i k j ≡ true → j ≡ child c i k
 kth-found c i k j e =
-    let h : (isChild c i j ≡ true) × (eqb (ordinal c i j) k ≡ true) = and_parts (isChild c i j) (eqb (ordinal c i j) k) e in
+    let h : (is_child c i j ≡ true) × (eqb (ordinal c i j) k ≡ true) = and_parts (is_child c i j) (eqb (ordinal c i j) k) e in
     sym (child-at c i j h.0) ∙ ap (λ (m : ℕ). child c i m) (eqb-true (ordinal c i j) k h.1)
 
 pub kth-below : (c : Card) (i k x : ℕ) → k < length (children c i) → x ≡ child c i k → x < length c.subnets
 kth-below c i k x l e = rw e (child-below c i (child c i k) (child-is c i k l).child)
 
-pub kth-passed : (c : Card) (n i k j : ℕ) → n ≡ length c.subnets → k < length (children c i) → n ≤ j → Below j (isKth c i k) false → 0 ≡ child c i k
+pub kth-passed : (c : Card) (n i k j : ℕ) → n ≡ length c.subnets → k < length (children c i) → n ≤ j → Below j (is_kth c i k) false → 0 ≡ child c i k
 kth-passed c n i k j e l m h =
     let x : ℕ = child c i k in
     let p : Kth c i k x = child-is c i k l in
-    let q : isKth c i k x ≡ true = rw (p.child, eq-eqb (ordinal c i x) k p.ordinal) in
+    let q : is_kth c i k x ≡ true = rw (p.child, eq-eqb (ordinal c i x) k p.ordinal) in
     absurd (false≢true (sym (h x (omega (arith, e, m, kth-below c i k x l refl))) ∙ q))
 
 -- a table of ordinals, filled below j
 abbrev pub OrdinalsTo : Card → List ℕ → ℕ → Type 0
-OrdinalsTo c ordinals j = (i h : ℕ) → h < j → isChild c i h ≡ true → get_or ordinals h 0 ≡ ordinal c i h
+OrdinalsTo c ordinals j = (i h : ℕ) → h < j → is_child c i h ≡ true → get_or ordinals h 0 ≡ ordinal c i h
 
-pub ordinals-more : (c : Card) (ordinals : List ℕ) (j p x : ℕ) → OrdinalsTo c ordinals j → j < length ordinals → p ≡ (subnetAt c j).parent → x ≡ ordinal c p j → OrdinalsTo c (set ordinals j x) (j + 1)
+pub ordinals-more : (c : Card) (ordinals : List ℕ) (j p x : ℕ) → OrdinalsTo c ordinals j → j < length ordinals → p ≡ (subnet_at c j).parent → x ≡ ordinal c p j → OrdinalsTo c (set ordinals j x) (j + 1)
 ordinals-more c ordinals j p x w l e f i h m q = go (eqb h j) refl
   where
     go : (t : Bool) → eqb h j ≡ t → get_or (set ordinals j x) h 0 ≡ ordinal c i h
     go true z =
         let s : h ≡ j = eqb-true h j z in
-        let u : p ≡ i = e ∙ ap (λ (k : ℕ). (subnetAt c k).parent) (sym s) ∙ child-parent c i h q in
+        let u : p ≡ i = e ∙ ap (λ (k : ℕ). (subnet_at c k).parent) (sym s) ∙ child-parent c i h q in
         rw s (get_or-set_same ordinals j x 0 l ∙ f ∙ ap (λ (k : ℕ). ordinal c k j) u)
     go false z = get_or-set_other ordinals j h x 0 (eqb-false h j z) ∙ w i h (omega (arith, eqb-false h j z)) q
 
@@ -214,11 +214,11 @@ pub ordinals-end : (c : Card) (ordinals : List ℕ) (j : ℕ) → OrdinalsTo c o
 ordinals-end c ordinals j w l i h e = w i h (omega (arith, child-below c i h e)) e
 
 -- testing for a child
-pub not_itself : (c : Card) (i j : ℕ) → j ≡ i → false ≡ isChild c i j
+pub not_itself : (c : Card) (i j : ℕ) → j ≡ i → false ≡ is_child c i j
 not_itself c i j e = rw (eq-eqb j i e)
 
-pub not_there : (c : Card) (n i j : ℕ) → n ≡ length c.subnets → n ≤ j → false ≡ isChild c i j
+pub not_there : (c : Card) (n i j : ℕ) → n ≡ length c.subnets → n ≤ j → false ≡ is_child c i j
 not_there c n i j e l = rw (le-ltb j (length c.subnets) (omega arith), and_no (not (eqb j i)))
 
-pub child-named : (c : Card) (n i j x : ℕ) → n ≡ length c.subnets → (j ≡ i → ⊥) → j < n → x ≡ (subnetAt c j).parent → eqb x i ≡ isChild c i j
+pub child-named : (c : Card) (n i j x : ℕ) → n ≡ length c.subnets → (j ≡ i → ⊥) → j < n → x ≡ (subnet_at c j).parent → eqb x i ≡ is_child c i j
 child-named c n i j x e d l f = rw (ne_eqb j i d, lt-ltb j (length c.subnets) (omega arith), f)

@@ -6,7 +6,7 @@ use mathlib.Core.Option.{Option, none, some}
 use native.Mathlib.Omega.{arith}
 use native.Mathlib.Numerals.{add-one}
 use Rattle.card.specs.Finite.{any, first_of}
-use Rattle.card.proofs.Decides.{firstOf-is}
+use Rattle.card.proofs.Decides.{first_of-is}
 
 -- what a search finds is what it finds from k on, up to end
 pub record Walked {A : Type 0} (whole : Option A) (f : ℕ → Option A) (end k : ℕ) : Type 0 where
@@ -30,7 +30,7 @@ module _ {A : Type 0} {whole : Option A} {f : ℕ → Option A} {end k : ℕ} (h
 
 -- where a search finds nothing, there is nothing at each number
 pub none-at : {A : Type 0} (from n : ℕ) (f : ℕ → Option A) → first_of from n f ≡ none → (k : ℕ) → from ≤ k → k < from + n → f k ≡ none
-none-at from n f e = (firstOf-is from n f (λ k. f k ≡ none) (λ k. (λ h. h, λ h. h))).0 e
+none-at from n f e = (first_of-is from n f (λ k. f k ≡ none) (λ k. (λ h. h, λ h. h))).0 e
 
 -- a test of some number below k, and of k
 pub any-more : (k : ℕ) (f : ℕ → Bool) → any k f ≡ false → f k ≡ false → any (k + 1) f ≡ false

@@ -8,7 +8,7 @@ use native.Mathlib.Omega.{arith}
 use lib.Dec.{eqb}
 use borrow.Author.Tests.{eqb-true, eqb-false, eq-eqb, ne_eqb}
 use Rattle.card.specs.Finite.{every, any, first_of}
-use Rattle.hierarchy.specs.Check.{faultUnless, findingOf}
+use Rattle.hierarchy.specs.Check.{fault_unless, finding_of}
 use Rattle.hierarchy.specs.declared.CardFault.{CardFault}
 use Rattle.hierarchy.specs.declared.Finding.TheVariants.{Nothing, Fault}
 
@@ -123,11 +123,11 @@ compared-end a b n i f w l = rw (every-all a i f w.held (omega (arith, w.first))
 
 -- the first fault, by a test at each number
 pub first-fails : (n i : ℕ) (bit : ℕ → ℕ) (ok : ℕ → Bool) (why : CardFault) (x : ℕ) → Below i ok true → i < n → ok i ≡ false → x ≡ bit i
-    → findingOf (Fault why x) ≡ first_of 0 n (λ k. faultUnless (bit k) (ok k) why)
+    → finding_of (Fault why x) ≡ first_of 0 n (λ k. fault_unless (bit k) (ok k) why)
 first-fails n i bit ok why x h l e f =
-    let z : faultUnless (bit i) (ok i) why ≡ some (record { why = why; bit = x }) = rw (e, f) in
-    sym (first_found n i (λ k. faultUnless (bit k) (ok k) why) _ (λ k m. rw (h k m)) l z)
+    let z : fault_unless (bit i) (ok i) why ≡ some (record { why = why; bit = x }) = rw (e, f) in
+    sym (first_found n i (λ k. fault_unless (bit k) (ok k) why) _ (λ k m. rw (h k m)) l z)
 
 pub first_passes : (n i : ℕ) (bit : ℕ → ℕ) (ok : ℕ → Bool) (why : CardFault) → Below i ok true → n ≤ i
-    → findingOf Nothing ≡ first_of 0 n (λ k. faultUnless (bit k) (ok k) why)
-first_passes n i bit ok why h l = sym (first-none n i (λ k. faultUnless (bit k) (ok k) why) (λ k m. rw (h k m)) l)
+    → finding_of Nothing ≡ first_of 0 n (λ k. fault_unless (bit k) (ok k) why)
+first_passes n i bit ok why h l = sym (first-none n i (λ k. fault_unless (bit k) (ok k) why) (λ k m. rw (h k m)) l)

@@ -11,11 +11,11 @@ use lib.Seq.{ext_get_or, get_or-take, length-take-le}
 use Rattle.card.specs.Finite.{table}
 use Rattle.card.specs.Card.{Card}
 use Rattle.card.specs.Numbers
-use Rattle.card.specs.Parsing.{Parsing, readCard}
+use Rattle.card.specs.Parsing.{Parsing, read_card}
 use Rattle.card.specs.Writing.{encode, read_tables}
-use Rattle.card.specs.Tables.{cardBytes}
-use Rattle.card.specs.Rows.{tablesIn, wholeRows, readRows}
-use Rattle.card.specs.Spelling.{spellOutcome, outcomeOf, IsSpelt, putInto}
+use Rattle.card.specs.Tables.{card_bytes}
+use Rattle.card.specs.Rows.{tables_in, whole_rows, read_rows}
+use Rattle.card.specs.Spelling.{spell_outcome, outcome_of, IsSpelt, put_into}
 use Rattle.card.specs.declared.FormatFault.{FormatFault}
 use Rattle.card.specs.declared.FormatFault.TheVariants.{BadTable}
 use Rattle.card.specs.declared.writer.CardSpelt.{CardSpelt}
@@ -24,11 +24,11 @@ use Rattle.card.proofs.Sums.{table-length, table_at}
 use Rattle.card.proofs.Ranges.{read-wellformed}
 use Rattle.card.proofs.RoundTrip.{read-write}
 use Rattle.card.proofs.Length.{bytes-few}
-use Rattle.hierarchy.specs.Numbers.{checkOutcome, writeOutcome}
+use Rattle.hierarchy.specs.Numbers.{check_outcome, write_outcome}
 use Rattle.hierarchy.specs.Check.{Found, check}
 use Rattle.hierarchy.specs.Judgement.{Judgement, accepted, refused, checked, judged, judge, answer}
 use Rattle.hierarchy.specs.Judgement as judgement
-use Rattle.hierarchy.specs.Output.{writeRows, IsWritten}
+use Rattle.hierarchy.specs.Output.{write_rows, IsWritten}
 use Rattle.hierarchy.specs.declared.CardFault.{CardFault}
 use Rattle.hierarchy.specs.declared.CardFault.TheVariants.{Format}
 use Rattle.hierarchy.specs.declared.Answer.TheVariants.{Accepted, Refused}
@@ -41,49 +41,49 @@ module _ (head : Head) (subnets places transitions arcs : List ℕ) where
   pub record Spelt (bytes : List ℕ) (n : ℕ) : Type 0 where
     pub card : Card
     pub end : ℕ
-    pub is : readRows head subnets places transitions arcs ≡ Parsing.whole card end
-    pub reads : readCard (encode card) ≡ Parsing.whole card end
+    pub is : read_rows head subnets places transitions arcs ≡ Parsing.whole card end
+    pub reads : read_card (encode card) ≡ Parsing.whole card end
     pub long : n ≡ length (encode card)
     pub few : n ≤ length bytes
     pub cut : n ≡ length (take n bytes)
     pub holds : take n bytes ≡ encode card
 
   -- what is spelt is a card's
-  reads-back : (c : Card) (end : ℕ) → readRows head subnets places transitions arcs ≡ Parsing.whole c end → readCard (encode c) ≡ Parsing.whole c end
-  unfolding readRows
-  reads-back c end e = go (wholeRows subnets places transitions arcs) refl e
+  reads-back : (c : Card) (end : ℕ) → read_rows head subnets places transitions arcs ≡ Parsing.whole c end → read_card (encode c) ≡ Parsing.whole c end
+  unfolding read_rows
+  reads-back c end e = go (whole_rows subnets places transitions arcs) refl e
     where
-      go : (b : Bool) → wholeRows subnets places transitions arcs ≡ b → cond b (read_tables (tablesIn head subnets places transitions arcs)) (Parsing.refused (Numbers.number BadTable) 0) ≡ Parsing.whole c end
-          → readCard (encode c) ≡ Parsing.whole c end
-      go true p q = let x = read-write (tablesIn head subnets places transitions arcs) c end q in subst (λ (d : Card). readCard (encode d) ≡ Parsing.whole d end) (sym x.0) x.1.reads
+      go : (b : Bool) → whole_rows subnets places transitions arcs ≡ b → cond b (read_tables (tables_in head subnets places transitions arcs)) (Parsing.refused (Numbers.number BadTable) 0) ≡ Parsing.whole c end
+          → read_card (encode c) ≡ Parsing.whole c end
+      go true p q = let x = read-write (tables_in head subnets places transitions arcs) c end q in subst (λ (d : Card). read_card (encode d) ≡ Parsing.whole d end) (sym x.0) x.1.reads
       go false p q = absurd (let z : ◌≡◌ {A = ℕ} 0 1 = cc in omega arith)
 
-  first-bytes : (c : Card) (bytes : List ℕ) → length (encode c) ≤ cardBytes → bytes ≡ table 0 cardBytes (λ k. get_or (encode c) k 0) → take (length (encode c)) bytes ≡ encode c
+  first-bytes : (c : Card) (bytes : List ℕ) → length (encode c) ≤ card_bytes → bytes ≡ table 0 card_bytes (λ k. get_or (encode c) k 0) → take (length (encode c)) bytes ≡ encode c
   first-bytes c bytes l e =
-      let long : length bytes ≡ cardBytes = ap length e ∙ table-length 0 cardBytes (λ k. get_or (encode c) k 0) in
+      let long : length bytes ≡ card_bytes = ap length e ∙ table-length 0 card_bytes (λ k. get_or (encode c) k 0) in
       let same = length-take-le (length (encode c)) bytes (omega arith) in
       ext_get_or 0 (take (length (encode c)) bytes) (encode c) same
-      (λ i h. get_or-take (length (encode c)) bytes i 0 (omega (arith, same)) ∙ ap (λ xs. get_or xs i 0) e ∙ table_at cardBytes (λ k. get_or (encode c) k 0) 0 i (omega (arith, same)))
+      (λ i h. get_or-take (length (encode c)) bytes i 0 (omega (arith, same)) ∙ ap (λ xs. get_or xs i 0) e ∙ table_at card_bytes (λ k. get_or (encode c) k 0) 0 i (omega (arith, same)))
 
-  module _ (w : CardSpelt) (h : IsSpelt (readRows head subnets places transitions arcs) w) where
+  module _ (w : CardSpelt) (h : IsSpelt (read_rows head subnets places transitions arcs) w) where
     pub spelt-whole : (n : ℕ) → w.answer ≡ Whole n → Spelt w.bytes n
-    spelt-whole n e = go (readRows head subnets places transitions arcs) refl (sym (ap spellOutcome e) ∙ h.answer) h.bytes
+    spelt-whole n e = go (read_rows head subnets places transitions arcs) refl (sym (ap spell_outcome e) ∙ h.answer) h.bytes
       where
-        go : (x : Parsing Card) → readRows head subnets places transitions arcs ≡ x → spellOutcome (Whole n) ≡ outcomeOf x → w.bytes ≡ Rattle.card.specs.Spelling.bytes_of x → Spelt w.bytes n
+        go : (x : Parsing Card) → read_rows head subnets places transitions arcs ≡ x → spell_outcome (Whole n) ≡ outcome_of x → w.bytes ≡ Rattle.card.specs.Spelling.bytes_of x → Spelt w.bytes n
         go (Parsing.refused m at) p q b = absurd (let z : ◌≡◌ {A = ℕ} 0 1 = cc in omega arith)
         go (Parsing.whole c end) p q b =
             let long : n ≡ length (encode c) = cc in
             let reads = reads-back c end p in
             let few = bytes-few c (read-wellformed (encode c) c end reads) in
-            let room : n ≤ length w.bytes = omega (arith, long, few, ap length b, table-length 0 cardBytes (λ k. get_or (encode c) k 0)) in
+            let room : n ≤ length w.bytes = omega (arith, long, few, ap length b, table-length 0 card_bytes (λ k. get_or (encode c) k 0)) in
             record { card = c; end = end; is = p; reads = reads; long = long; few = room; cut = sym (length-take-le n w.bytes room); holds = ap (λ (m : ℕ). take m w.bytes) long ∙ first-bytes c w.bytes few b }
 
     pub spell-turned : (buffer : List ℕ) (f : FormatFault) (at : ℕ) (r : Written) → w.answer ≡ Unspelt f at → r ≡ NotWritten (Format f) at
-        → IsWritten (writeRows head subnets places transitions arcs buffer) r buffer
-    unfolding writeRows
-    spell-turned buffer f at r e t = go (readRows head subnets places transitions arcs) (sym (ap spellOutcome e) ∙ h.answer)
+        → IsWritten (write_rows head subnets places transitions arcs buffer) r buffer
+    unfolding write_rows
+    spell-turned buffer f at r e t = go (read_rows head subnets places transitions arcs) (sym (ap spell_outcome e) ∙ h.answer)
       where
-        go : (x : Parsing Card) → spellOutcome (Unspelt f at) ≡ outcomeOf x → IsWritten (Rattle.hierarchy.specs.Output.delivered (judged x) encode buffer) r buffer
+        go : (x : Parsing Card) → spell_outcome (Unspelt f at) ≡ outcome_of x → IsWritten (Rattle.hierarchy.specs.Output.delivered (judged x) encode buffer) r buffer
         go (Parsing.refused n i) q =
             let a : Numbers.number f ≡ n = cc in
             let b : at ≡ i = cc in
@@ -92,33 +92,33 @@ module _ (head : Head) (subnets places transitions arcs : List ℕ) where
 
   module _ (bytes : List ℕ) (n : ℕ) (s : Spelt bytes n) where
     -- the check of the bytes judges the tables
-    judged-is : judge (take n bytes) ≡ judged (readRows head subnets places transitions arcs)
+    judged-is : judge (take n bytes) ≡ judged (read_rows head subnets places transitions arcs)
     unfolding judge
     judged-is = rw (s.holds, s.reads, s.is)
 
-    pub check-turned : (buffer : List ℕ) (f : CardFault) (at : ℕ) (r : Written) → checkOutcome (Refused f at) ≡ answer (take n bytes) → r ≡ NotWritten f at
-        → IsWritten (writeRows head subnets places transitions arcs buffer) r buffer
-    unfolding writeRows
-    check-turned buffer f at r e t = go (judged (readRows head subnets places transitions arcs)) (e ∙ ap judgement.outcomeOf judged-is)
+    pub check-turned : (buffer : List ℕ) (f : CardFault) (at : ℕ) (r : Written) → check_outcome (Refused f at) ≡ answer (take n bytes) → r ≡ NotWritten f at
+        → IsWritten (write_rows head subnets places transitions arcs buffer) r buffer
+    unfolding write_rows
+    check-turned buffer f at r e t = go (judged (read_rows head subnets places transitions arcs)) (e ∙ ap judgement.outcome_of judged-is)
       where
-        go : (x : Judgement) → checkOutcome (Refused f at) ≡ judgement.outcomeOf x → IsWritten (Rattle.hierarchy.specs.Output.delivered x encode buffer) r buffer
+        go : (x : Judgement) → check_outcome (Refused f at) ≡ judgement.outcome_of x → IsWritten (Rattle.hierarchy.specs.Output.delivered x encode buffer) r buffer
         go (refused m i) q =
             let a : Rattle.hierarchy.specs.Numbers.number f ≡ m = cc in
             let b : at ≡ i = cc in
             rw (t, ← a, ← b) (record { answer = refl; bytes = refl })
         go (accepted d) q = absurd (let z : ◌≡◌ {A = ℕ} 0 1 = cc in omega arith)
 
-    pub put-done : (a b d : ℕ) → checkOutcome (Accepted a b d) ≡ answer (take n bytes) → (buffer out : List ℕ) (x : Bool) (r : Written)
-        → x ≡ leb (length (take n bytes)) (length buffer) → out ≡ putInto (take n bytes) buffer → r ≡ cond x (Wrote n) (Short n)
-        → IsWritten (writeRows head subnets places transitions arcs buffer) r out
-    unfolding writeRows
-    put-done a b d e buffer out x r ex eo er = rw s.is (go (check s.card) refl (e ∙ ap judgement.outcomeOf (judged-is ∙ ap judged s.is)))
+    pub put-done : (a b d : ℕ) → check_outcome (Accepted a b d) ≡ answer (take n bytes) → (buffer out : List ℕ) (x : Bool) (r : Written)
+        → x ≡ leb (length (take n bytes)) (length buffer) → out ≡ put_into (take n bytes) buffer → r ≡ cond x (Wrote n) (Short n)
+        → IsWritten (write_rows head subnets places transitions arcs buffer) r out
+    unfolding write_rows
+    put-done a b d e buffer out x r ex eo er = rw s.is (go (check s.card) refl (e ∙ ap judgement.outcome_of (judged-is ∙ ap judged s.is)))
       where
-        fits : (y : Bool) → x ≡ y → writeOutcome r ≡ Rattle.hierarchy.specs.Output.fitted y (length (encode s.card))
+        fits : (y : Bool) → x ≡ y → write_outcome r ≡ Rattle.hierarchy.specs.Output.fitted y (length (encode s.card))
         fits true p = rw (er, p, s.long)
         fits false p = rw (er, p, s.long)
 
-        go : (y : Option Found) → check s.card ≡ y → checkOutcome (Accepted a b d) ≡ judgement.outcomeOf (checked y s.card)
+        go : (y : Option Found) → check s.card ≡ y → check_outcome (Accepted a b d) ≡ judgement.outcome_of (checked y s.card)
             → IsWritten (Rattle.hierarchy.specs.Output.delivered (checked y s.card) encode buffer) r out
         go (some f) p q = absurd (let z : ◌≡◌ {A = ℕ} 0 1 = cc in omega arith)
         go none p q = record { answer = fits (leb (length (encode s.card)) (length buffer)) (ex ∙ rw s.holds); bytes = eo ∙ rw s.holds }

@@ -24,16 +24,16 @@ pub data CheckOutcome : Type 0 where
   accepted : (subnets places transitions : ℕ) → CheckOutcome
   refused : (number bit : ℕ) → CheckOutcome
 
-abbrev pub checkOutcome : Answer → CheckOutcome
-checkOutcome (Accepted s p t) = accepted s p t
-checkOutcome (Refused f at) = refused (number f) at
+abbrev pub check_outcome : Answer → CheckOutcome
+check_outcome (Accepted s p t) = accepted s p t
+check_outcome (Refused f at) = refused (number f) at
 
 -- what comes of writing into a buffer: how many bytes, or a number with a bit, or 24 with the length needed
 pub data WriteOutcome : Type 0 where
   wrote : (length : ℕ) → WriteOutcome
   refused : (number value : ℕ) → WriteOutcome
 
-abbrev pub writeOutcome : Written → WriteOutcome
-writeOutcome (Wrote n) = wrote n
-writeOutcome (NotWritten f at) = refused (number f) at
-writeOutcome (Short n) = refused 24 n
+abbrev pub write_outcome : Written → WriteOutcome
+write_outcome (Wrote n) = wrote n
+write_outcome (NotWritten f at) = refused (number f) at
+write_outcome (Short n) = refused 24 n

@@ -3,9 +3,9 @@
 use Rattle.std.specs.Prelude.{ℕ, ◌≡◌, Bool, true, false, List, length, leb}
 use Rattle.card.specs.Card.{Card}
 use Rattle.card.specs.Writing.{encode}
-use Rattle.card.specs.Rows.{readRows}
-use Rattle.card.specs.Spelling.{putInto}
-use Rattle.hierarchy.specs.Numbers.{WriteOutcome, writeOutcome}
+use Rattle.card.specs.Rows.{read_rows}
+use Rattle.card.specs.Spelling.{put_into}
+use Rattle.hierarchy.specs.Numbers.{WriteOutcome, write_outcome}
 use Rattle.hierarchy.specs.Numbers
 use Rattle.hierarchy.specs.Judgement.{Judgement, accepted, refused, judged}
 use Rattle.hierarchy.specs.declared.Written.{Written}
@@ -19,21 +19,21 @@ use Rattle.card.specs.declared.Head.{Head}
 
 -- 24 output buffer too short, with the length needed
 abbrev pub fitted : (fits : Bool) → (length : ℕ) → WriteOutcome
-fitted true n = writeOutcome (Wrote n)
-fitted false n = writeOutcome (Short n)
+fitted true n = write_outcome (Wrote n)
+fitted false n = write_outcome (Short n)
 
 -- Flattening and writing test 24 last. A refusal leaves buffers untouched, a short buffer too.
 abbrev pub delivered : Judgement → (Card → List ℕ) → (buffer : List ℕ) → WriteOutcome × List ℕ
-delivered (accepted c) bytes buffer = (fitted (leb (length (bytes c)) (length buffer)) (length (bytes c)), putInto (bytes c) buffer)
+delivered (accepted c) bytes buffer = (fitted (leb (length (bytes c)) (length buffer)) (length (bytes c)), put_into (bytes c) buffer)
 delivered (refused n at) bytes buffer = (Numbers.WriteOutcome.refused n at, buffer)
 
 -- the writer, with the tables in lent slices, row after row; a slice that ends inside a row is 17 too
-unfoldable pub writeRows : Head → (subnets places transitions arcs buffer : List ℕ) → WriteOutcome × List ℕ
-writeRows head subnets places transitions arcs buffer = delivered (judged (readRows head subnets places transitions arcs)) encode buffer
+unfoldable pub write_rows : Head → (subnets places transitions arcs buffer : List ℕ) → WriteOutcome × List ℕ
+write_rows head subnets places transitions arcs buffer = delivered (judged (read_rows head subnets places transitions arcs)) encode buffer
 
 -- an answer of the code, and what the buffer holds after the call
 pub record IsWritten (x : WriteOutcome × List ℕ) (r : Written) (buffer : List ℕ) : Type 0 where
-  pub answer : writeOutcome r ≡ x.0
+  pub answer : write_outcome r ≡ x.0
   pub bytes : buffer ≡ x.1
 
 -- refusals of the two halves, as answers of a call that has written nothing

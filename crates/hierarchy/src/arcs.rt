@@ -1,11 +1,11 @@
 // Pass two over a card's arcs: 10 to 13 and 26 at an arc, 14 after a transition's arcs. The card is in its two tables, which any slices may be:
 // what is found says something of a card only where they hold one.
 ghost use Rattle.std.specs.Prelude.{◌≡◌, not, ◌&&◌, ℕ, suc, ◌<◌, length};
-ghost use Rattle.card.specs.Card.{Card, Arc as CardArc, transitionAt, arcAt, firstTransition, place_of};
+ghost use Rattle.card.specs.Card.{Card, Arc as CardArc, transition_at, arc_at, first_transition, place_of};
 ghost use Rattle.card.specs.Finite.{first_of};
-ghost use Rattle.card.specs.Index.{ArcThere, Lists, Laid, Loaded, arcOf, Begins};
+ghost use Rattle.card.specs.Index.{ArcThere, Lists, Laid, Loaded, arc_of, Begins};
 ghost use Rattle.hierarchy.specs.Conditions.{IsPlace};
-ghost use Rattle.hierarchy.specs.Check.{seen as isSeen, takes as takesIt, directed as isDirected, weighted as isWeighted, repeats, single, loopFits, loopsFit, hasUnit, findingOf, arcFault, transitionFault, subnetFault};
+ghost use Rattle.hierarchy.specs.Check.{seen as isSeen, takes as takesIt, directed as isDirected, weighted as isWeighted, repeats, single, loop_fits, loops_fit, has_unit, finding_of, arc_fault, transition_fault, subnet_fault};
 ghost use Rattle.hierarchy.specs.inner.Arcs.{PlacesThere};
 
 use crate::{CardFault, Finding};
@@ -16,7 +16,7 @@ use card::tables::{
 
 // Whether subnet i sees the place that the arc names.
 fn seen(numbers: &[u16], starts: &[u32], subnets: u16, i: u16, a: Arc) -> bool
-    ensures { (c : Card) → Loaded c numbers.now starts.now → subnets ≡ length c.subnets → result ≡ isSeen c i (arcOf a) }
+    ensures { (c : Card) → Loaded c numbers.now starts.now → subnets ≡ length c.subnets → result ≡ isSeen c i (arc_of a) }
 {
     if subnets <= a.subnet {
         return false;
@@ -36,13 +36,13 @@ fn seen(numbers: &[u16], starts: &[u32], subnets: u16, i: u16, a: Arc) -> bool
 
 // The kind and the capacity of the place that an arc names, where there is one.
 fn place_kind(numbers: &[u16], starts: &[u32], a: Arc) -> u16
-    ensures { (c : Card) → Loaded c numbers.now starts.now → IsPlace c a.subnet a.place → result ≡ (place_of c (arcOf a)).kind }
+    ensures { (c : Card) → Loaded c numbers.now starts.now → IsPlace c a.subnet a.place → result ≡ (place_of c (arc_of a)).kind }
 {
     kind(numbers, subnet_row(starts, a.subnet), a.place)
 }
 
 fn place_capacity(numbers: &[u16], starts: &[u32], a: Arc) -> u16
-    ensures { (c : Card) → Loaded c numbers.now starts.now → IsPlace c a.subnet a.place → result ≡ (place_of c (arcOf a)).capacity }
+    ensures { (c : Card) → Loaded c numbers.now starts.now → IsPlace c a.subnet a.place → result ≡ (place_of c (arc_of a)).capacity }
 {
     capacity(numbers, subnet_row(starts, a.subnet), a.place)
 }
@@ -64,7 +64,7 @@ fn takes(kind: u16, direction: u16) -> bool
 }
 
 fn directed(numbers: &[u16], starts: &[u32], i: u16, a: Arc) -> bool
-    ensures { (c : Card) → Loaded c numbers.now starts.now → IsPlace c a.subnet a.place → result ≡ isDirected c i (arcOf a) }
+    ensures { (c : Card) → Loaded c numbers.now starts.now → IsPlace c a.subnet a.place → result ≡ isDirected c i (arc_of a) }
 {
     if a.subnet == i {
         return true;
@@ -73,7 +73,7 @@ fn directed(numbers: &[u16], starts: &[u32], i: u16, a: Arc) -> bool
 }
 
 fn weighted(numbers: &[u16], starts: &[u32], a: Arc) -> bool
-    ensures { (c : Card) → Loaded c numbers.now starts.now → IsPlace c a.subnet a.place → result ≡ isWeighted c (arcOf a) }
+    ensures { (c : Card) → Loaded c numbers.now starts.now → IsPlace c a.subnet a.place → result ≡ isWeighted c (arc_of a) }
 {
     if a.weight < 1 {
         return false;
@@ -92,8 +92,8 @@ struct Beside {
 // What is known of an arc that is a, at a place of this capacity, with arc h of its transition besides. Places differ most often, so they are
 // compared first.
 fn beside_arc(numbers: &[u16], row: u32, h: u16, a: Arc, capacity: u16, known: Beside) -> Beside
-    ensures single_value { (b : CardArc) → ArcThere numbers.now row h b → result.single ≡ (known.single && not (repeats b (arcOf a))) }
-    ensures fits_value { (b : CardArc) → ArcThere numbers.now row h b → result.fits ≡ (known.fits && loopFits capacity b (arcOf a)) }
+    ensures single_value { (b : CardArc) → ArcThere numbers.now row h b → result.single ≡ (known.single && not (repeats b (arc_of a))) }
+    ensures fits_value { (b : CardArc) → ArcThere numbers.now row h b → result.fits ≡ (known.fits && loop_fits capacity b (arc_of a)) }
 {
     if arc_place(numbers, row, h) != a.place {
         return known;
@@ -120,8 +120,8 @@ fn beside_arc(numbers: &[u16], row: u32, h: u16, a: Arc, capacity: u16, known: B
 // The same with all lower arcs of the transition, for its arc j, which is a. One walk serves both tests: on a card with many arcs it is most of
 // pass two.
 fn beside_lower(numbers: &[u16], row: u32, j: u16, a: Arc, capacity: u16) -> Beside
-    ensures single_value { (c : Card) → Laid c numbers.now → (i t : ℕ) → Begins c row i t → j < (transitionAt c t).arcs → arcOf a ≡ arcAt c t j → result.single ≡ single c t j }
-    ensures fits_value { (c : Card) → Laid c numbers.now → (i t : ℕ) → Begins c row i t → j < (transitionAt c t).arcs → arcOf a ≡ arcAt c t j → capacity ≡ (place_of c (arcOf a)).capacity → result.fits ≡ loopsFit c t j }
+    ensures single_value { (c : Card) → Laid c numbers.now → (i t : ℕ) → Begins c row i t → j < (transition_at c t).arcs → arc_of a ≡ arc_at c t j → result.single ≡ single c t j }
+    ensures fits_value { (c : Card) → Laid c numbers.now → (i t : ℕ) → Begins c row i t → j < (transition_at c t).arcs → arc_of a ≡ arc_at c t j → capacity ≡ (place_of c (arc_of a)).capacity → result.fits ≡ loops_fit c t j }
 {
     let mut known = Beside {
         single: true,
@@ -137,7 +137,7 @@ fn beside_lower(numbers: &[u16], row: u32, j: u16, a: Arc, capacity: u16) -> Bes
 
 // Whether one of the n arcs of the transition is at a place of capacity 1.
 fn has_unit(numbers: &[u16], starts: &[u32], row: u32, n: u16) -> bool
-    ensures { (c : Card) → Loaded c numbers.now starts.now → (i t : ℕ) → Begins c row i t → n ≡ (transitionAt c t).arcs → PlacesThere c t → result ≡ hasUnit c t }
+    ensures { (c : Card) → Loaded c numbers.now starts.now → (i t : ℕ) → Begins c row i t → n ≡ (transition_at c t).arcs → PlacesThere c t → result ≡ has_unit c t }
 {
     let mut j = 0;
     while j < n {
@@ -160,7 +160,7 @@ fn arc_fault(
     row: u32,
     j: u16,
 ) -> Finding
-    ensures { (c : Card) → Loaded c numbers.now starts.now → subnets ≡ length c.subnets → Begins c row i t → j < (transitionAt c t).arcs → findingOf result ≡ arcFault c i t j }
+    ensures { (c : Card) → Loaded c numbers.now starts.now → subnets ≡ length c.subnets → Begins c row i t → j < (transition_at c t).arcs → finding_of result ≡ arc_fault c i t j }
 {
     let a = arc_at(numbers, row, j);
     if !seen(numbers, starts, subnets, i, a) {
@@ -184,7 +184,7 @@ fn arc_fault(
 
 // The first fault of 10 to 14 and 26 at transition t of subnet i.
 fn transition_fault(numbers: &[u16], starts: &[u32], subnets: u16, i: u16, t: u32) -> Finding
-    ensures { (c : Card) → Loaded c numbers.now starts.now → subnets ≡ length c.subnets → Lists c i t → findingOf result ≡ transitionFault c i t }
+    ensures { (c : Card) → Loaded c numbers.now starts.now → subnets ≡ length c.subnets → Lists c i t → finding_of result ≡ transition_fault c i t }
 {
     let row = transition_row(starts, t);
     let n = arc_count(numbers, row);
@@ -214,7 +214,7 @@ fn subnet_fault(
     first: u32,
     end: u32,
 ) -> Finding
-    ensures { (c : Card) → Loaded c numbers.now starts.now → subnets ≡ length c.subnets → i < length c.subnets → first ≡ firstTransition c i → end ≡ firstTransition c (suc i) → findingOf result ≡ subnetFault c i }
+    ensures { (c : Card) → Loaded c numbers.now starts.now → subnets ≡ length c.subnets → i < length c.subnets → first ≡ first_transition c i → end ≡ first_transition c (suc i) → finding_of result ≡ subnet_fault c i }
 {
     let mut t = first;
     while t < end {
@@ -233,7 +233,7 @@ fn subnet_fault(
 // The first fault of 10 to 14 and 26 over all subnets, by subnet, transition and arc. Wrong passes that this rules out: one that lets a subnet see
 // the interface places of its children's children, one that tests weights before directions, and one that tells of a loop at its first arc.
 pub fn arcs_fault(numbers: &[u16], starts: &[u32], subnets: u16) -> Finding
-    ensures { (c : Card) → Loaded c numbers.now starts.now → subnets ≡ length c.subnets → findingOf result ≡ first_of 0 (length c.subnets) (subnetFault c) }
+    ensures { (c : Card) → Loaded c numbers.now starts.now → subnets ≡ length c.subnets → finding_of result ≡ first_of 0 (length c.subnets) (subnet_fault c) }
 {
     let mut i = 0;
     while i < subnets {

@@ -1,13 +1,13 @@
 // The check: pass one by the layer below, then pass two.
 ghost use Rattle.std.specs.Prelude.{◌≡◌, true, List, ℕ, ◌≤◌, length};
-ghost use Rattle.card.specs.Grammar.{maxSubnets};
-ghost use Rattle.card.specs.Parsing.{readCard};
-ghost use Rattle.card.specs.Tables.{hasRoom, IsTable, IsLent};
+ghost use Rattle.card.specs.Grammar.{max_subnets};
+ghost use Rattle.card.specs.Parsing.{read_card};
+ghost use Rattle.card.specs.Tables.{has_room, IsTable, IsLent};
 ghost use Rattle.card.specs.Card.{Card};
 ghost use Rattle.card.specs.Index.{Loaded};
-ghost use Rattle.hierarchy.specs.Numbers.{checkOutcome};
+ghost use Rattle.hierarchy.specs.Numbers.{check_outcome};
 ghost use Rattle.hierarchy.specs.declared.Answer.TheVariants.{Accepted};
-ghost use Rattle.hierarchy.specs.Check.{findingOf, check as firstFault};
+ghost use Rattle.hierarchy.specs.Check.{finding_of, check as firstFault};
 ghost use Rattle.hierarchy.specs.Judgement.{answer, IsReadInto, IsChecked};
 
 use crate::arcs::arcs_fault;
@@ -26,7 +26,7 @@ pub struct CheckedCard {
 
 // The first fault of pass two.
 fn first_fault<'a>(numbers: &'a [u16], starts: &'a [u32], subnets: u16) -> Finding
-    ensures { (c : Card) → Loaded c numbers.now starts.now → subnets ≡ length c.subnets → length c.subnets ≤ maxSubnets → findingOf result ≡ firstFault c }
+    ensures { (c : Card) → Loaded c numbers.now starts.now → subnets ≡ length c.subnets → length c.subnets ≤ max_subnets → finding_of result ≡ firstFault c }
 {
     let a = arcs_fault(numbers, starts, subnets);
     let Finding::Nothing = a else {
@@ -51,7 +51,7 @@ fn accepted(k: Counts) -> Answer
 
 // The answer to a card whose tables pass one has left.
 fn answer_to<'a>(a: ReadAnswer, numbers: &'a [u16], starts: &'a [u32]) -> Answer
-    ensures { (bytes : List ℕ) → IsReadInto bytes a numbers.now starts.now → checkOutcome result ≡ answer bytes }
+    ensures { (bytes : List ℕ) → IsReadInto bytes a numbers.now starts.now → check_outcome result ≡ answer bytes }
 {
     match a {
         ReadAnswer::Refused(f, at) => Answer::Refused(CardFault::Format(f), at),
@@ -64,10 +64,10 @@ fn answer_to<'a>(a: ReadAnswer, numbers: &'a [u16], starts: &'a [u32]) -> Answer
 
 // Checks a card in a lent table that has room for it.
 fn load_into(card: &[u8], numbers: &mut [u16]) -> CheckedCard
-    requires { hasRoom (length card.now) (length numbers.old) ≡ true }
+    requires { has_room (length card.now) (length numbers.old) ≡ true }
     ensures numbers_len_unchanged { length numbers.new ≡ length numbers.old }
     ensures checked { IsChecked card.now result }
-    ensures table { IsTable (readCard card.now) (length numbers.old) numbers.new }
+    ensures table { IsTable (read_card card.now) (length numbers.old) numbers.new }
 {
     let r = read(card, numbers);
     let a = r.answer;
@@ -84,7 +84,7 @@ fn load_into(card: &[u8], numbers: &mut [u16]) -> CheckedCard
 pub fn load(card: &[u8], numbers: &mut [u16]) -> CheckedCard
     ensures numbers_len_unchanged { length numbers.new ≡ length numbers.old }
     ensures checked { IsChecked card.now result }
-    ensures lent { IsLent (readCard card.now) (hasRoom (length card.now) (length numbers.old)) numbers.old numbers.new }
+    ensures lent { IsLent (read_card card.now) (has_room (length card.now) (length numbers.old)) numbers.old numbers.new }
 {
     if has_room(card.len(), numbers.len()) {
         return load_into(card, numbers);
@@ -95,7 +95,7 @@ pub fn load(card: &[u8], numbers: &mut [u16]) -> CheckedCard
 
 // Checks a card. Two wrong checks that this rules out: one that invents the counts, and one that answers with a later fault.
 pub fn check(card: &[u8]) -> Answer
-    ensures { checkOutcome result ≡ answer card.now }
+    ensures { check_outcome result ≡ answer card.now }
 {
     // A larger card is loaded into a table of its own.
     let mut numbers = [0; SMALL_TABLE];

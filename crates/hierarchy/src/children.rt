@@ -1,12 +1,12 @@
 // The children of a subnet, by their ordinals.
 ghost use Rattle.std.specs.Prelude.{◌≡◌, ◌&&◌, ◌≤◌, ◌<◌, length, eqb};
-ghost use Rattle.card.specs.Grammar.{maxSubnets};
+ghost use Rattle.card.specs.Grammar.{max_subnets};
 ghost use Rattle.card.specs.Card.{Card};
 ghost use Rattle.card.specs.Index.{Loaded};
-ghost use Rattle.hierarchy.specs.Conditions.{isChild, children, child};
+ghost use Rattle.hierarchy.specs.Conditions.{is_child, children, child};
 ghost use Rattle.card.specs.Finite.{one};
 ghost use Rattle.hierarchy.specs.inner.Ordinals.{ordinal, AllOrdinals};
-ghost use Rattle.hierarchy.specs.inner.Likeness.{bothKth};
+ghost use Rattle.hierarchy.specs.inner.Likeness.{both_kth};
 
 use card::tables::{number_at, parent, subnet_row};
 use card::{MAX_SUBNETS, MOST_SUBNETS};
@@ -18,7 +18,7 @@ fn one(yes: bool) -> u16
 }
 
 pub fn is_child(numbers: &[u16], starts: &[u32], subnets: u16, i: u16, j: u16) -> bool
-    ensures { (c : Card) → Loaded c numbers.now starts.now → subnets ≡ length c.subnets → result ≡ isChild c i j }
+    ensures { (c : Card) → Loaded c numbers.now starts.now → subnets ≡ length c.subnets → result ≡ is_child c i j }
 {
     if j == i {
         return false;
@@ -44,7 +44,7 @@ pub fn ordinal(numbers: &[u16], starts: &[u32], subnets: u16, i: u16, j: u16) ->
 
 // The ordinal of each subnet among the children of its parent, made once, so that comparing two arcs counts no children.
 pub fn all_ordinals(numbers: &[u16], starts: &[u32], subnets: u16) -> [u16; MOST_SUBNETS]
-    ensures { (c : Card) → Loaded c numbers.now starts.now → subnets ≡ length c.subnets → length c.subnets ≤ maxSubnets → AllOrdinals c result }
+    ensures { (c : Card) → Loaded c numbers.now starts.now → subnets ≡ length c.subnets → length c.subnets ≤ max_subnets → AllOrdinals c result }
 {
     let mut ordinals = [0; MOST_SUBNETS];
     let mut j = 0;
@@ -69,7 +69,7 @@ fn is_kth(
     k: u16,
     j: u16,
 ) -> bool
-    ensures { (c : Card) → Loaded c numbers.now starts.now → subnets ≡ length c.subnets → AllOrdinals c ordinals.now → result ≡ isChild c i j && eqb (ordinal c i j) k }
+    ensures { (c : Card) → Loaded c numbers.now starts.now → subnets ≡ length c.subnets → AllOrdinals c ordinals.now → result ≡ is_child c i j && eqb (ordinal c i j) k }
 {
     if !is_child(numbers, starts, subnets, i, j) {
         return false;
@@ -108,7 +108,7 @@ pub fn both_kth(
     a: u16,
     b: u16,
 ) -> bool
-    ensures { (c : Card) → Loaded c numbers.now starts.now → subnets ≡ length c.subnets → AllOrdinals c ordinals.now → length (children c r) ≡ length (children c s) → result ≡ bothKth c r s a b }
+    ensures { (c : Card) → Loaded c numbers.now starts.now → subnets ≡ length c.subnets → AllOrdinals c ordinals.now → length (children c r) ≡ length (children c s) → result ≡ both_kth c r s a b }
 {
     if !is_child(numbers, starts, subnets, r, a) {
         return false;

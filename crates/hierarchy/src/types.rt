@@ -1,14 +1,14 @@
 // Fault 16: a subnet that is unlike a lower one of its type.
 ghost use Rattle.std.specs.Prelude.{◌≡◌, true, ◌&&◌, ◌||◌, ℕ, ◌+◌, ◌≤◌, ◌<◌, length, eqb};
 ghost use Rattle.card.specs.Finite.{first_of};
-ghost use Rattle.card.specs.Grammar.{maxSubnets};
-ghost use Rattle.card.specs.Card.{Card, Arc, subnetAt, firstTransition};
-ghost use Rattle.card.specs.Index.{Loaded, Indexed, Lists, ArcThere, transitionRow};
-ghost use Rattle.card.specs.Writing.{subnetBit};
+ghost use Rattle.card.specs.Grammar.{max_subnets};
+ghost use Rattle.card.specs.Card.{Card, Arc, subnet_at, first_transition};
+ghost use Rattle.card.specs.Index.{Loaded, Indexed, Lists, ArcThere, transition_row};
+ghost use Rattle.card.specs.Writing.{subnet_bit};
 ghost use Rattle.hierarchy.specs.Conditions.{children};
 ghost use Rattle.hierarchy.specs.inner.Ordinals.{AllOrdinals};
-ghost use Rattle.hierarchy.specs.Check.{alikeArcs, alikeTransitions, sameType, alike, likeLower, faultUnless, findingOf};
-ghost use Rattle.hierarchy.specs.inner.Likeness.{placesAlike, childrenAlike, transitionsAlike, bothKth};
+ghost use Rattle.hierarchy.specs.Check.{alike_arcs, alike_transitions, same_type, alike, like_lower, fault_unless, finding_of};
+ghost use Rattle.hierarchy.specs.inner.Likeness.{places_alike, children_alike, transitions_alike, both_kth};
 ghost use Rattle.hierarchy.specs.declared.CardFault.TheVariants.{Unlike};
 
 use crate::children::{all_ordinals, both_kth, kth_child, ordinal};
@@ -19,7 +19,7 @@ use card::tables::{
 };
 
 fn same_type(numbers: &[u16], starts: &[u32], r: u16, s: u16) -> bool
-    ensures { (c : Card) → Loaded c numbers.now starts.now → r < length c.subnets → s < length c.subnets → result ≡ sameType c r s }
+    ensures { (c : Card) → Loaded c numbers.now starts.now → r < length c.subnets → s < length c.subnets → result ≡ same_type c r s }
 {
     let lower = subnet_type(numbers, subnet_row(starts, r));
     let upper = subnet_type(numbers, subnet_row(starts, s));
@@ -31,7 +31,7 @@ fn same_type(numbers: &[u16], starts: &[u32], r: u16, s: u16) -> bool
 
 // Whether subnets r and s have as many places, of equal kinds and capacities.
 fn alike_places(numbers: &[u16], starts: &[u32], r: u16, s: u16) -> bool
-    ensures { (c : Card) → Loaded c numbers.now starts.now → r < length c.subnets → s < length c.subnets → result ≡ placesAlike c r s }
+    ensures { (c : Card) → Loaded c numbers.now starts.now → r < length c.subnets → s < length c.subnets → result ≡ places_alike c r s }
 {
     let lower = subnet_row(starts, r);
     let upper = subnet_row(starts, s);
@@ -61,7 +61,7 @@ fn alike_children(
     r: u16,
     s: u16,
 ) -> bool
-    ensures { (c : Card) → Loaded c numbers.now starts.now → subnets ≡ length c.subnets → AllOrdinals c ordinals.now → result ≡ childrenAlike c r s }
+    ensures { (c : Card) → Loaded c numbers.now starts.now → subnets ≡ length c.subnets → AllOrdinals c ordinals.now → result ≡ children_alike c r s }
 {
     let count = ordinal(numbers, starts, subnets, r, subnets);
     if count != ordinal(numbers, starts, subnets, s, subnets) {
@@ -90,7 +90,7 @@ fn alike_subnets(
     a: u16,
     b: u16,
 ) -> bool
-    ensures { (c : Card) → Loaded c numbers.now starts.now → subnets ≡ length c.subnets → AllOrdinals c ordinals.now → length (children c r) ≡ length (children c s) → result ≡ eqb a r && eqb b s || bothKth c r s a b }
+    ensures { (c : Card) → Loaded c numbers.now starts.now → subnets ≡ length c.subnets → AllOrdinals c ordinals.now → length (children c r) ≡ length (children c s) → result ≡ eqb a r && eqb b s || both_kth c r s a b }
 {
     if a != r {
         return both_kth(numbers, starts, subnets, ordinals, r, s, a, b);
@@ -113,7 +113,7 @@ fn alike_arc(
     u: u32,
     j: u16,
 ) -> bool
-    ensures { (c : Card) → Loaded c numbers.now starts.now → subnets ≡ length c.subnets → AllOrdinals c ordinals.now → length (children c r) ≡ length (children c s) → (a b : Arc) → ArcThere numbers.now t j a → ArcThere numbers.now u j b → result ≡ alikeArcs c r s a b }
+    ensures { (c : Card) → Loaded c numbers.now starts.now → subnets ≡ length c.subnets → AllOrdinals c ordinals.now → length (children c r) ≡ length (children c s) → (a b : Arc) → ArcThere numbers.now t j a → ArcThere numbers.now u j b → result ≡ alike_arcs c r s a b }
 {
     let a = arc_at(numbers, t, j);
     let b = arc_at(numbers, u, j);
@@ -131,7 +131,7 @@ fn alike_arc(
 
 // Where transition k of subnet s begins. Tables that are no card's may start it past all numbers.
 fn row_of_transition(starts: &[u32], s: u16, k: u16) -> u32
-    ensures { (c : Card) → Indexed c starts.now → s < length c.subnets → k < (subnetAt c s).transitions → result ≡ transitionRow c s (firstTransition c s + k) }
+    ensures { (c : Card) → Indexed c starts.now → s < length c.subnets → k < (subnet_at c s).transitions → result ≡ transition_row c s (first_transition c s + k) }
 {
     let t = first_transition(starts, s) as usize + k as usize;
     if t < 4294967296 {
@@ -151,7 +151,7 @@ fn alike_arcs(
     t: u32,
     u: u32,
 ) -> bool
-    ensures { (c : Card) → Loaded c numbers.now starts.now → subnets ≡ length c.subnets → AllOrdinals c ordinals.now → length (children c r) ≡ length (children c s) → (v w : ℕ) → Lists c r v → Lists c s w → t ≡ transitionRow c r v → u ≡ transitionRow c s w → result ≡ alikeTransitions c r s v w }
+    ensures { (c : Card) → Loaded c numbers.now starts.now → subnets ≡ length c.subnets → AllOrdinals c ordinals.now → length (children c r) ≡ length (children c s) → (v w : ℕ) → Lists c r v → Lists c s w → t ≡ transition_row c r v → u ≡ transition_row c s w → result ≡ alike_transitions c r s v w }
 {
     let arcs = arc_count(numbers, t);
     if arcs != arc_count(numbers, u) {
@@ -176,7 +176,7 @@ fn alike_transitions(
     r: u16,
     s: u16,
 ) -> bool
-    ensures { (c : Card) → Loaded c numbers.now starts.now → subnets ≡ length c.subnets → AllOrdinals c ordinals.now → length (children c r) ≡ length (children c s) → r < length c.subnets → s < length c.subnets → result ≡ transitionsAlike c r s }
+    ensures { (c : Card) → Loaded c numbers.now starts.now → subnets ≡ length c.subnets → AllOrdinals c ordinals.now → length (children c r) ≡ length (children c s) → r < length c.subnets → s < length c.subnets → result ≡ transitions_alike c r s }
 {
     let transitions = transition_count(numbers, subnet_row(starts, r));
     if transitions != transition_count(numbers, subnet_row(starts, s)) {
@@ -209,7 +209,7 @@ fn alike(numbers: &[u16], starts: &[u32], subnets: u16, ordinals: &[u16], r: u16
 // Whether subnet s is like each lower one of its type, where each of those is like each one below it: then it is enough to compare s with
 // the lowest of its type.
 fn like_lower(numbers: &[u16], starts: &[u32], subnets: u16, ordinals: &[u16], s: u16) -> bool
-    ensures { (c : Card) → Loaded c numbers.now starts.now → subnets ≡ length c.subnets → AllOrdinals c ordinals.now → s < length c.subnets → ((r : ℕ) → r < s → likeLower c r ≡ true) → result ≡ likeLower c s }
+    ensures { (c : Card) → Loaded c numbers.now starts.now → subnets ≡ length c.subnets → AllOrdinals c ordinals.now → s < length c.subnets → ((r : ℕ) → r < s → like_lower c r ≡ true) → result ≡ like_lower c s }
 {
     let mut r = 0;
     while r < s {
@@ -223,7 +223,7 @@ fn like_lower(numbers: &[u16], starts: &[u32], subnets: u16, ordinals: &[u16], s
 
 // The first subnet that is unlike a lower one of its type.
 pub fn types_fault(numbers: &[u16], starts: &[u32], subnets: u16) -> Finding
-    ensures { (c : Card) → Loaded c numbers.now starts.now → subnets ≡ length c.subnets → length c.subnets ≤ maxSubnets → findingOf result ≡ first_of 0 (length c.subnets) (λ s. faultUnless (subnetBit c s) (likeLower c s) Unlike) }
+    ensures { (c : Card) → Loaded c numbers.now starts.now → subnets ≡ length c.subnets → length c.subnets ≤ max_subnets → finding_of result ≡ first_of 0 (length c.subnets) (λ s. fault_unless (subnet_bit c s) (like_lower c s) Unlike) }
 {
     let ordinals = all_ordinals(numbers, starts, subnets);
     let mut s = 0;

@@ -1,5 +1,5 @@
 // Writing a card from tables into a lent buffer.
-ghost use Rattle.hierarchy.specs.Output.{writeRows, IsWritten, SpellRefused, CheckRefused};
+ghost use Rattle.hierarchy.specs.Output.{write_rows, IsWritten, SpellRefused, CheckRefused};
 
 use crate::check::check;
 use crate::{Answer, CardFault, Written};
@@ -36,7 +36,7 @@ pub fn write(
     arcs: &[u16],
     out: &mut [u8],
 ) -> Written
-    ensures { IsWritten (writeRows head subnets.now places.now transitions.now arcs.now out.old) result out.new }
+    ensures { IsWritten (write_rows head subnets.now places.now transitions.now arcs.now out.old) result out.new }
 {
     let w = spell(head, subnets, places, transitions, arcs);
     let a = w.answer;

@@ -10,21 +10,21 @@ use lib.ListN.{length, get_or, set, take, drop, replicate, length-append, length
 use lib.Seq.{take_all, length-take-le, get_or-take, get_or-set_same, get_or-set_other, ext_get_or}
 use lib.Dec.{eqb}
 use borrow.Author.Tests.{eqb-true, eq-eqb, ne_eqb}
-use Rattle.card.specs.Finite.{someUnless, ◌otherwise◌}
+use Rattle.card.specs.Finite.{some_unless, ◌otherwise◌}
 use Rattle.card.specs.Card.{Card}
-use Rattle.card.specs.Spelling.{putInto}
+use Rattle.card.specs.Spelling.{put_into}
 use Rattle.card.proofs.BitLaws.{lt-or-ge}
 use Rattle.card.proofs.Copy.{Copying, copy_start, copy_more, copy_done, put_is, put_front}
 use Rattle.card.proofs.Sums.{map-length}
 use Rattle.hierarchy.specs.Conditions.{Meets}
 use Rattle.hierarchy.specs.Judgement.{Judgement, accepted, refused, judge}
 use Rattle.hierarchy.proofs.Accepted.{accepted-meets}
-use Rattle.flattening.specs.Flattening.{flatten, flatPlaceRow}
-use Rattle.runners.specs.Numbers.{RowOutcome, rowOutcome, refusal}
+use Rattle.flattening.specs.Flattening.{flatten, flat_place_row}
+use Rattle.runners.specs.Numbers.{RowOutcome, row_outcome, refusal}
 use Rattle.runners.specs.State.{NetState, entry, fresh}
-use Rattle.runners.specs.Rows.{settle, Act, actOf}
-use Rattle.runners.specs.Calls.{view, slot, store, blank, freshLent, consistent, validIn, inState, valid, Given, lentCall, callOn, flatCall, subnetCall}
-use Rattle.runners.specs.Columns.{code_of, transferOf}
+use Rattle.runners.specs.Rows.{settle, Act, act_of}
+use Rattle.runners.specs.Calls.{view, slot, store, blank, fresh_lent, consistent, valid_in, in_state, valid, Given, lent_call, call_on, flat_call, subnet_call}
+use Rattle.runners.specs.Columns.{code_of, transfer_of}
 use Rattle.runners.specs.inner.Storing.{Counts, slot_at}
 use Rattle.runners.specs.declared.Transfer.{Transfer}
 use Rattle.runners.specs.declared.Transfer.TheVariants.{Idle}
@@ -38,21 +38,21 @@ use Rattle.runners.specs.declared.Reply.TheVariants.{Ok, No}
 use Rattle.runners.proofs.StateLaws.{consistent-is, Sized, fresh-sized}
 use Rattle.runners.proofs.TraceLaws.{view-store, Good, Keeps, ask-keeps}
 use Rattle.runners.proofs.TransferLaws.{slot-at}
-use Rattle.net_runner.specs.Told.{rowTold, IsTold}
-use Rattle.net_runner.specs.Slices.{IsCalled, Slices, slices, state_of, slicesOf, sized, inSlices, freshIn, flatOn, subnetOn}
-use Rattle.net_runner.specs.Copies.{Fits, Lends, takenBack, handedBack, tooLong}
+use Rattle.net_runner.specs.Told.{row_told, IsTold}
+use Rattle.net_runner.specs.Slices.{IsCalled, Slices, slices, state_of, slices_of, sized, in_slices, fresh_in, flat_on, subnet_on}
+use Rattle.net_runner.specs.Copies.{Fits, Lends, taken_back, handed_back, too_long}
 
 -- transfers of an array
 abbrev pub SlotsTo : (ts : List ℕ) → (k : ℕ) → List Slot → Type 0
-SlotsTo ts k slots = (t : ℕ) → t < k → slot_at slots t ≡ transferOf (entry ts t)
+SlotsTo ts k slots = (t : ℕ) → t < k → slot_at slots t ≡ transfer_of (entry ts t)
 
 pub slots-start : (ts : List ℕ) (slots : List Slot) → SlotsTo ts 0 slots
 slots-start ts slots t b = absurd (omega arith)
 
-pub slots-more : (ts : List ℕ) (k : ℕ) (y : Transfer) (a : List Slot) → k < length a → y ≡ transferOf (entry ts k) → SlotsTo ts k a → SlotsTo ts (k + 1) (set a k (slot y))
+pub slots-more : (ts : List ℕ) (k : ℕ) (y : Transfer) (a : List Slot) → k < length a → y ≡ transfer_of (entry ts k) → SlotsTo ts k a → SlotsTo ts (k + 1) (set a k (slot y))
 slots-more ts k y a b e h t d = go (lt-or-ge t k)
   where
-    go : (t < k) ⊎ (k ≤ t) → slot_at (set a k (slot y)) t ≡ transferOf (entry ts t)
+    go : (t < k) ⊎ (k ≤ t) → slot_at (set a k (slot y)) t ≡ transfer_of (entry ts t)
     go (inl q) =
         slot-at (set a k (slot y)) t ∙ ap (λ (x : Slot). x.transfer) (get_or-set_other a k t (slot y) (slot Idle) (λ z. omega arith)) ∙ sym (slot-at a t) ∙ h t q
     go (inr q) =
@@ -64,16 +64,16 @@ zero_or [] i b = absurd (omega arith)
 zero_or (x ∷ xs) zero b = refl
 zero_or (x ∷ xs) (suc i) b = zero_or xs i (omega arith)
 
-pub slots-all : (ts : List ℕ) (k : ℕ) (slots : List Slot) → length ts ≤ k → length slots ≡ 255 → length ts ≤ 255 → SlotsTo ts k slots → take (length ts) (map (λ x. x.transfer) slots) ≡ map transferOf ts
+pub slots-all : (ts : List ℕ) (k : ℕ) (slots : List Slot) → length ts ≤ k → length slots ≡ 255 → length ts ≤ 255 → SlotsTo ts k slots → take (length ts) (map (λ x. x.transfer) slots) ≡ map transfer_of ts
 slots-all ts k slots l long few h =
-    ext_get_or Idle (take (length ts) (map (λ (x : Slot). x.transfer) slots)) (map transferOf ts) (size ∙ sym (map-length transferOf ts))
+    ext_get_or Idle (take (length ts) (map (λ (x : Slot). x.transfer) slots)) (map transfer_of ts) (size ∙ sym (map-length transfer_of ts))
     (λ i b. get_or-take (length ts) (map (λ (x : Slot). x.transfer) slots) i Idle (omega (arith, size)) ∙ h i (omega (arith, size)) ∙ sym (at i (omega (arith, size))))
   where
     size : length (take (length ts) (map (λ (x : Slot). x.transfer) slots)) ≡ length ts
     size = length-take-le (length ts) (map (λ (x : Slot). x.transfer) slots) (omega (arith, map-length (λ (x : Slot). x.transfer) slots))
 
-    at : (i : ℕ) → i < length ts → get_or (map transferOf ts) i Idle ≡ transferOf (entry ts i)
-    at i b = get_or-map transferOf ts i 65535 ∙ ap transferOf (sym (zero_or ts i b))
+    at : (i : ℕ) → i < length ts → get_or (map transfer_of ts) i Idle ≡ transfer_of (entry ts i)
+    at i b = get_or-map transfer_of ts i 65535 ∙ ap transfer_of (sym (zero_or ts i b))
 
 -- numbers put into a slice of their length
 module _ (want out : List ℕ) (e : length want ≡ length out) where
@@ -87,11 +87,11 @@ module _ (want out : List ℕ) (e : length want ≡ length out) where
   put-done now i c l =
       let z = ap length (put_is want out (omega arith)) ∙ length-append want (drop (length want) out) in
       copy_done want out now i c (omega arith)
-      ∙ sym (take_all (length want) (putInto want out) (omega (arith, z, length-drop (length want) out)))
-      ∙ put_front want out (putInto want out) (omega arith) refl
+      ∙ sym (take_all (length want) (put_into want out) (omega (arith, z, length-drop (length want) out)))
+      ∙ put_front want out (put_into want out) (omega arith) refl
 
 -- the lent state that slices make
-pub lends : (ms ts ds m d : List ℕ) (s : List Slot) → Fits (slices ms ts ds) → m ≡ putInto ms (replicate 255 0) → take (length ts) (map (λ x. x.transfer) s) ≡ map transferOf ts → d ≡ putInto ds (replicate 63 0)
+pub lends : (ms ts ds m d : List ℕ) (s : List Slot) → Fits (slices ms ts ds) → m ≡ put_into ms (replicate 255 0) → take (length ts) (map (λ x. x.transfer) s) ≡ map transfer_of ts → d ≡ put_into ds (replicate 63 0)
     → Lends (slices ms ts ds) (record { markings = m; slots = s; degrees = d; places = length ms; transitions = length ts; signals = length ds })
 lends ms ts ds m d s f em es ed =
     record {
@@ -102,18 +102,18 @@ lends ms ts ds m d s f em es ed =
       signals = refl;
     }
   where
-    same : (a : List ℕ) (b : List Transfer) (c : List ℕ) → a ≡ ms → b ≡ map transferOf ts → c ≡ ds → ◌≡◌ {A = NetState} (record { markings = a; transfers = b; degrees = c }) (state_of (slices ms ts ds))
+    same : (a : List ℕ) (b : List Transfer) (c : List ℕ) → a ≡ ms → b ≡ map transfer_of ts → c ≡ ds → ◌≡◌ {A = NetState} (record { markings = a; transfers = b; degrees = c }) (state_of (slices ms ts ds))
     same a b c ea eb ec = rw (ea, eb, ec)
 
 -- what is handed back
-taken-view : (l : Lent) (x : Slices) → l.places ≡ length x.markings → l.transitions ≡ length x.transfers → l.signals ≡ length x.degrees → takenBack l x ≡ slicesOf (view l)
+taken-view : (l : Lent) (x : Slices) → l.places ≡ length x.markings → l.transitions ≡ length x.transfers → l.signals ≡ length x.degrees → taken_back l x ≡ slices_of (view l)
 taken-view l x ep et es = rw (ep, et, es)
 
 taken-store : (f : Card) (l : Lent) (s : NetState) (x : Slices) → Counts f l → Sized f s → l.places ≡ length x.markings → l.transitions ≡ length x.transfers → l.signals ≡ length x.degrees
-    → takenBack (store l s) x ≡ slicesOf s
-taken-store f l s x n h ep et es = taken-view (store l s) x ep et es ∙ ap slicesOf (view-store f l s n h)
+    → taken_back (store l s) x ≡ slices_of s
+taken-store f l s x n h ep et es = taken-view (store l s) x ep et es ∙ ap slices_of (view-store f l s n h)
 
-pub refused-back : (why : Refusal) (l : Lent) (x : Slices) → handedBack (rowOutcome (No why), l) x ≡ (rowOutcome (No why), x)
+pub refused-back : (why : Refusal) (l : Lent) (x : Slices) → handed_back (row_outcome (No why), l) x ≡ (row_outcome (No why), x)
 refused-back (BadCard f at) l x = refl
 refused-back BadState l x = refl
 refused-back BadOrder l x = refl
@@ -151,8 +151,8 @@ none_right none b e = e
 none_right (some why) b e = absurd (some-ne-none why e)
 
 module _ (x : Slices) (l : Lent) (h : Lends x l) where
-  valid_same : (f : Card) → valid f l ≡ validIn inSlices f x
-  unfolding validIn sized
+  valid_same : (f : Card) → valid f l ≡ valid_in in_slices f x
+  unfolding valid_in sized
   valid_same f =
       ap (λ (s : NetState). eqb l.places (length f.places) && eqb l.transitions (length f.transitions) && eqb l.signals f.signals && consistent f s) h.state
       ∙ rw (h.places, h.transitions, h.signals)
@@ -162,77 +162,77 @@ module _ (x : Slices) (l : Lent) (h : Lends x l) where
     s = state_of x
 
     abbrev inner : Option Refusal
-    inner = someUnless ordered BadOrder otherwise a.refusal s
+    inner = some_unless ordered BadOrder otherwise a.refusal s
 
-    settled : validIn inSlices f x ≡ true → (o : Option Refusal) → inner ≡ o → handedBack (settle o l (store l (a.next s))) x ≡ settle o x (slicesOf (a.next s))
-    unfolding validIn
+    settled : valid_in in_slices f x ≡ true → (o : Option Refusal) → inner ≡ o → handed_back (settle o l (store l (a.next s))) x ≡ settle o x (slices_of (a.next s))
+    unfolding valid_in
     settled v (some why) e = refused-back why l x
     settled v none e =
         let z = sized-lengths f x (and_left (sized f x) (consistent f s) v) in
-        let g : Good f s = record { consistent = (consistent-is f s).0 (and_right (sized f x) (consistent f s) v); sized = record { markings = z.places; transfers = map-length transferOf x.transfers ∙ z.transitions; degrees = z.signals } } in
-        let k = keeps s g (none_right (someUnless ordered BadOrder) (a.refusal s) e) in
+        let g : Good f s = record { consistent = (consistent-is f s).0 (and_right (sized f x) (consistent f s) v); sized = record { markings = z.places; transfers = map-length transfer_of x.transfers ∙ z.transitions; degrees = z.signals } } in
+        let k = keeps s g (none_right (some_unless ordered BadOrder) (a.refusal s) e) in
         let n : Counts f l = record { places = h.places ∙ z.places; transitions = h.transitions ∙ z.transitions; signals = h.signals ∙ z.signals } in
         ap (λ (y : Slices). (RowOutcome.ok, y)) (taken-store f l (a.next s) x n k.sized h.places h.transitions h.signals)
 
-    tested : (b : Bool) → validIn inSlices f x ≡ b → handedBack (settle (someUnless b BadState otherwise inner) l (store l (a.next s))) x ≡ settle (someUnless b BadState otherwise inner) x (slicesOf (a.next s))
+    tested : (b : Bool) → valid_in in_slices f x ≡ b → handed_back (settle (some_unless b BadState otherwise inner) l (store l (a.next s))) x ≡ settle (some_unless b BadState otherwise inner) x (slices_of (a.next s))
     tested true e = settled e inner refl
     tested false e = refl
 
-    lent-on : handedBack (lentCall inState f ordered a l) x ≡ lentCall inSlices f ordered a x
+    lent-on : handed_back (lent_call in_state f ordered a l) x ≡ lent_call in_slices f ordered a x
     lent-on =
-        subst (λ (v : NetState). handedBack (settle (someUnless (valid f l) BadState otherwise someUnless ordered BadOrder otherwise a.refusal v) l (store l (a.next v))) x ≡ lentCall inSlices f ordered a x)
-        (sym h.state) (rw (valid_same f) (tested (validIn inSlices f x) refl))
+        subst (λ (v : NetState). handed_back (settle (some_unless (valid f l) BadState otherwise some_unless ordered BadOrder otherwise a.refusal v) l (store l (a.next v))) x ≡ lent_call in_slices f ordered a x)
+        (sym h.state) (rw (valid_same f) (tested (valid_in in_slices f x) refl))
 
   -- A CALL ON SLICES IS THE CALL ON THE STATE THAT THEY MAKE, handed back
-  pub called_on : (j : Judgement) (given : Card → Given) → handedBack (callOn inState j given l) x ≡ callOn inSlices j given x
-  called_on (accepted c) given = lent-on (flatten c) (given c).ordered (actOf (flatten c) (given c).ask) (ask-keeps (flatten c) (given c).ask)
+  pub called_on : (j : Judgement) (given : Card → Given) → handed_back (call_on in_state j given l) x ≡ call_on in_slices j given x
+  called_on (accepted c) given = lent-on (flatten c) (given c).ordered (act_of (flatten c) (given c).ask) (ask-keeps (flatten c) (given c).ask)
   called_on (refused n at) given = refl
 
-pub flat_on : (card : List ℕ) (x : Slices) (l : Lent) → Lends x l → (r : List ℕ) → handedBack (flatCall card l r) x ≡ flatOn card x r
-unfolding flatCall flatOn
-flat_on card x l h r = called_on x l h (judge card) _
+pub flat-on : (card : List ℕ) (x : Slices) (l : Lent) → Lends x l → (r : List ℕ) → handed_back (flat_call card l r) x ≡ flat_on card x r
+unfolding flat_call flat_on
+flat-on card x l h r = called_on x l h (judge card) _
 
-pub subnet-on : (card order : List ℕ) (x : Slices) (l : Lent) → Lends x l → (r : List ℕ) → handedBack (subnetCall card order l r) x ≡ subnetOn card order x r
-unfolding subnetCall subnetOn
+pub subnet-on : (card order : List ℕ) (x : Slices) (l : Lent) → Lends x l → (r : List ℕ) → handed_back (subnet_call card order l r) x ≡ subnet_on card order x r
+unfolding subnet_call subnet_on
 subnet-on card order x l h r = called_on x l h (judge card) _
 
 -- slices that are too long for any card
-valid-sized : (f : Card) (x : Slices) → validIn inSlices f x ≡ true → sized f x ≡ true
-unfolding validIn
+valid-sized : (f : Card) (x : Slices) → valid_in in_slices f x ≡ true → sized f x ≡ true
+unfolding valid_in
 valid-sized f x e = and_left (sized f x) (consistent f (state_of x)) e
 
-too_long : (c : Card) (x : Slices) → Meets c → (Fits x → ⊥) → sized (flatten c) x ≡ true → ⊥
+too-long : (c : Card) (x : Slices) → Meets c → (Fits x → ⊥) → sized (flatten c) x ≡ true → ⊥
 unfolding flatten
-too_long c x m n e =
+too-long c x m n e =
     let z = sized-lengths (flatten c) x e in
     n (record {
-      markings = omega (arith, z.places, map-length flatPlaceRow c.places, m.wellformed.rows.fewPlaces);
-      transfers = omega (arith, z.transitions, m.wellformed.rows.fewTransitions);
-      degrees = omega (arith, z.signals, m.wellformed.fewSignals);
+      markings = omega (arith, z.places, map-length flat_place_row c.places, m.wellformed.rows.few_places);
+      transfers = omega (arith, z.transitions, m.wellformed.rows.few_transitions);
+      degrees = omega (arith, z.signals, m.wellformed.few_signals);
     })
 
-pub called-long : (given : Card → Given) (card : List ℕ) (x : Slices) → (Fits x → ⊥) → callOn inSlices (judge card) given x ≡ (tooLong (judge card), x)
+pub called-long : (given : Card → Given) (card : List ℕ) (x : Slices) → (Fits x → ⊥) → call_on in_slices (judge card) given x ≡ (too_long (judge card), x)
 called-long given card x n = go (judge card) refl
   where
-    go : (j : Judgement) → judge card ≡ j → callOn inSlices j given x ≡ (tooLong j, x)
+    go : (j : Judgement) → judge card ≡ j → call_on in_slices j given x ≡ (too_long j, x)
     go (refused k at) e = refl
-    go (accepted c) e = tested (validIn inSlices (flatten c) x) refl
+    go (accepted c) e = tested (valid_in in_slices (flatten c) x) refl
       where
-        tested : (b : Bool) → validIn inSlices (flatten c) x ≡ b → callOn inSlices (accepted c) given x ≡ (rowOutcome (No BadState), x)
+        tested : (b : Bool) → valid_in in_slices (flatten c) x ≡ b → call_on in_slices (accepted c) given x ≡ (row_outcome (No BadState), x)
         tested false q = rw q
-        tested true q = absurd (too_long c x (accepted-meets card c e) n (valid-sized (flatten c) x q))
+        tested true q = absurd (too-long c x (accepted-meets card c e) n (valid-sized (flatten c) x q))
 
 -- the fresh state in slices
-pub fresh-refused : (x : Slices) (n at : ℕ) (l : Lent) → handedBack (RowOutcome.refused n (some at), l) x ≡ (RowOutcome.refused n (some at), x)
+pub fresh-refused : (x : Slices) (n at : ℕ) (l : Lent) → handed_back (RowOutcome.refused n (some at), l) x ≡ (RowOutcome.refused n (some at), x)
 fresh-refused x n at l = refl
 
 module _ (c : Card) (x : Slices) where
-  pub fresh-other : sized (flatten c) x ≡ false → (rowOutcome (No BadState), x) ≡ freshIn (accepted c) x
+  pub fresh-other : sized (flatten c) x ≡ false → (row_outcome (No BadState), x) ≡ fresh_in (accepted c) x
   fresh-other e = rw e
 
   places-flat : length (flatten c).places ≡ length c.places
   unfolding flatten
-  places-flat = map-length flatPlaceRow c.places
+  places-flat = map-length flat_place_row c.places
 
   abbrev same-places : Bool
   same-places = eqb (length x.markings) (length (flatten c).places)
@@ -264,7 +264,7 @@ module _ (c : Card) (x : Slices) where
     unfolding sized flatten
     other-signals n = unsized same-places same-transitions same-signals (inr (inr (ne_eqb (length x.degrees) c.signals (λ z. n (z ∙ sym eg)))))
 
-    pub fresh-same : length x.markings ≡ p → length x.transfers ≡ t → length x.degrees ≡ g → handedBack (RowOutcome.ok, freshLent (flatten c)) x ≡ freshIn (accepted c) x
+    pub fresh-same : length x.markings ≡ p → length x.transfers ≡ t → length x.degrees ≡ g → handed_back (RowOutcome.ok, fresh_lent (flatten c)) x ≡ fresh_in (accepted c) x
     unfolding sized flatten
     fresh-same a b d =
         rw (eq-eqb (length x.markings) (length (flatten c).places) (a ∙ ep ∙ sym places-flat), eq-eqb (length x.transfers) (length c.transitions) (b ∙ et), eq-eqb (length x.degrees) c.signals (d ∙ eg))
@@ -272,12 +272,12 @@ module _ (c : Card) (x : Slices) where
         (taken-store (flatten c) (blank (length (flatten c).places) (length c.transitions) c.signals) (fresh (flatten c)) x
         (record { places = refl; transitions = refl; signals = refl }) (fresh-sized (flatten c)) (places-flat ∙ sym ep ∙ sym a) (sym et ∙ sym b) (sym eg ∙ sym d)))
 
-pub flat-long : (card : List ℕ) (x : Slices) (r : List ℕ) → (Fits x → ⊥) → flatOn card x r ≡ (tooLong (judge card), x)
-unfolding flatOn
+pub flat-long : (card : List ℕ) (x : Slices) (r : List ℕ) → (Fits x → ⊥) → flat_on card x r ≡ (too_long (judge card), x)
+unfolding flat_on
 flat-long card x r n = called-long _ card x n
 
-pub subnet-long : (card order : List ℕ) (x : Slices) (r : List ℕ) → (Fits x → ⊥) → subnetOn card order x r ≡ (tooLong (judge card), x)
-unfolding subnetOn
+pub subnet-long : (card order : List ℕ) (x : Slices) (r : List ℕ) → (Fits x → ⊥) → subnet_on card order x r ≡ (too_long (judge card), x)
+unfolding subnet_on
 subnet-long card order x r n = called-long _ card x n
 
 -- the numbers of transfers
@@ -293,19 +293,19 @@ numbers-at slots n i b l =
     ∙ ap code_of (get_or-take n (map (λ (x : Slot). x.transfer) slots) i Idle b ∙ slot-at slots i)
 
 -- the answer of a row call
-pub called-ok : (a : RowAnswer) (x : RowOutcome × Lent) → IsRow x a → a.reply ≡ Ok → (y : Slices) (r v : ℕ) (ms ts ds : List ℕ) → IsCalled (handedBack (RowOutcome.ok, a.state) y) r v ms ts ds → IsCalled (handedBack x y) r v ms ts ds
+pub called-ok : (a : RowAnswer) (x : RowOutcome × Lent) → IsRow x a → a.reply ≡ Ok → (y : Slices) (r v : ℕ) (ms ts ds : List ℕ) → IsCalled (handed_back (RowOutcome.ok, a.state) y) r v ms ts ds → IsCalled (handed_back x y) r v ms ts ds
 called-ok a x h e y r v ms ts ds c =
-    let o : RowOutcome.ok ≡ x.0 = sym (ap rowOutcome e) ∙ h.reply in
-    subst (λ (z : RowOutcome × Lent). IsCalled (handedBack z y) r v ms ts ds) (pair (RowOutcome.ok) x.0 a.state x.1 o h.state) c
+    let o : RowOutcome.ok ≡ x.0 = sym (ap row_outcome e) ∙ h.reply in
+    subst (λ (z : RowOutcome × Lent). IsCalled (handed_back z y) r v ms ts ds) (pair (RowOutcome.ok) x.0 a.state x.1 o h.state) c
   where
     pair : (p q : RowOutcome) (s t : Lent) → p ≡ q → s ≡ t → ◌≡◌ {A = RowOutcome × Lent} (p, s) (q, t)
     pair p q s t ep es = rw (ep, es)
 
-pub called-no : (a : RowAnswer) (x : RowOutcome × Lent) → IsRow x a → (why : Refusal) → a.reply ≡ No why → (y : Slices) (r v : ℕ) → IsTold (rowTold (refusal why)) r v
-    → IsCalled (handedBack x y) r v y.markings y.transfers y.degrees
+pub called-no : (a : RowAnswer) (x : RowOutcome × Lent) → IsRow x a → (why : Refusal) → a.reply ≡ No why → (y : Slices) (r v : ℕ) → IsTold (row_told (refusal why)) r v
+    → IsCalled (handed_back x y) r v y.markings y.transfers y.degrees
 called-no a x h why e y r v t =
-    let o : rowOutcome (No why) ≡ x.0 = sym (ap rowOutcome e) ∙ h.reply in
-    subst (λ (z : RowOutcome). IsCalled (handedBack (z, x.1) y) r v y.markings y.transfers y.degrees) o
+    let o : row_outcome (No why) ≡ x.0 = sym (ap row_outcome e) ∙ h.reply in
+    subst (λ (z : RowOutcome). IsCalled (handed_back (z, x.1) y) r v y.markings y.transfers y.degrees) o
     (subst (λ (z : RowOutcome × Slices). IsCalled z r v y.markings y.transfers y.degrees) (sym (refused-back why x.1 y))
     (record { told = t; markings = refl; transfers = refl; degrees = refl }))
 

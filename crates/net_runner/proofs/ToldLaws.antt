@@ -7,34 +7,34 @@ use native.Mathlib.Omega.{arith}
 use lib.ListN.{length, get_or}
 use Rattle.card.specs.Card.{Card}
 use Rattle.hierarchy.specs.Conditions.{Meets}
-use Rattle.hierarchy.specs.Numbers.{CheckOutcome, checkOutcome, number}
-use Rattle.hierarchy.specs.Judgement.{Judgement, accepted, refused, judge, outcomeOf, IsChecked}
+use Rattle.hierarchy.specs.Numbers.{CheckOutcome, check_outcome, number}
+use Rattle.hierarchy.specs.Judgement.{Judgement, accepted, refused, judge, outcome_of, IsChecked}
 use Rattle.hierarchy.specs.declared.CardFault.{CardFault}
 use Rattle.hierarchy.specs.declared.Answer.{Answer}
 use Rattle.hierarchy.specs.declared.Answer.TheVariants.{Accepted, Refused}
-use Rattle.card.specs.Parsing.{readCard}
+use Rattle.card.specs.Parsing.{read_card}
 use Rattle.card.specs.Tables.{IsTable}
 use Rattle.net_runner.specs.Copies.{IsCounted}
 use Rattle.net_runner.specs.declared.counts.CardCounts.{CardCounts}
 use Rattle.hierarchy.specs.declared.check.CheckedCard.{CheckedCard}
 use Rattle.hierarchy.proofs.Accepted.{accepted-meets, accepted-loaded}
 use Rattle.flattening.specs.Flattening.{flatten}
-use Rattle.runners.specs.Numbers.{RowOutcome, refusal, replyCode}
-use Rattle.runners.specs.Calls.{freshLent, fresh_of, freshCall}
+use Rattle.runners.specs.Numbers.{RowOutcome, refusal, reply_code}
+use Rattle.runners.specs.Calls.{fresh_lent, fresh_of, fresh_call}
 use Rattle.runners.specs.Answers.{IsFresh}
 use Rattle.runners.specs.declared.Refusal.TheVariants.{BadCard, BadState}
 use Rattle.runners.specs.declared.State.{State as Lent}
 use Rattle.runners.specs.declared.fresh.FreshState.{FreshState}
-use Rattle.net_runner.specs.Told.{rowTold, countsTold}
-use Rattle.net_runner.specs.Slices.{Slices, freshIn, freshOn}
-use Rattle.net_runner.specs.Copies.{tooLong}
+use Rattle.net_runner.specs.Told.{row_told, counts_told}
+use Rattle.net_runner.specs.Slices.{Slices, fresh_in, fresh_on}
+use Rattle.net_runner.specs.Copies.{too_long}
 
-pub code-number : (o : RowOutcome) → (replyCode o).number ≡ (rowTold o).number
+pub code-number : (o : RowOutcome) → (reply_code o).number ≡ (row_told o).number
 code-number RowOutcome.ok = refl
 code-number (RowOutcome.refused n none) = refl
 code-number (RowOutcome.refused n (some v)) = refl
 
-pub code-value : (o : RowOutcome) → (replyCode o).value ≡ (rowTold o).value
+pub code-value : (o : RowOutcome) → (reply_code o).value ≡ (row_told o).value
 code-value RowOutcome.ok = refl
 code-value (RowOutcome.refused n none) = refl
 code-value (RowOutcome.refused n (some v)) = refl
@@ -43,72 +43,72 @@ code-value (RowOutcome.refused n (some v)) = refl
 no_both : {A : Type 0} (s p t n at : ℕ) → CheckOutcome.accepted s p t ≡ CheckOutcome.refused n at → A
 no_both s p t n at e = absurd (let z : ◌≡◌ {A = ℕ} 0 1 = cc in omega arith)
 
-pub long-refused : (j : Judgement) (a : Answer) (f : CardFault) (at : ℕ) → checkOutcome a ≡ outcomeOf j → a ≡ Refused f at → refusal (BadCard f at) ≡ tooLong j
+pub long-refused : (j : Judgement) (a : Answer) (f : CardFault) (at : ℕ) → check_outcome a ≡ outcome_of j → a ≡ Refused f at → refusal (BadCard f at) ≡ too_long j
 long-refused (refused n b) a f at h e =
-    let q : CheckOutcome.refused (number f) at ≡ CheckOutcome.refused n b = sym (ap checkOutcome e) ∙ h in
+    let q : CheckOutcome.refused (number f) at ≡ CheckOutcome.refused n b = sym (ap check_outcome e) ∙ h in
     let en : number f ≡ n = cc in
     let eb : at ≡ b = cc in
     rw (en, eb)
-long-refused (accepted c) a f at h e = no_both _ _ _ _ _ (sym (sym (ap checkOutcome e) ∙ h))
+long-refused (accepted c) a f at h e = no_both _ _ _ _ _ (sym (sym (ap check_outcome e) ∙ h))
 
-pub long-accepted : (j : Judgement) (a : Answer) (s p t : ℕ) → checkOutcome a ≡ outcomeOf j → a ≡ Accepted s p t → refusal BadState ≡ tooLong j
-long-accepted (refused n b) a s p t h e = no_both _ _ _ _ _ (sym (ap checkOutcome e) ∙ h)
+pub long-accepted : (j : Judgement) (a : Answer) (s p t : ℕ) → check_outcome a ≡ outcome_of j → a ≡ Accepted s p t → refusal BadState ≡ too_long j
+long-accepted (refused n b) a s p t h e = no_both _ _ _ _ _ (sym (ap check_outcome e) ∙ h)
 long-accepted (accepted c) a s p t h e = refl
 
-pub counts-refused : (j : Judgement) (a : Answer) (f : CardFault) (at : ℕ) (counts : List ℕ) → checkOutcome a ≡ outcomeOf j → a ≡ Refused f at → counts ≡ countsTold j counts
+pub counts-refused : (j : Judgement) (a : Answer) (f : CardFault) (at : ℕ) (counts : List ℕ) → check_outcome a ≡ outcome_of j → a ≡ Refused f at → counts ≡ counts_told j counts
 counts-refused (refused n b) a f at counts h e = refl
-counts-refused (accepted c) a f at counts h e = no_both _ _ _ _ _ (sym (sym (ap checkOutcome e) ∙ h))
+counts-refused (accepted c) a f at counts h e = no_both _ _ _ _ _ (sym (sym (ap check_outcome e) ∙ h))
 
-pub counts-accepted : (card : List ℕ) (k : CardCounts) → IsCounted card k → (s p t : ℕ) (counts : List ℕ) → k.answer ≡ Accepted s p t → s ∷ p ∷ t ∷ k.signals ∷ [] ≡ countsTold (judge card) counts
+pub counts-accepted : (card : List ℕ) (k : CardCounts) → IsCounted card k → (s p t : ℕ) (counts : List ℕ) → k.answer ≡ Accepted s p t → s ∷ p ∷ t ∷ k.signals ∷ [] ≡ counts_told (judge card) counts
 counts-accepted card k h s p t counts a = go (judge card) refl h.answer
   where
-    go : (j : Judgement) → judge card ≡ j → checkOutcome k.answer ≡ outcomeOf j → s ∷ p ∷ t ∷ k.signals ∷ [] ≡ countsTold j counts
-    go (refused n b) i w = no_both _ _ _ _ _ (sym (ap checkOutcome a) ∙ w)
+    go : (j : Judgement) → judge card ≡ j → check_outcome k.answer ≡ outcome_of j → s ∷ p ∷ t ∷ k.signals ∷ [] ≡ counts_told j counts
+    go (refused n b) i w = no_both _ _ _ _ _ (sym (ap check_outcome a) ∙ w)
     go (accepted c) i w =
-        let q : CheckOutcome.accepted s p t ≡ CheckOutcome.accepted (length c.subnets) (length c.places) (length c.transitions) = sym (ap checkOutcome a) ∙ w in
+        let q : CheckOutcome.accepted s p t ≡ CheckOutcome.accepted (length c.subnets) (length c.places) (length c.transitions) = sym (ap check_outcome a) ∙ w in
         let es : s ≡ length c.subnets = cc in
         let ep : p ≡ length c.places = cc in
         let et : t ≡ length c.transitions = cc in
         rw (es, ep, et, h.signals c i)
 
-pub is-counted : (card : List ℕ) (k : CheckedCard) (size g : ℕ) (numbers : List ℕ) → IsChecked card k → IsTable (readCard card) size numbers → g ≡ get_or numbers 2 0
+pub is-counted : (card : List ℕ) (k : CheckedCard) (size g : ℕ) (numbers : List ℕ) → IsChecked card k → IsTable (read_card card) size numbers → g ≡ get_or numbers 2 0
     → IsCounted card (record { answer = k.answer; signals = g })
 is-counted card k size g numbers h t e = record { answer = h.answer; signals = λ c q. e ∙ ((accepted-loaded card k size numbers h t).loaded c q).laid.signals }
 
 -- the fresh state's answer
-pub fresh-no : (card : List ℕ) (k : FreshState) → IsFresh (freshCall card) k → (f : CardFault) (at : ℕ) → k.answer ≡ Refused f at → (x : Slices) → (refusal (BadCard f at), x) ≡ freshOn card x
-unfolding freshCall freshOn
+pub fresh-no : (card : List ℕ) (k : FreshState) → IsFresh (fresh_call card) k → (f : CardFault) (at : ℕ) → k.answer ≡ Refused f at → (x : Slices) → (refusal (BadCard f at), x) ≡ fresh_on card x
+unfolding fresh_call fresh_on
 fresh-no card k h f at e x = go (judge card) h.answer
   where
-    go : (j : Judgement) → checkOutcome k.answer ≡ (fresh_of j).0 → (refusal (BadCard f at), x) ≡ freshIn j x
+    go : (j : Judgement) → check_outcome k.answer ≡ (fresh_of j).0 → (refusal (BadCard f at), x) ≡ fresh_in j x
     go (refused n b) w =
-        let q : CheckOutcome.refused (number f) at ≡ CheckOutcome.refused n b = sym (ap checkOutcome e) ∙ w in
+        let q : CheckOutcome.refused (number f) at ≡ CheckOutcome.refused n b = sym (ap check_outcome e) ∙ w in
         let en : number f ≡ n = cc in
         let eb : at ≡ b = cc in
         rw (en, eb)
-    go (accepted c) w = no_both _ _ _ _ _ (sym (sym (ap checkOutcome e) ∙ w))
+    go (accepted c) w = no_both _ _ _ _ _ (sym (sym (ap check_outcome e) ∙ w))
 
 pub record FreshNet (card : List ℕ) (k : FreshState) (p t : ℕ) : Type 0 where
   pub net : Card
   pub meets : Meets net
-  pub is : (x : Slices) → freshOn card x ≡ freshIn (accepted net) x
+  pub is : (x : Slices) → fresh_on card x ≡ fresh_in (accepted net) x
   pub places : p ≡ length net.places
   pub transitions : t ≡ length net.transitions
-  pub state : k.state ≡ freshLent (flatten net)
+  pub state : k.state ≡ fresh_lent (flatten net)
   pub signals : k.state.signals ≡ net.signals
 
-pub fresh-yes : (card : List ℕ) (k : FreshState) → IsFresh (freshCall card) k → (s p t : ℕ) → k.answer ≡ Accepted s p t → FreshNet card k p t
-unfolding freshCall freshOn flatten
+pub fresh-yes : (card : List ℕ) (k : FreshState) → IsFresh (fresh_call card) k → (s p t : ℕ) → k.answer ≡ Accepted s p t → FreshNet card k p t
+unfolding fresh_call fresh_on flatten
 fresh-yes card k h s p t e = go (judge card) refl h.answer h.state
   where
-    go : (j : Judgement) → judge card ≡ j → checkOutcome k.answer ≡ (fresh_of j).0 → k.state ≡ (fresh_of j).1 → FreshNet card k p t
-    go (refused n b) d w z = no_both _ _ _ _ _ (sym (ap checkOutcome e) ∙ w)
+    go : (j : Judgement) → judge card ≡ j → check_outcome k.answer ≡ (fresh_of j).0 → k.state ≡ (fresh_of j).1 → FreshNet card k p t
+    go (refused n b) d w z = no_both _ _ _ _ _ (sym (ap check_outcome e) ∙ w)
     go (accepted c) d w z =
-        let q : CheckOutcome.accepted s p t ≡ CheckOutcome.accepted (length c.subnets) (length c.places) (length c.transitions) = sym (ap checkOutcome e) ∙ w in
+        let q : CheckOutcome.accepted s p t ≡ CheckOutcome.accepted (length c.subnets) (length c.places) (length c.transitions) = sym (ap check_outcome e) ∙ w in
         record {
           net = c;
           meets = accepted-meets card c d;
-          is = λ x. ap (λ (j : Judgement). freshIn j x) d;
+          is = λ x. ap (λ (j : Judgement). fresh_in j x) d;
           places = cc;
           transitions = cc;
           state = z;

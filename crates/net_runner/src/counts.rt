@@ -1,6 +1,6 @@
 // The check's answer to a card, with the number of its signals, which a caller needs for a state's last slice.
 ghost use Rattle.std.specs.Prelude.{◌≡◌, true, length};
-ghost use Rattle.card.specs.Tables.{hasRoom};
+ghost use Rattle.card.specs.Tables.{has_room};
 ghost use Rattle.net_runner.specs.Copies.{IsCounted};
 
 use card::tables::signals;
@@ -16,7 +16,7 @@ pub struct CardCounts {
 
 // With the card's numbers in a lent table that has room for them.
 fn counted_in(card: &[u8], numbers: &mut [u16]) -> CardCounts
-    requires { hasRoom (length card.now) (length numbers.old) ≡ true }
+    requires { has_room (length card.now) (length numbers.old) ≡ true }
     ensures numbers_len_unchanged { length numbers.new ≡ length numbers.old }
     ensures counted { IsCounted card.now result }
 {

@@ -1,14 +1,14 @@
 // A state in lent slices: taken into the runners' own state, and handed back where a call was answered with ok.
 ghost use Rattle.std.specs.Prelude.{◌≡◌, map, ◌↔◌, true, ℕ, ◌≤◌, length, take, replicate};
-ghost use Rattle.card.specs.Spelling.{putInto};
+ghost use Rattle.card.specs.Spelling.{put_into};
 ghost use Rattle.hierarchy.specs.Judgement.{judge};
 ghost use Rattle.runners.specs.Numbers.{RowOutcome};
-ghost use Rattle.runners.specs.Columns.{code_of, transferOf};
+ghost use Rattle.runners.specs.Columns.{code_of, transfer_of};
 ghost use Rattle.runners.specs.Answers.{IsRow};
 ghost use Rattle.runners.specs.declared.State.{State as Lent};
-ghost use Rattle.net_runner.specs.Told.{rowTold, IsTold};
+ghost use Rattle.net_runner.specs.Told.{row_told, IsTold};
 ghost use Rattle.net_runner.specs.Slices.{slices, IsCalled};
-ghost use Rattle.net_runner.specs.Copies.{Fits, Lends, handedBack, tooLong};
+ghost use Rattle.net_runner.specs.Copies.{Fits, Lends, handed_back, too_long};
 
 use crate::told::refuse;
 use card::{MOST_PLACES, MOST_SIGNALS, MOST_TRANSITIONS};
@@ -18,7 +18,7 @@ use runners::codes::{code_of, transfer_of};
 use runners::{Refusal, Reply, RowAnswer, Slot, State, Transfer};
 
 fn load_markings(markings: &[u32]) -> [u32; MOST_PLACES]
-    ensures { length markings.now ≤ 255 → result ≡ putInto markings.now (replicate 255 0) }
+    ensures { length markings.now ≤ 255 → result ≡ put_into markings.now (replicate 255 0) }
 {
     let mut all = [0; MOST_PLACES];
     let mut i: usize = 0;
@@ -33,7 +33,7 @@ fn load_markings(markings: &[u32]) -> [u32; MOST_PLACES]
 }
 
 fn load_degrees(degrees: &[u16]) -> [u16; MOST_SIGNALS]
-    ensures { length degrees.now ≤ 63 → result ≡ putInto degrees.now (replicate 63 0) }
+    ensures { length degrees.now ≤ 63 → result ≡ put_into degrees.now (replicate 63 0) }
 {
     let mut all = [0; MOST_SIGNALS];
     let mut i: usize = 0;
@@ -48,7 +48,7 @@ fn load_degrees(degrees: &[u16]) -> [u16; MOST_SIGNALS]
 }
 
 fn load_slots(transfers: &[u16]) -> [Slot; MOST_TRANSITIONS]
-    ensures { length transfers.now ≤ 255 → take (length transfers.now) (map (λ x. x.transfer) result) ≡ map transferOf transfers.now }
+    ensures { length transfers.now ≤ 255 → take (length transfers.now) (map (λ x. x.transfer) result) ≡ map transfer_of transfers.now }
 {
     let mut all = [Slot {
         transfer: Transfer::Idle,
@@ -138,7 +138,7 @@ fn put_transfers(state: State, out: &mut [u16])
 
 // Slices longer than those of any card: the card's own refusal, or 25.
 pub fn too_long(card: &[u8], value: &mut usize) -> u64
-    ensures { IsTold (rowTold (tooLong (judge card.now))) result value.new }
+    ensures { IsTold (row_told (too_long (judge card.now))) result value.new }
 {
     let a = check(card);
     match a {
@@ -155,7 +155,7 @@ pub fn accept(
     degrees: &mut [u16],
     value: &mut usize,
 ) -> u64
-    ensures { Fits (slices markings.old transfers.old degrees.old) → IsCalled (handedBack (RowOutcome.ok, state) (slices markings.old transfers.old degrees.old)) result value.new markings.new transfers.new degrees.new }
+    ensures { Fits (slices markings.old transfers.old degrees.old) → IsCalled (handed_back (RowOutcome.ok, state) (slices markings.old transfers.old degrees.old)) result value.new markings.new transfers.new degrees.new }
 {
     put_markings(state, markings);
     put_transfers(state, transfers);
@@ -172,7 +172,7 @@ pub fn hand_back(
     degrees: &mut [u16],
     value: &mut usize,
 ) -> u64
-    ensures { (x : RowOutcome × Lent) → IsRow x a → Fits (slices markings.old transfers.old degrees.old) → IsCalled (handedBack x (slices markings.old transfers.old degrees.old)) result value.new markings.new transfers.new degrees.new }
+    ensures { (x : RowOutcome × Lent) → IsRow x a → Fits (slices markings.old transfers.old degrees.old) → IsCalled (handed_back x (slices markings.old transfers.old degrees.old)) result value.new markings.new transfers.new degrees.new }
 {
     let reply = a.reply;
     let state = a.state;

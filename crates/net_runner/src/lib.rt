@@ -8,10 +8,10 @@ mod told;
 
 ghost use Rattle.std.specs.Prelude.{◌≡◌};
 ghost use Rattle.hierarchy.specs.Judgement.{judge, answer};
-ghost use Rattle.hierarchy.specs.Output.{writeRows};
-ghost use Rattle.flattening.specs.Flattening.{flattenCall};
-ghost use Rattle.net_runner.specs.Told.{checkTold, countsTold, headIn, IsTold, IsPut};
-ghost use Rattle.net_runner.specs.Slices.{slices, freshOn, flatOn, subnetOn, IsCalled};
+ghost use Rattle.hierarchy.specs.Output.{write_rows};
+ghost use Rattle.flattening.specs.Flattening.{flatten_call};
+ghost use Rattle.net_runner.specs.Told.{check_told, counts_told, head_in, IsTold, IsPut};
+ghost use Rattle.net_runner.specs.Slices.{slices, fresh_on, flat_on, subnet_on, IsCalled};
 
 use card::Head;
 use counts::counted;
@@ -28,8 +28,8 @@ use told::{answer_told, refuse, written_told};
 // The check. Two wrong ones that this rules out: one that stores counts of a refused card, and one whose counts are those of the header.
 #[unsafe(no_mangle)]
 pub extern "C" fn net_check(card: &[u8], counts: &mut [usize; 4], value: &mut usize) -> u64
-    ensures told { IsTold (checkTold (answer card.now)) result value.new }
-    ensures counts_after { counts.new ≡ countsTold (judge card.now) counts.old }
+    ensures told { IsTold (check_told (answer card.now)) result value.new }
+    ensures counts_after { counts.new ≡ counts_told (judge card.now) counts.old }
 {
     let k = counted(card);
     let a = k.answer;
@@ -47,7 +47,7 @@ pub extern "C" fn net_check(card: &[u8], counts: &mut [usize; 4], value: &mut us
 // with the length of the card that it was given.
 #[unsafe(no_mangle)]
 pub extern "C" fn net_flatten(card: &[u8], out: &mut [u8], value: &mut usize) -> u64
-    ensures { IsPut (flattenCall card.now out.old) result value.new out.new }
+    ensures { IsPut (flatten_call card.now out.old) result value.new out.new }
 {
     let w = flatten(card, out);
     let t = written_told(w);
@@ -67,7 +67,7 @@ pub extern "C" fn net_write(
     out: &mut [u8],
     value: &mut usize,
 ) -> u64
-    ensures { IsPut (writeRows (headIn header.now) subnets.now places.now transitions.now arcs.now out.old) result value.new out.new }
+    ensures { IsPut (write_rows (head_in header.now) subnets.now places.now transitions.now arcs.now out.old) result value.new out.new }
 {
     let head = Head {
         version: header[0],
@@ -91,7 +91,7 @@ pub extern "C" fn net_fresh(
     degrees: &mut [u16],
     value: &mut usize,
 ) -> u64
-    ensures { IsCalled (freshOn card.now (slices markings.old transfers.old degrees.old)) result value.new markings.new transfers.new degrees.new }
+    ensures { IsCalled (fresh_on card.now (slices markings.old transfers.old degrees.old)) result value.new markings.new transfers.new degrees.new }
 {
     let k = fresh(card);
     let a = k.answer;
@@ -124,7 +124,7 @@ pub extern "C" fn net_flat_row(
     row: &[u16],
     value: &mut usize,
 ) -> u64
-    ensures { IsCalled (flatOn card.now (slices markings.old transfers.old degrees.old) row.now) result value.new markings.new transfers.new degrees.new }
+    ensures { IsCalled (flat_on card.now (slices markings.old transfers.old degrees.old) row.now) result value.new markings.new transfers.new degrees.new }
 {
     if !fits(markings, transfers, degrees) {
         return too_long(card, value);
@@ -146,7 +146,7 @@ pub extern "C" fn net_subnet_row(
     row: &[u16],
     value: &mut usize,
 ) -> u64
-    ensures { IsCalled (subnetOn card.now order.now (slices markings.old transfers.old degrees.old) row.now) result value.new markings.new transfers.new degrees.new }
+    ensures { IsCalled (subnet_on card.now order.now (slices markings.old transfers.old degrees.old) row.now) result value.new markings.new transfers.new degrees.new }
 {
     if !fits(markings, transfers, degrees) {
         return too_long(card, value);

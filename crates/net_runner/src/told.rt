@@ -1,8 +1,8 @@
 // What a caller is told of an answer: its number and its value.
 ghost use Rattle.std.specs.Prelude.{◌≡◌};
-ghost use Rattle.hierarchy.specs.Numbers.{checkOutcome, writeOutcome};
+ghost use Rattle.hierarchy.specs.Numbers.{check_outcome, write_outcome};
 ghost use Rattle.runners.specs.Numbers.{refusal};
-ghost use Rattle.net_runner.specs.Told.{checkTold, writeTold, rowTold, IsTold};
+ghost use Rattle.net_runner.specs.Told.{check_told, write_told, row_told, IsTold};
 
 use hierarchy::{Answer, SHORT_BUFFER, Written, fault_number};
 use runners::Refusal;
@@ -15,7 +15,7 @@ pub struct Told {
 }
 
 pub fn answer_told(a: Answer) -> Told
-    ensures { result ≡ checkTold (checkOutcome a) }
+    ensures { result ≡ check_told (check_outcome a) }
 {
     match a {
         Answer::Accepted(_s, _p, _t) => Told {
@@ -30,7 +30,7 @@ pub fn answer_told(a: Answer) -> Told
 }
 
 pub fn written_told(w: Written) -> Told
-    ensures { result ≡ writeTold (writeOutcome w) }
+    ensures { result ≡ write_told (write_outcome w) }
 {
     match w {
         Written::Wrote(n) => Told {
@@ -50,7 +50,7 @@ pub fn written_told(w: Written) -> Told
 
 // A refused call: its value is stored, its number answered.
 pub fn refuse(why: Refusal, value: &mut usize) -> u64
-    ensures { IsTold (rowTold (refusal why)) result value.new }
+    ensures { IsTold (row_told (refusal why)) result value.new }
 {
     let c = refusal_code(why);
     *value = c.value;

@@ -11,29 +11,29 @@ use lib.Seq.{ext_get_or, get_or-take, take_all, take_at, length-take-le}
 use lib.Dec.{eqb}
 use borrow.Author.Tests.{not-true, not-false, eqb-true, eq-eqb, le-leb}
 use Rattle.card.specs.Finite.{table}
-use Rattle.card.specs.Bits.{bytesFor}
-use Rattle.card.specs.Spelling.{putInto}
+use Rattle.card.specs.Bits.{bytes_for}
+use Rattle.card.specs.Spelling.{put_into}
 use Rattle.card.specs.Card.{Card}
 use Rattle.card.proofs.BitLaws.{lt-or-ge}
 use Rattle.card.proofs.Sums.{map-length}
-use Rattle.hierarchy.specs.Judgement.{Judgement, accepted, judge, outcomeOf}
-use Rattle.hierarchy.specs.Numbers.{checkOutcome}
+use Rattle.hierarchy.specs.Judgement.{Judgement, accepted, judge, outcome_of}
+use Rattle.hierarchy.specs.Numbers.{check_outcome}
 use Rattle.hierarchy.specs.declared.CardFault.{CardFault}
 use Rattle.hierarchy.specs.declared.Answer.TheVariants.{Accepted, Refused}
 use Rattle.hierarchy.proofs.Accepted.{accepted-meets}
 use Rattle.flattening.specs.Flattening.{flatten}
 use Rattle.runners.proofs.Agreement.{demand-3}
-use Rattle.runners.proofs.ReplyLaws.{outcomeIn, outcome-of}
-use Rattle.runners.specs.Numbers.{RowOutcome, rowOutcome, replyCode}
+use Rattle.runners.proofs.ReplyLaws.{outcome_in, outcome-of}
+use Rattle.runners.specs.Numbers.{RowOutcome, row_outcome, reply_code}
 use Rattle.runners.specs.State.{NetState, entry}
-use Rattle.runners.specs.Rows.{RowRead, degrees, noRow, Ask, row, row_of}
-use Rattle.runners.specs.Calls.{view, freshLent, freshCall, inState, eachOnce, flatAsk, subnetAsk, flatCall, subnetCall}
+use Rattle.runners.specs.Rows.{RowRead, degrees, no_row, Ask, row, row_of}
+use Rattle.runners.specs.Calls.{view, fresh_lent, fresh_call, in_state, each_once, flat_ask, subnet_ask, flat_call, subnet_call}
 use Rattle.runners.specs.Traces.{Call, trace, observed}
 use Rattle.runners.specs.Answers.{IsRow, IsFresh}
-use Rattle.programs.specs.Files.{fileRow}
+use Rattle.programs.specs.Files.{file_row}
 use Rattle.programs.proofs.FileLaws.{row-hollow, row-found, too_many}
 use Rattle.runners.specs.inner.Storing.{slot_at}
-use Rattle.programs.specs.Agreeing.{progressCode, rowSize, callSize, call_of, call_at, calls_of, Agrees, IsBoth, IsAgreed}
+use Rattle.programs.specs.Agreeing.{progress_code, row_size, call_size, call_of, call_at, calls_of, Agrees, IsBoth, IsAgreed}
 use Rattle.runners.specs.declared.Transfer.{Transfer}
 use Rattle.runners.specs.declared.Transfer.TheVariants.{Idle, Carrying}
 use Rattle.runners.specs.declared.State.{State as Lent}
@@ -58,19 +58,19 @@ pub passed : (r : Bool) (P : Type 0) → (r ≡ true) ↔ P → not r ≡ false 
 passed r P d n = d.0 (not-false r n)
 
 -- a reply is known from its three numbers
-module _ (a b : RowOutcome) (x y : Code) (ex : x ≡ replyCode a) (ey : y ≡ replyCode b) where
+module _ (a b : RowOutcome) (x y : Code) (ex : x ≡ reply_code a) (ey : y ≡ reply_code b) where
   pub reply-differs : ¬ (x ≡ y) → (false ≡ true) ↔ (a ≡ b)
-  reply-differs n = told-no (a ≡ b) (λ e. n (ex ∙ ap replyCode e ∙ sym ey))
+  reply-differs n = told-no (a ≡ b) (λ e. n (ex ∙ ap reply_code e ∙ sym ey))
 
   reply-equal : x ≡ y → a ≡ b
-  reply-equal e = outcome-of a x ex ∙ ap outcomeIn e ∙ sym (outcome-of b y ey)
+  reply-equal e = outcome-of a x ex ∙ ap outcome_in e ∙ sym (outcome-of b y ey)
 
   parts : x.kind ≡ y.kind → x.number ≡ y.number → x.value ≡ y.value → x ≡ y
   parts k n v = λ i. record { kind = k i; number = n i; value = v i }
 
   pub reply-value : x.kind ≡ y.kind → x.number ≡ y.number → (eqb x.value y.value ≡ true) ↔ (a ≡ b)
   reply-value k n =
-      (λ e. reply-equal (parts k n (eqb-true x.value y.value e)), λ e. eq-eqb x.value y.value (ap (λ (z : Code). z.value) (ex ∙ ap replyCode e ∙ sym ey)))
+      (λ e. reply-equal (parts k n (eqb-true x.value y.value e)), λ e. eq-eqb x.value y.value (ap (λ (z : Code). z.value) (ex ∙ ap reply_code e ∙ sym ey)))
 
 -- numbers of two lists
 module _ (xs ys : List ℕ) where
@@ -125,16 +125,16 @@ prefix-seen xs ys n m k r s ex ey er es b d =
     (λ e. sym i ∙ d.0 e ∙ o, λ e. d.1 (i ∙ e ∙ sym o))
 
 -- transfers
-abbrev decodeProgress : ℕ → Transfer
-decodeProgress zero = Idle
-decodeProgress (suc n) = Carrying n
+abbrev decode_progress : ℕ → Transfer
+decode_progress zero = Idle
+decode_progress (suc n) = Carrying n
 
-code-progress : (x : Transfer) → decodeProgress (progressCode x) ≡ x
+code-progress : (x : Transfer) → decode_progress (progress_code x) ≡ x
 code-progress Idle = refl
-code-progress (Carrying c) = ap decodeProgress (let e : c + 1 ≡ suc c = omega arith in e)
+code-progress (Carrying c) = ap decode_progress (let e : c + 1 ≡ suc c = omega arith in e)
 
-progress-equal : (x y : Transfer) → progressCode x ≡ progressCode y → x ≡ y
-progress-equal x y e = sym (code-progress x) ∙ ap decodeProgress e ∙ code-progress y
+progress-equal : (x y : Transfer) → progress_code x ≡ progress_code y → x ≡ y
+progress-equal x y e = sym (code-progress x) ∙ ap decode_progress e ∙ code-progress y
 
 -- as far as the transfers of two states are the same
 abbrev pub SameTo : (a b : Lent) (t : ℕ) → Type 0
@@ -153,9 +153,9 @@ module _ (a b : Lent) (la : length a.slots ≡ 255) (lb : length b.slots ≡ 255
   counts-differ n = told-no _ (λ e. n (sym (long b lb) ∙ sym (ap (λ (xs : List Transfer). length xs) e) ∙ long a la))
 
   module _ (same : min b.transitions 255 ≡ min a.transitions 255) (t : ℕ) where
-    pub transfers-differ : t < min a.transitions 255 → ¬ (progressCode (slot_at a.slots t) ≡ progressCode (slot_at b.slots t)) → (false ≡ true) ↔ ((view a).transfers ≡ (view b).transfers)
+    pub transfers-differ : t < min a.transitions 255 → ¬ (progress_code (slot_at a.slots t) ≡ progress_code (slot_at b.slots t)) → (false ≡ true) ↔ ((view a).transfers ≡ (view b).transfers)
     transfers-differ l n =
-        told-no _ (λ e. n (ap progressCode (sym (seen a la t l) ∙ ap (λ (xs : List Transfer). get_or xs t Idle) e ∙ seen b lb t (omega (arith, same)))))
+        told-no _ (λ e. n (ap progress_code (sym (seen a la t l) ∙ ap (λ (xs : List Transfer). get_or xs t Idle) e ∙ seen b lb t (omega (arith, same)))))
 
     pub transfers-same : min a.transitions 255 ≤ t → SameTo a b t → (true ≡ true) ↔ ((view a).transfers ≡ (view b).transfers)
     transfers-same l h =
@@ -163,7 +163,7 @@ module _ (a b : Lent) (la : length a.slots ≡ 255) (lb : length b.slots ≡ 255
         (ext_get_or Idle (view a).transfers (view b).transfers (long a la ∙ sym same ∙ sym (long b lb))
         (λ u d. let m : u < min a.transitions 255 = omega (arith, long a la) in seen a la u m ∙ h u (omega arith) ∙ sym (seen b lb u (omega (arith, same)))))
 
-pub same_more : (a b : Lent) (t : ℕ) → SameTo a b t → progressCode (slot_at a.slots t) ≡ progressCode (slot_at b.slots t) → SameTo a b (t + 1)
+pub same_more : (a b : Lent) (t : ℕ) → SameTo a b t → progress_code (slot_at a.slots t) ≡ progress_code (slot_at b.slots t) → SameTo a b (t + 1)
 same_more a b t h e u l = go (lt-or-ge u t)
   where
     go : (u < t) ⊎ (t ≤ u) → slot_at a.slots u ≡ slot_at b.slots u
@@ -183,9 +183,9 @@ module _ (a b : Lent) where
       (λ e. let x = t.0 e in (λ i. record { markings = m i; transfers = x i; degrees = d i }), λ e. t.1 (ap (λ (s : NetState). s.transfers) e))
 
 -- the order of a call
-order-bytes : (bytes : List ℕ) (n : ℕ) (o : List ℕ) → length bytes - n ≤ 32 → (length (take (length bytes - n) (drop n bytes)) ≤ 32 → o ≡ putInto (take (length bytes - n) (drop n bytes)) (replicate 32 0))
+order-bytes : (bytes : List ℕ) (n : ℕ) (o : List ℕ) → length bytes - n ≤ 32 → (length (take (length bytes - n) (drop n bytes)) ≤ 32 → o ≡ put_into (take (length bytes - n) (drop n bytes)) (replicate 32 0))
     → take (length bytes - n) o ≡ drop n bytes
-unfolding putInto
+unfolding put_into
 order-bytes bytes n o l f =
     let i : length (drop n bytes) ≡ length bytes - n = length-drop n bytes in
     let w : take (length bytes - n) (drop n bytes) ≡ drop n bytes = take_all (length bytes - n) (drop n bytes) (omega arith) in
@@ -194,17 +194,17 @@ order-bytes bytes n o l f =
     ap (λ (xs : List ℕ). take (length bytes - n) xs) e ∙ take_at (drop n bytes) (drop (length (drop n bytes)) (replicate 32 0)) (length bytes - n) i
 
 -- a call as the code reads it, and as it is in the file
-module _ (card bytes : List ℕ) (n : ℕ) (x y : Lent) (c : Card) (en : rowSize c ≡ n) (l : length bytes - n ≤ 32) (o : List ℕ)
-    (eo : length (take (length bytes - n) (drop n bytes)) ≤ 32 → o ≡ putInto (take (length bytes - n) (drop n bytes)) (replicate 32 0)) (b : Both) where
+module _ (card bytes : List ℕ) (n : ℕ) (x y : Lent) (c : Card) (en : row_size c ≡ n) (l : length bytes - n ≤ 32) (o : List ℕ)
+    (eo : length (take (length bytes - n) (drop n bytes)) ≤ 32 → o ≡ put_into (take (length bytes - n) (drop n bytes)) (replicate 32 0)) (b : Both) where
   read-call : (q : RowRead) → row_of c (take n bytes) ≡ q → IsBoth card (record { ask = row q; order = take (length bytes - n) o }) x y b → IsBoth card (call_of c bytes) x y b
   read-call q e h =
       rw en
       (subst (λ (k : Call). IsBoth card k x y b)
       (ap₂ (λ (r : RowRead) (z : List ℕ). record { ask = row r; order = z }) (sym e) (order-bytes bytes n o l eo)) h)
 
-  module _ (r : FileRow) (er : r ≡ fileRow (row_of c (take n bytes))) where
-    pub call-unread : r.whole ≡ false → IsBoth card (record { ask = row noRow; order = take (length bytes - n) o }) x y b → IsBoth card (call_of c bytes) x y b
-    call-unread w h = read-call noRow (row-hollow r (row_of c (take n bytes)) er w) h
+  module _ (r : FileRow) (er : r ≡ file_row (row_of c (take n bytes))) where
+    pub call-unread : r.whole ≡ false → IsBoth card (record { ask = row no_row; order = take (length bytes - n) o }) x y b → IsBoth card (call_of c bytes) x y b
+    call-unread w h = read-call no_row (row-hollow r (row_of c (take n bytes)) er w) h
 
     pub call-read : r.whole ≡ true → IsBoth card (record { ask = row (degrees (take r.count r.degrees)); order = take (length bytes - n) o }) x y b → IsBoth card (call_of c bytes) x y b
     call-read w h =
@@ -222,34 +222,34 @@ piece-long file at size l =
     let e : at + size - at ≡ size = omega arith in
     rw e (length-take-le size (drop at file) (omega (arith, length-drop at file)))
 
-pub size_is : (c : Card) (n g s : ℕ) → c.signals ≡ g → length c.subnets ≡ s → n ≡ bytesFor (10 * g) → callSize c ≡ n + s
+pub size_is : (c : Card) (n g s : ℕ) → c.signals ≡ g → length c.subnets ≡ s → n ≡ bytes_for (10 * g) → call_size c ≡ n + s
 size_is c n g s eg es en = rw (eg, es, en)
 
-pub row-size-is : (c : Card) (n g : ℕ) → c.signals ≡ g → n ≡ bytesFor (10 * g) → rowSize c ≡ n
+pub row-size-is : (c : Card) (n g : ℕ) → c.signals ≡ g → n ≡ bytes_for (10 * g) → row_size c ≡ n
 row-size-is c n g eg en = rw (eg, en)
 
-pub call-at : (card file : List ℕ) (c : Card) (k size : ℕ) (x y : Lent) (b : Both) → callSize c ≡ size → IsBoth card (call_of c (take (size * k + size - size * k) (drop (size * k) file))) x y b → IsBoth card (call_at c file k) x y b
+pub call-at : (card file : List ℕ) (c : Card) (k size : ℕ) (x y : Lent) (b : Both) → call_size c ≡ size → IsBoth card (call_of c (take (size * k + size - size * k) (drop (size * k) file))) x y b → IsBoth card (call_at c file k) x y b
 call-at card file c k size x y b e h =
     let i : size * k + size - size * k ≡ size = omega arith in
     rw e (rw i at h)
 
 -- both runners answer a call
-pub flat-asked : (card r : List ℕ) (x : Lent) (a : RowAnswer) → IsRow (flatCall card x r) a → IsRow (flatAsk inState card x (row (degrees r))) a
-unfolding flatCall
+pub flat-asked : (card r : List ℕ) (x : Lent) (a : RowAnswer) → IsRow (flat_call card x r) a → IsRow (flat_ask in_state card x (row (degrees r))) a
+unfolding flat_call
 flat-asked card r x a h = h
 
-pub subnet-asked : (card order r : List ℕ) (y : Lent) (b : RowAnswer) → IsRow (subnetCall card order y r) b → IsRow (subnetAsk inState card order y (row (degrees r))) b
-unfolding subnetCall
+pub subnet-asked : (card order r : List ℕ) (y : Lent) (b : RowAnswer) → IsRow (subnet_call card order y r) b → IsRow (subnet_ask in_state card order y (row (degrees r))) b
+unfolding subnet_call
 subnet-asked card order r y b h = h
 
-module _ (card order : List ℕ) (k : Ask) (x y : Lent) (a b : RowAnswer) (ha : IsRow (flatAsk inState card x k) a) (hb : IsRow (subnetAsk inState card order y k) b) where
+module _ (card order : List ℕ) (k : Ask) (x y : Lent) (a b : RowAnswer) (ha : IsRow (flat_ask in_state card x k) a) (hb : IsRow (subnet_ask in_state card order y k) b) where
   abbrev told : Bool → Type 0
   told r = IsBoth card (record { ask = k; order = order }) x y (record { same = r; flat = a.state; subnet = b.state })
 
-  replies : rowOutcome b.reply ≡ rowOutcome a.reply → view b.state ≡ view a.state → observed (subnetAsk inState card order y k) ≡ observed (flatAsk inState card x k)
+  replies : row_outcome b.reply ≡ row_outcome a.reply → view b.state ≡ view a.state → observed (subnet_ask in_state card order y k) ≡ observed (flat_ask in_state card x k)
   replies e i = ap₂ (λ (p : RowOutcome) (s : NetState). (p, s)) (sym hb.reply ∙ e ∙ ha.reply) (ap view (sym hb.state) ∙ i ∙ ap view ha.state)
 
-  pub both-no : (r : Bool) → (r ≡ true) ↔ (rowOutcome b.reply ≡ rowOutcome a.reply) → not r ≡ true → told false
+  pub both-no : (r : Bool) → (r ≡ true) ↔ (row_outcome b.reply ≡ row_outcome a.reply) → not r ≡ true → told false
   both-no r d n =
       record {
         same = told-no _ (λ e. failed r _ d n (hb.reply ∙ ap (λ (p : RowOutcome × NetState). p.0) e ∙ sym ha.reply));
@@ -257,7 +257,7 @@ module _ (card order : List ℕ) (k : Ask) (x y : Lent) (a b : RowAnswer) (ha : 
         subnet = hb.state;
       }
 
-  pub both_yes : (r s : Bool) → (r ≡ true) ↔ (rowOutcome b.reply ≡ rowOutcome a.reply) → not r ≡ false → (s ≡ true) ↔ (view b.state ≡ view a.state) → told s
+  pub both_yes : (r s : Bool) → (r ≡ true) ↔ (row_outcome b.reply ≡ row_outcome a.reply) → not r ≡ false → (s ≡ true) ↔ (view b.state ≡ view a.state) → told s
   both_yes r s d n f =
       record {
         same = (λ e. replies (passed r _ d n) (f.0 e), λ e. f.1 (ap view hb.state ∙ ap (λ (p : RowOutcome × NetState). p.1) e ∙ ap view (sym ha.state)));
@@ -267,16 +267,16 @@ module _ (card order : List ℕ) (k : Ask) (x y : Lent) (a b : RowAnswer) (ha : 
 
 -- where there is no row, a row of too many degrees is answered so
 few : (card : List ℕ) (c : Card) → judge card ≡ accepted c → c.signals ≤ 63
-few card c e = (accepted-meets card c e).wellformed.fewSignals
+few card c e = (accepted-meets card c e).wellformed.few_signals
 
 pub both-missing : (card order long : List ℕ) (x y : Lent) (b : Both) → 63 < length long → IsBoth card (record { ask = row (degrees long); order = order }) x y b
-    → IsBoth card (record { ask = row noRow; order = order }) x y b
+    → IsBoth card (record { ask = row no_row; order = order }) x y b
 both-missing card order long x y b m h =
     let p = too_many (λ c. true) (judge card) x long m (few card) in
-    let q = too_many (λ c. eachOnce (length c.subnets) order) (judge card) y long m (few card) in
+    let q = too_many (λ c. each_once (length c.subnets) order) (judge card) y long m (few card) in
     record {
-      same = subst (λ (z : RowOutcome × Lent). (b.same ≡ true) ↔ (observed z ≡ observed (flatAsk inState card x (row noRow)))) q
-          (subst (λ (z : RowOutcome × Lent). (b.same ≡ true) ↔ (observed (subnetAsk inState card order y (row (degrees long))) ≡ observed z)) p h.same);
+      same = subst (λ (z : RowOutcome × Lent). (b.same ≡ true) ↔ (observed z ≡ observed (flat_ask in_state card x (row no_row)))) q
+          (subst (λ (z : RowOutcome × Lent). (b.same ≡ true) ↔ (observed (subnet_ask in_state card order y (row (degrees long))) ≡ observed z)) p h.same);
       flat = h.flat ∙ ap (λ (z : RowOutcome × Lent). z.1) p;
       subnet = h.subnet ∙ ap (λ (z : RowOutcome × Lent). z.1) q;
     }
@@ -288,7 +288,7 @@ module _ (card : List ℕ) where
   agrees-none x y = refl
 
   agrees_first : (x y : Lent) (k : Call) (ks : List Call)
-      → Agrees card x y (k ∷ ks) ↔ ((observed (subnetAsk inState card k.order y k.ask) ≡ observed (flatAsk inState card x k.ask)) × Agrees card (flatAsk inState card x k.ask).1 (subnetAsk inState card k.order y k.ask).1 ks)
+      → Agrees card x y (k ∷ ks) ↔ ((observed (subnet_ask in_state card k.order y k.ask) ≡ observed (flat_ask in_state card x k.ask)) × Agrees card (flat_ask in_state card x k.ask).1 (subnet_ask in_state card k.order y k.ask).1 ks)
   unfolding trace
   agrees_first x y k ks = (λ e. (head-eq_of_cons-eq e, tail-eq_of_cons-eq e), λ p. ap₂ (λ z zs. z ∷ zs) p.0 p.1)
 
@@ -308,9 +308,9 @@ module _ (card : List ℕ) where
     abbrev pub Going : (k : ℕ) (x y : Lent) → Type 0
     Going k x y = Agrees card x y (rest k) ↔ Agrees card first first (calls_of c file)
 
-    pub going_start : count ≡ length file / callSize c → Going 0 first first
+    pub going_start : count ≡ length file / call_size c → Going 0 first first
     going_start e =
-        let i : count - 0 ≡ length file / callSize c = omega arith in
+        let i : count - 0 ≡ length file / call_size c = omega arith in
         rw i (λ p. p, λ p. p)
 
     module _ (k : ℕ) (x y : Lent) (h : Going k x y) where
@@ -321,7 +321,7 @@ module _ (card : List ℕ) where
           told-yes _ (h.0 (rw i (agrees-none x y)))
 
       module _ (l : k < count) (r : Both) (b : IsBoth card (call_at c file k) x y r) where
-        one : Agrees card x y (rest k) ↔ ((observed (subnetAsk inState card (call_at c file k).order y (call_at c file k).ask) ≡ observed (flatAsk inState card x (call_at c file k).ask)) × Agrees card r.flat r.subnet (rest (k + 1)))
+        one : Agrees card x y (rest k) ↔ ((observed (subnet_ask in_state card (call_at c file k).order y (call_at c file k).ask) ≡ observed (flat_ask in_state card x (call_at c file k).ask)) × Agrees card r.flat r.subnet (rest (k + 1)))
         one = rw (rest-first k l, b.flat, b.subnet) (agrees_first x y (call_at c file k) (rest (k + 1)))
 
         pub going-no : not r.same ≡ true → (false ≡ true) ↔ Agrees card first first (calls_of c file)
@@ -331,33 +331,33 @@ module _ (card : List ℕ) where
         going_more n = (λ p. h.0 (one.1 (passed r.same _ b.same n, p)), λ p. (one.0 (h.1 p)).1)
 
 -- from fresh states
-module _ (card file : List ℕ) (f : FreshState) (h : IsFresh (freshCall card) f) where
+module _ (card file : List ℕ) (f : FreshState) (h : IsFresh (fresh_call card) f) where
   pub agreed-refused : (why : CardFault) (at : ℕ) → f.answer ≡ Refused why at → IsAgreed card file false
-  unfolding freshCall
-  agreed-refused why at e = record { turnedBack = λ n i q. refl; exact = λ c q. absurd (no c q); always = λ c q o. absurd (no c q) }
+  unfolding fresh_call
+  agreed-refused why at e = record { turned_back = λ n i q. refl; exact = λ c q. absurd (no c q); always = λ c q o. absurd (no c q) }
     where
       no : (c : Card) → judge card ≡ accepted c → ⊥
       no c q =
-          let z : checkOutcome (Refused why at) ≡ outcomeOf (accepted c) = sym (ap checkOutcome e) ∙ rw q at h.answer in
+          let z : check_outcome (Refused why at) ≡ outcome_of (accepted c) = sym (ap check_outcome e) ∙ rw q at h.answer in
           let y : ◌≡◌ {A = ℕ} 0 1 = cc in
           omega arith
 
   module _ (s p t : ℕ) (e : f.answer ≡ Accepted s p t) where
     counts : (c : Card) → judge card ≡ accepted c → s ≡ length c.subnets
-    unfolding freshCall
+    unfolding fresh_call
     counts c q =
-        let z : checkOutcome (Accepted s p t) ≡ outcomeOf (accepted c) = sym (ap checkOutcome e) ∙ rw q at h.answer in
+        let z : check_outcome (Accepted s p t) ≡ outcome_of (accepted c) = sym (ap check_outcome e) ∙ rw q at h.answer in
         cc
 
     accepted-here : (n at : ℕ) → judge card ≡ Judgement.refused n at → ⊥
-    unfolding freshCall
+    unfolding fresh_call
     accepted-here n at q =
-        let z : checkOutcome (Accepted s p t) ≡ outcomeOf (Judgement.refused n at) = sym (ap checkOutcome e) ∙ rw q at h.answer in
+        let z : check_outcome (Accepted s p t) ≡ outcome_of (Judgement.refused n at) = sym (ap check_outcome e) ∙ rw q at h.answer in
         let y : ◌≡◌ {A = ℕ} 0 1 = cc in
         omega arith
 
-    state-is : (c : Card) → judge card ≡ accepted c → f.state ≡ freshLent (flatten c)
-    unfolding freshCall
+    state-is : (c : Card) → judge card ≡ accepted c → f.state ≡ fresh_lent (flatten c)
+    unfolding fresh_call
     state-is c q = rw q at h.state
 
     signals-are : (c : Card) → judge card ≡ accepted c → f.state.signals ≡ c.signals
@@ -366,15 +366,15 @@ module _ (card file : List ℕ) (f : FreshState) (h : IsFresh (freshCall card) f
 
     -- no card has such counts
     pub agreed-never : ((1 ≤ s) → (s ≤ 32) → (f.state.signals ≤ 63) → ⊥) → (r : Bool) → IsAgreed card file r
-    agreed-never n r = record { turnedBack = λ m i q. absurd (accepted-here m i q); exact = λ c q. absurd (no c q); always = λ c q o. absurd (no c q) }
+    agreed-never n r = record { turned_back = λ m i q. absurd (accepted-here m i q); exact = λ c q. absurd (no c q); always = λ c q o. absurd (no c q) }
       where
         no : (c : Card) → judge card ≡ accepted c → ⊥
         no c q =
             let w = (accepted-meets card c q).wellformed in
-            n (omega (arith, counts c q, w.someSubnets)) (omega (arith, counts c q, w.fewSubnets)) (omega (arith, signals-are c q, w.fewSignals))
+            n (omega (arith, counts c q, w.some_subnets)) (omega (arith, counts c q, w.few_subnets)) (omega (arith, signals-are c q, w.few_signals))
 
     pub agreed-is : (r : Bool) → ((c : Card) → c.signals ≡ f.state.signals → length c.subnets ≡ s → (r ≡ true) ↔ Agrees card f.state f.state (calls_of c file)) → IsAgreed card file r
-    agreed-is r d = record { turnedBack = λ m i q. absurd (accepted-here m i q); exact = exact; always = λ c q o. (exact c q).1 (ap (λ xs. map observed xs) (demand-3.agree card c (calls_of c file) q o).runners) }
+    agreed-is r d = record { turned_back = λ m i q. absurd (accepted-here m i q); exact = exact; always = λ c q o. (exact c q).1 (ap (λ xs. map observed xs) (demand-3.agree card c (calls_of c file) q o).runners) }
       where
-        exact : (c : Card) → judge card ≡ accepted c → (r ≡ true) ↔ Agrees card (freshCall card).1 (freshCall card).1 (calls_of c file)
+        exact : (c : Card) → judge card ≡ accepted c → (r ≡ true) ↔ Agrees card (fresh_call card).1 (fresh_call card).1 (calls_of c file)
         exact c q = subst (λ (l : Lent). (r ≡ true) ↔ Agrees card l l (calls_of c file)) h.state (d c (sym (signals-are c q)) (sym (counts c q)))

@@ -8,25 +8,25 @@ use native.Mathlib.Nat.{zero-add}
 use lib.ListN.{length, take, drop, replicate, length-append, length-take, length-drop}
 use lib.Seq.{take_all, take_at, take-add, length-take-le}
 use borrow.Author.Tests.{le-leb, ne_eqb}
-use Rattle.card.specs.Bits.{bytesFor}
-use Rattle.card.specs.Spelling.{putInto}
-use Rattle.hierarchy.specs.Numbers.{number, checkOutcome}
-use Rattle.hierarchy.specs.Judgement.{Judgement, accepted, refused, judge, outcomeOf}
+use Rattle.card.specs.Bits.{bytes_for}
+use Rattle.card.specs.Spelling.{put_into}
+use Rattle.hierarchy.specs.Numbers.{number, check_outcome}
+use Rattle.hierarchy.specs.Judgement.{Judgement, accepted, refused, judge, outcome_of}
 use Rattle.hierarchy.specs.declared.Answer.{Answer}
 use Rattle.hierarchy.specs.declared.Answer.TheVariants.{Accepted, Refused}
 use Rattle.hierarchy.specs.declared.CardFault.{CardFault}
-use Rattle.runners.specs.Numbers.{RowOutcome, rowOutcome}
-use Rattle.runners.specs.Calls.{view, fresh_of, freshCall}
+use Rattle.runners.specs.Numbers.{RowOutcome, row_outcome}
+use Rattle.runners.specs.Calls.{view, fresh_of, fresh_call}
 use Rattle.runners.specs.Answers.{IsRow}
-use Rattle.runners.specs.Nets.{signalsIn, IsNet}
+use Rattle.runners.specs.Nets.{signals_in, IsNet}
 use Rattle.runners.specs.declared.State.{State as Lent}
 use Rattle.runners.specs.declared.Net.{Net}
 use Rattle.runners.specs.declared.RowAnswer.{RowAnswer}
 use Rattle.programs.specs.Text.{decimal, line}
-use Rattle.programs.specs.Programs.{replyWords, cardLine}
-use Rattle.programs.specs.Feeds.{fileCall}
-use Rattle.programs.specs.Lines.{Puts, IsLine, firstBytes, longest}
-use Rattle.programs.specs.Runs.{Run, FileCall, following, answered, keeping, feed, fedBlock, lastLine, rowSizeIn, firstText, isAccepted, runIn, IsTurn}
+use Rattle.programs.specs.Programs.{reply_words, card_line}
+use Rattle.programs.specs.Feeds.{file_call}
+use Rattle.programs.specs.Lines.{Puts, IsLine, first_bytes, longest}
+use Rattle.programs.specs.Runs.{Run, FileCall, following, answered, keeping, feed, fed_block, last_line, row_size_in, first_text, is_accepted, run_in, IsTurn}
 use Rattle.programs.specs.inner.Parts.{PutsLine}
 use Rattle.programs.specs.declared.blocks.Progress.{Progress}
 use Rattle.programs.specs.declared.blocks.Turn.{Turn}
@@ -35,16 +35,16 @@ use Rattle.programs.proofs.LineLaws.{puts_none, puts-join, puts-end, puts_whole,
 use Rattle.programs.proofs.RunLaws.{feed-append, feed-kept, feed_row, block-fed, block-tight, block-over}
 
 -- all the bytes that are there
-pub all_left : (net : Net) (s : Lent) (left : List ℕ) (have : ℕ) (r : RowAnswer) → length left < have → ((j : Judgement) → IsNet j net → IsRow (fileCall j s left) r)
-    → (j : Judgement) → IsNet j net → IsRow (fileCall j s (take have left)) r
-all_left net s left have r l h j n = subst (λ (xs : List ℕ). IsRow (fileCall j s xs) r) (sym (take_all have left (omega (arith, l)))) (h j n)
+pub all_left : (net : Net) (s : Lent) (left : List ℕ) (have : ℕ) (r : RowAnswer) → length left < have → ((j : Judgement) → IsNet j net → IsRow (file_call j s left) r)
+    → (j : Judgement) → IsNet j net → IsRow (file_call j s (take have left)) r
+all_left net s left have r l h j n = subst (λ (xs : List ℕ). IsRow (file_call j s xs) r) (sym (take_all have left (omega (arith, l)))) (h j n)
 
 -- bytes behind those that are there
 module _ (p : Progress) (bytes y : List ℕ) (r : ℕ) (long : length p.left ≡ 79) (l : p.have + length bytes ≤ 79) (w : Puts p.left p.have bytes y r) where
   pub kept-end : r ≡ p.have + length bytes
   kept-end = puts-end p.left p.have bytes y r w (omega (arith, long, l))
 
-  pub kept_run : ◌≡◌ {A = Run} (record { number = p.number; state = p.state; left = take r y }) (keeping (runIn p) bytes)
+  pub kept_run : ◌≡◌ {A = Run} (record { number = p.number; state = p.state; left = take r y }) (keeping (run_in p) bytes)
   kept_run =
       let front = take p.have p.left in
       let rest = drop (p.have + length bytes) p.left in
@@ -54,11 +54,11 @@ module _ (p : Progress) (bytes y : List ℕ) (r : ℕ) (long : length p.left ≡
 
 -- the row that is there
 pub row-turn : (net : Net) (p : Progress) (a : RowAnswer) (l : Line) (x : List ℕ) (at : ℕ) (y : List ℕ) (n m : ℕ)
-    → ((j : Judgement) → IsNet j net → IsRow (fileCall j p.state (take p.have p.left)) a)
-    → IsLine (line (decimal p.number ∷ replyWords (rowOutcome a.reply) (view a.state))) l
-    → Puts x at (firstBytes l.length l.bytes) y n → m ≡ following p.number
+    → ((j : Judgement) → IsNet j net → IsRow (file_call j p.state (take p.have p.left)) a)
+    → IsLine (line (decimal p.number ∷ reply_words (row_outcome a.reply) (view a.state))) l
+    → Puts x at (first_bytes l.length l.bytes) y n → m ≡ following p.number
     → (j : Judgement) → IsNet j net
-    → PutsLine (answered (fileCall j) (runIn p)) x at (record { number = m; state = a.state; left = replicate 79 0; have = 0 }) n y
+    → PutsLine (answered (file_call j) (run_in p)) x at (record { number = m; state = a.state; left = replicate 79 0; have = 0 }) n y
 row-turn net p a l x at y n m h i q e j w =
     record {
       line = line-put text l x at y n (subst (λ (t : List ℕ). IsLine t l) same i) q;
@@ -67,28 +67,28 @@ row-turn net p a l x at y n m h i q e j w =
     }
   where
     text : List ℕ
-    text = (answered (fileCall j) (runIn p)).0
+    text = (answered (file_call j) (run_in p)).0
 
-    same : line (decimal p.number ∷ replyWords (rowOutcome a.reply) (view a.state)) ≡ text
-    same = ap₂ (λ (o : RowOutcome) (s : Lent). line (decimal p.number ∷ replyWords o (view s))) (h j w).reply (h j w).state
+    same : line (decimal p.number ∷ reply_words (row_outcome a.reply) (view a.state)) ≡ text
+    same = ap₂ (λ (o : RowOutcome) (s : Lent). line (decimal p.number ∷ reply_words o (view s))) (h j w).reply (h j w).state
 
 -- a part of a block: the bytes that the row lacks, or fewer
 module _ (p : Progress) (long : length p.left ≡ 79) (size : ℕ) (l : p.have < size) (u : size ≤ 79) (rest : List ℕ) (call : FileCall) where
   left-long : length (take p.have p.left) ≡ p.have
   left-long = length-take-le p.have p.left (omega (arith, long, l, u))
 
-  pub part-kept : (q : Progress) (x : List ℕ) (at : ℕ) → p.have + length rest < size → runIn q ≡ keeping (runIn p) rest
-      → PutsLine (feed size call (runIn p) (take (length rest) rest)) x at q at x
+  pub part-kept : (q : Progress) (x : List ℕ) (at : ℕ) → p.have + length rest < size → run_in q ≡ keeping (run_in p) rest
+      → PutsLine (feed size call (run_in p) (take (length rest) rest)) x at q at x
   part-kept q x at f e =
       subst (λ (z : List ℕ × Run). PutsLine z x at q at x)
-      (sym (ap (feed size call (runIn p)) (take_all (length rest) rest (omega arith)) ∙ feed-kept size call (runIn p) rest (omega (arith, f, left-long))))
+      (sym (ap (feed size call (run_in p)) (take_all (length rest) rest (omega arith)) ∙ feed-kept size call (run_in p) rest (omega (arith, f, left-long))))
       (record { line = puts_none x at; short = omega arith; run = e })
 
-  pub part-row : (q r : Progress) (n : ℕ) (x : List ℕ) (at : ℕ) (y : List ℕ) (end : ℕ) → 0 < n → n ≤ length rest → p.have + n ≡ size → runIn q ≡ keeping (runIn p) (take n rest)
-      → PutsLine (answered call (runIn q)) x at r end y → PutsLine (feed size call (runIn p) (take n rest)) x at r end y
+  pub part-row : (q r : Progress) (n : ℕ) (x : List ℕ) (at : ℕ) (y : List ℕ) (end : ℕ) → 0 < n → n ≤ length rest → p.have + n ≡ size → run_in q ≡ keeping (run_in p) (take n rest)
+      → PutsLine (answered call (run_in q)) x at r end y → PutsLine (feed size call (run_in p) (take n rest)) x at r end y
   part-row q r n x at y end some few whole e w =
       subst (λ (z : List ℕ × Run). PutsLine z x at r end y)
-      (sym (feed_row size call (runIn p) (take n rest) (omega (arith, some, taken)) (omega (arith, whole, left-long, taken)) ∙ ap (answered call) (sym e)))
+      (sym (feed_row size call (run_in p) (take n rest) (omega (arith, some, taken)) (omega (arith, whole, left-long, taken)) ∙ ap (answered call) (sym e)))
       w
     where
       taken : length (take n rest) ≡ n
@@ -104,17 +104,17 @@ rest_in block rest at n e l u = omega (arith, ap length e, length-drop at block,
 -- some bytes of the block on
 pub record Going (size : ℕ) (call : FileCall) (first : Run) (block before : List ℕ) (at : ℕ) (p : Progress) (after : List ℕ) (n : ℕ) : Type 0 where
   pub lines : Puts before 0 (feed size call first (take at block)).0 after n
-  pub run : runIn p ≡ (feed size call first (take at block)).1
+  pub run : run_in p ≡ (feed size call first (take at block)).1
   pub few : length (feed size call first (take at block)).0 ≤ longest * at
 
 module _ (size : ℕ) (call : FileCall) (first : Progress) (block before : List ℕ) where
-  pub going_start : Going size call (runIn first) block before 0 first before 0
+  pub going_start : Going size call (run_in first) block before 0 first before 0
   unfolding feed
   going_start = record { lines = puts_none before 0; run = refl; few = omega arith }
 
-  module _ (at : ℕ) (p : Progress) (mid : List ℕ) (n : ℕ) (g : Going size call (runIn first) block before at p mid n) where
-    pub going_more : (rest : List ℕ) (k : ℕ) (q : Progress) (m : ℕ) (after : List ℕ) → rest ≡ drop at block → 0 < k → PutsLine (feed size call (runIn p) (take k rest)) mid n q m after
-        → Going size call (runIn first) block before (at + k) q after m
+  module _ (at : ℕ) (p : Progress) (mid : List ℕ) (n : ℕ) (g : Going size call (run_in first) block before at p mid n) where
+    pub going_more : (rest : List ℕ) (k : ℕ) (q : Progress) (m : ℕ) (after : List ℕ) → rest ≡ drop at block → 0 < k → PutsLine (feed size call (run_in p) (take k rest)) mid n q m after
+        → Going size call (run_in first) block before (at + k) q after m
     going_more rest k q m after e some i =
         record {
           lines = subst (λ (t : List ℕ). Puts before 0 t after m) (sym (ap (λ (z : List ℕ × Run). z.0) both)) (puts-join before 0 x.0 mid n y.0 after m g.lines w.line);
@@ -123,27 +123,27 @@ module _ (size : ℕ) (call : FileCall) (first : Progress) (block before : List 
         }
       where
         x : List ℕ × Run
-        x = feed size call (runIn first) (take at block)
+        x = feed size call (run_in first) (take at block)
 
         y : List ℕ × Run
-        y = feed size call (runIn p) (take k (drop at block))
+        y = feed size call (run_in p) (take k (drop at block))
 
         w : PutsLine y mid n q m after
-        w = subst (λ (xs : List ℕ). PutsLine (feed size call (runIn p) (take k xs)) mid n q m after) e i
+        w = subst (λ (xs : List ℕ). PutsLine (feed size call (run_in p) (take k xs)) mid n q m after) e i
 
-        both : feed size call (runIn first) (take (at + k) block) ≡ (x.0 ++ y.0, y.1)
+        both : feed size call (run_in first) (take (at + k) block) ≡ (x.0 ++ y.0, y.1)
         both =
-            ap (feed size call (runIn first)) (take-add at k block) ∙ feed-append size call (runIn first) (take at block) (take k (drop at block))
+            ap (feed size call (run_in first)) (take-add at k block) ∙ feed-append size call (run_in first) (take at block) (take k (drop at block))
             ∙ ap (λ (z : Run). (x.0 ++ (feed size call z (take k (drop at block))).0, (feed size call z (take k (drop at block))).1)) (sym g.run)
 
         more : longest * (at + k) ≡ longest * at + longest * k
         more = omega arith
 
     pub going_end : length block ≤ at → at ≤ length block → longest * length block ≤ length before
-        → IsTurn (feed size call (runIn first) block) before (record { progress = p; length = n }) mid
-    unfolding putInto
+        → IsTurn (feed size call (run_in first) block) before (record { progress = p; length = n }) mid
+    unfolding put_into
     going_end l u room =
-        subst (λ (z : List ℕ × Run). IsTurn z before (record { progress = p; length = n }) mid) (ap (feed size call (runIn first)) (take_all at block l))
+        subst (λ (z : List ℕ × Run). IsTurn z before (record { progress = p; length = n }) mid) (ap (feed size call (run_in first)) (take_all at block l))
         (record {
           fits = fits;
           length = puts-end before 0 text mid n g.lines front ∙ zero-add (length text);
@@ -152,7 +152,7 @@ module _ (size : ℕ) (call : FileCall) (first : Progress) (block before : List 
         })
       where
         text : List ℕ
-        text = (feed size call (runIn first) (take at block)).0
+        text = (feed size call (run_in first) (take at block)).0
 
         fits : length text ≤ length before
         fits = omega (arith, g.few, room, l, u, ap (λ (k : ℕ). longest * k) (let e : at ≡ length block = omega (arith, l, u) in e))
@@ -161,87 +161,87 @@ module _ (size : ℕ) (call : FileCall) (first : Progress) (block before : List 
         front = omega (arith, fits)
 
 -- the tests in front of a block
-pub size_is : (j : Judgement) (n size : ℕ) → n ≡ signalsIn j → size ≡ bytesFor (10 * n) → size ≡ rowSizeIn j
-size_is (accepted c) n size e i = i ∙ ap (λ (k : ℕ). bytesFor (10 * k)) e
+pub size_is : (j : Judgement) (n size : ℕ) → n ≡ signals_in j → size ≡ bytes_for (10 * n) → size ≡ row_size_in j
+size_is (accepted c) n size e i = i ∙ ap (λ (k : ℕ). bytes_for (10 * k)) e
 size_is (refused why at) n size e i = omega (arith, e, i)
 
-turn-none : (x : List ℕ × Run) (p : Progress) (r : Turn) (out : List ℕ) → x ≡ ([], runIn p) → r ≡ record { progress = p; length = 0 } → IsTurn x out r out
-unfolding putInto
+turn-none : (x : List ℕ × Run) (p : Progress) (r : Turn) (out : List ℕ) → x ≡ ([], run_in p) → r ≡ record { progress = p; length = 0 } → IsTurn x out r out
+unfolding put_into
 turn-none x p r out e i =
-    subst (λ (z : List ℕ × Run). IsTurn z out r out) (sym e) (subst (λ (t : Turn). IsTurn ([], runIn p) out t out) (sym i) (record { fits = omega arith; length = refl; lines = sym (rw (le-leb 0 (length out) (omega arith)) refl); run = refl }))
+    subst (λ (z : List ℕ × Run). IsTurn z out r out) (sym e) (subst (λ (t : Turn). IsTurn ([], run_in p) out t out) (sym i) (record { fits = omega arith; length = refl; lines = sym (rw (le-leb 0 (length out) (omega arith)) refl); run = refl }))
 
-module _ (j : Judgement) (call : FileCall) (p : Progress) (block out : List ℕ) (n size : ℕ) (e : n ≡ signalsIn j) (i : size ≡ bytesFor (10 * n)) where
+module _ (j : Judgement) (call : FileCall) (p : Progress) (block out : List ℕ) (n size : ℕ) (e : n ≡ signals_in j) (i : size ≡ bytes_for (10 * n)) where
   abbrev fed : List ℕ × Run
-  fed = fedBlock (rowSizeIn j) call (length out) (runIn p) block
+  fed = fed_block (row_size_in j) call (length out) (run_in p) block
 
   pub turn-tight : (r : Turn) → length out / longest < length block → r ≡ record { progress = p; length = 0 } → IsTurn fed out r out
-  turn-tight r l q = turn-none fed p r out (block-tight (rowSizeIn j) call (length out) (runIn p) block (omega (arith, l))) q
+  turn-tight r l q = turn-none fed p r out (block-tight (row_size_in j) call (length out) (run_in p) block (omega (arith, l))) q
 
   pub turn-over : (r : Turn) → length p.left ≡ 79 → n ≤ 63 → size ≤ p.have → r ≡ record { progress = p; length = 0 } → IsTurn fed out r out
   turn-over r long few l q =
       turn-none fed p r out
-      (block-over (rowSizeIn j) call (length out) (runIn p) block (omega (arith, sym (size_is j n size e i), few, i, l, long, length-take p.have p.left)))
+      (block-over (row_size_in j) call (length out) (run_in p) block (omega (arith, sym (size_is j n size e i), few, i, l, long, length-take p.have p.left)))
       q
 
   pub turn-all : (r : Turn) (after : List ℕ) → length block ≤ length out / longest → p.have < size
-      → (longest * length block ≤ length out → IsTurn (feed size call (runIn p) block) out r after) → IsTurn fed out r after
+      → (longest * length block ≤ length out → IsTurn (feed size call (run_in p) block) out r after) → IsTurn fed out r after
   turn-all r after l u w =
-      let q : size ≡ rowSizeIn j = size_is j n size e i in
+      let q : size ≡ row_size_in j = size_is j n size e i in
       let room : longest * length block ≤ length out = omega (arith, l) in
       subst (λ (z : List ℕ × Run). IsTurn z out r after)
-      (ap (λ (k : ℕ). feed k call (runIn p) block) q ∙ sym (block-fed (rowSizeIn j) call (length out) (runIn p) block room (omega (arith, sym q, u, length-take p.have p.left))))
+      (ap (λ (k : ℕ). feed k call (run_in p) block) q ∙ sym (block-fed (row_size_in j) call (length out) (run_in p) block room (omega (arith, sym q, u, length-take p.have p.left))))
       (w room)
 
 -- the end of the input
-pub last_none : (call : FileCall) (p : Progress) (l : Line) → p.have ≡ 0 → IsLine [] l → IsLine (lastLine call (runIn p)) l
-unfolding lastLine
+pub last_none : (call : FileCall) (p : Progress) (l : Line) → p.have ≡ 0 → IsLine [] l → IsLine (last_line call (run_in p)) l
+unfolding last_line
 last_none call p l e h = rw e h
 
 pub last_row : (call : FileCall) (p : Progress) (l : Line) (a : RowAnswer) → length p.left ≡ 79 → (p.have ≡ 0 → ⊥) → IsRow (call p.state (take p.have p.left)) a
-    → IsLine (line (decimal p.number ∷ replyWords (rowOutcome a.reply) (view a.state))) l → IsLine (lastLine call (runIn p)) l
-unfolding lastLine
+    → IsLine (line (decimal p.number ∷ reply_words (row_outcome a.reply) (view a.state))) l → IsLine (last_line call (run_in p)) l
+unfolding last_line
 last_row call p l a long some r h =
     rw (ne_eqb (length (take p.have p.left)) 0 (λ e. some (omega (arith, e, long, length-take p.have p.left))))
-    (subst (λ (t : List ℕ). IsLine t l) (ap₂ (λ (o : RowOutcome) (s : Lent). line (decimal p.number ∷ replyWords o (view s))) r.reply r.state) h)
+    (subst (λ (t : List ℕ). IsLine t l) (ap₂ (λ (o : RowOutcome) (s : Lent). line (decimal p.number ∷ reply_words o (view s))) r.reply r.state) h)
 
 -- before the first row
-pub fresh-answer : (card : List ℕ) → (freshCall card).0 ≡ outcomeOf (judge card)
-unfolding freshCall
+pub fresh-answer : (card : List ℕ) → (fresh_call card).0 ≡ outcome_of (judge card)
+unfolding fresh_call
 fresh-answer card = go (judge card)
   where
-    go : (j : Judgement) → (fresh_of j).0 ≡ outcomeOf j
+    go : (j : Judgement) → (fresh_of j).0 ≡ outcome_of j
     go (accepted c) = refl
     go (refused n at) = refl
 
 module _ (a : Answer) (f : CardFault) (at : ℕ) (e : a ≡ Refused f at) where
-  pub refused-line : (l : Line) → IsLine (cardLine (number f) at) l → (j : Judgement) → checkOutcome a ≡ outcomeOf j → IsLine (firstText j) l
-  refused-line l h j q = go j (sym (ap checkOutcome e) ∙ q)
+  pub refused-line : (l : Line) → IsLine (card_line (number f) at) l → (j : Judgement) → check_outcome a ≡ outcome_of j → IsLine (first_text j) l
+  refused-line l h j q = go j (sym (ap check_outcome e) ∙ q)
     where
-      go : (i : Judgement) → checkOutcome (Refused f at) ≡ outcomeOf i → IsLine (firstText i) l
+      go : (i : Judgement) → check_outcome (Refused f at) ≡ outcome_of i → IsLine (first_text i) l
       go (accepted c) q = absurd (let z : ◌≡◌ {A = ℕ} 0 1 = cc in omega arith)
       go (refused n k) q =
           let u : number f ≡ n = cc in
           let v : at ≡ k = cc in
-          subst (λ (t : List ℕ). IsLine t l) (ap₂ cardLine u v) h
+          subst (λ (t : List ℕ). IsLine t l) (ap₂ card_line u v) h
 
-  pub refused-runs : (j : Judgement) → checkOutcome a ≡ outcomeOf j → false ≡ isAccepted j
-  refused-runs j q = go j (sym (ap checkOutcome e) ∙ q)
+  pub refused-runs : (j : Judgement) → check_outcome a ≡ outcome_of j → false ≡ is_accepted j
+  refused-runs j q = go j (sym (ap check_outcome e) ∙ q)
     where
-      go : (i : Judgement) → checkOutcome (Refused f at) ≡ outcomeOf i → false ≡ isAccepted i
+      go : (i : Judgement) → check_outcome (Refused f at) ≡ outcome_of i → false ≡ is_accepted i
       go (accepted c) q = absurd (let z : ◌≡◌ {A = ℕ} 0 1 = cc in omega arith)
       go (refused n k) q = refl
 
 module _ (a : Answer) (s p t : ℕ) (e : a ≡ Accepted s p t) where
-  pub accepted-line : (l : Line) → IsLine [] l → (j : Judgement) → checkOutcome a ≡ outcomeOf j → IsLine (firstText j) l
-  accepted-line l h j q = go j (sym (ap checkOutcome e) ∙ q)
+  pub accepted-line : (l : Line) → IsLine [] l → (j : Judgement) → check_outcome a ≡ outcome_of j → IsLine (first_text j) l
+  accepted-line l h j q = go j (sym (ap check_outcome e) ∙ q)
     where
-      go : (i : Judgement) → checkOutcome (Accepted s p t) ≡ outcomeOf i → IsLine (firstText i) l
+      go : (i : Judgement) → check_outcome (Accepted s p t) ≡ outcome_of i → IsLine (first_text i) l
       go (accepted c) q = h
       go (refused n k) q = absurd (let z : ◌≡◌ {A = ℕ} 0 1 = cc in omega arith)
 
-  pub accepted-runs : (j : Judgement) → checkOutcome a ≡ outcomeOf j → true ≡ isAccepted j
-  accepted-runs j q = go j (sym (ap checkOutcome e) ∙ q)
+  pub accepted-runs : (j : Judgement) → check_outcome a ≡ outcome_of j → true ≡ is_accepted j
+  accepted-runs j q = go j (sym (ap check_outcome e) ∙ q)
     where
-      go : (i : Judgement) → checkOutcome (Accepted s p t) ≡ outcomeOf i → true ≡ isAccepted i
+      go : (i : Judgement) → check_outcome (Accepted s p t) ≡ outcome_of i → true ≡ is_accepted i
       go (accepted c) q = refl
       go (refused n k) q = absurd (let z : ◌≡◌ {A = ℕ} 0 1 = cc in omega arith)

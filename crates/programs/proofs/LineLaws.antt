@@ -13,13 +13,13 @@ use lib.Seq.{take-suc, take_all, take-append_seam, take-suc-set, drop-set-lt, dr
 use lib.Dec.{ltb}
 use borrow.Author.Tests.{lt-ltb, le-ltb, ltb-false, le-leb, lt-leb, eq-eqb, ne_eqb}
 use Rattle.card.proofs.BitLaws.{lt-or-ge}
-use Rattle.runners.specs.Numbers.{RowOutcome, ok, refused, replyCode}
+use Rattle.runners.specs.Numbers.{RowOutcome, ok, refused, reply_code}
 use Rattle.runners.specs.State.{NetState}
 use Rattle.runners.specs.declared.replies.Code.{Code}
-use Rattle.runners.proofs.ReplyLaws.{outcomeIn, outcome-of}
-use Rattle.programs.specs.Programs.{stateWords, refusalWords, valueWords, replyWords, cardLine}
+use Rattle.runners.proofs.ReplyLaws.{outcome_in, outcome-of}
+use Rattle.programs.specs.Programs.{state_words, refusal_words, value_words, reply_words, card_line}
 use Rattle.programs.specs.Text.{ascii, digit, digits, decimal, line}
-use Rattle.programs.specs.Lines.{Cursor, putByte, put_all, Puts, spaced, joined, transferWord, IsPadded, IsLine, firstBytes, longest}
+use Rattle.programs.specs.Lines.{Cursor, put_byte, put_all, Puts, spaced, joined, transfer_word, IsPadded, IsLine, first_bytes, longest}
 use Rattle.programs.specs.declared.line.Line.{Line}
 
 -- one byte
@@ -35,7 +35,7 @@ byte-out buffer at b l = record { is = rw (le-ltb at (length buffer) l) }
 put-append : (c : Cursor) (u w : List ℕ) → put_all c (u ++ w) ≡ put_all (put_all c u) w
 unfolding put_all
 put-append c [] w = refl
-put-append c (b ∷ u) w = put-append (putByte c b) u w
+put-append c (b ∷ u) w = put-append (put_byte c b) u w
 
 pub puts_none : (buffer : List ℕ) (at : ℕ) → Puts buffer at [] buffer at
 unfolding put_all
@@ -46,14 +46,14 @@ puts-join x at u y m w z r p q =
     record { is = q.is ∙ ap (λ (c : Cursor). put_all c w) p.is ∙ sym (put-append (record { buffer = x; at = at }) u w) }
 
 -- how far the bytes reach
-byte-long : (c : Cursor) (b : ℕ) → length (putByte c b).buffer ≡ length c.buffer
+byte-long : (c : Cursor) (b : ℕ) → length (put_byte c b).buffer ≡ length c.buffer
 byte-long c b = go (ltb c.at (length c.buffer))
   where
     go : (t : Bool) → length (cond t (record { buffer = set c.buffer c.at b; at = c.at + 1 }) c).buffer ≡ length c.buffer
     go true = length-set c.buffer c.at b
     go false = refl
 
-byte-most : (c : Cursor) (b : ℕ) → (putByte c b).at ≤ c.at + 1
+byte-most : (c : Cursor) (b : ℕ) → (put_byte c b).at ≤ c.at + 1
 byte-most c b = go (ltb c.at (length c.buffer))
   where
     go : (t : Bool) → (cond t (record { buffer = set c.buffer c.at b; at = c.at + 1 }) c).at ≤ c.at + 1
@@ -63,12 +63,12 @@ byte-most c b = go (ltb c.at (length c.buffer))
 all-long : (c : Cursor) (w : List ℕ) → length (put_all c w).buffer ≡ length c.buffer
 unfolding put_all
 all-long c [] = refl
-all-long c (b ∷ w) = all-long (putByte c b) w ∙ byte-long c b
+all-long c (b ∷ w) = all-long (put_byte c b) w ∙ byte-long c b
 
 all_most : (c : Cursor) (w : List ℕ) → (put_all c w).at ≤ c.at + length w
 unfolding put_all
 all_most c [] = omega arith
-all_most c (b ∷ w) = omega (arith, all_most (putByte c b) w, byte-most c b)
+all_most c (b ∷ w) = omega (arith, all_most (put_byte c b) w, byte-most c b)
 
 pub puts-long : (x : List ℕ) (at : ℕ) (w y : List ℕ) (r : ℕ) → Puts x at w y r → length y ≡ length x
 puts-long x at w y r p = ap (λ (c : Cursor). length c.buffer) p.is ∙ all-long (record { buffer = x; at = at }) w
@@ -208,46 +208,46 @@ words-none f xs x at = puts_none x at
 -- the words of a state and of a refusal
 pub state-words : (s : NetState) (x : List ℕ) (at : ℕ) (y : List ℕ) (m : ℕ) (z : List ℕ) (n : ℕ) (u : List ℕ) (k : ℕ) (v : List ℕ) (r : ℕ)
     → Puts x at (111 ∷ 107 ∷ []) y m → Puts y m (spaced (map decimal s.markings)) z n → Puts z n (32 ∷ 124 ∷ []) u k
-    → Puts u k (spaced (map transferWord s.transfers)) v r → Puts x at (joined (stateWords s)) v r
+    → Puts u k (spaced (map transfer_word s.transfers)) v r → Puts x at (joined (state_words s)) v r
 unfolding ascii spaced
 state-words s x at y m z n u k v r a b c d =
-    subst (λ (w : List ℕ). Puts x at (111 ∷ 107 ∷ w) v r) (sym (spaced-append (map decimal s.markings) ((124 ∷ []) ∷ map transferWord s.transfers)))
-    (puts-join x at (111 ∷ 107 ∷ []) y m (spaced (map decimal s.markings) ++ (32 ∷ 124 ∷ spaced (map transferWord s.transfers))) v r a
-    (puts-join y m (spaced (map decimal s.markings)) z n (32 ∷ 124 ∷ spaced (map transferWord s.transfers)) v r b
-    (puts-join z n (32 ∷ 124 ∷ []) u k (spaced (map transferWord s.transfers)) v r c d)))
+    subst (λ (w : List ℕ). Puts x at (111 ∷ 107 ∷ w) v r) (sym (spaced-append (map decimal s.markings) ((124 ∷ []) ∷ map transfer_word s.transfers)))
+    (puts-join x at (111 ∷ 107 ∷ []) y m (spaced (map decimal s.markings) ++ (32 ∷ 124 ∷ spaced (map transfer_word s.transfers))) v r a
+    (puts-join y m (spaced (map decimal s.markings)) z n (32 ∷ 124 ∷ spaced (map transfer_word s.transfers)) v r b
+    (puts-join z n (32 ∷ 124 ∷ []) u k (spaced (map transfer_word s.transfers)) v r c d)))
 
 pub refusal-words : (number : ℕ) (x : List ℕ) (at : ℕ) (y : List ℕ) (m : ℕ) (z : List ℕ) (r : ℕ)
-    → Puts x at (110 ∷ 111 ∷ []) y m → Puts y m (32 ∷ decimal number) z r → Puts x at (joined (refusalWords number none)) z r
+    → Puts x at (110 ∷ 111 ∷ []) y m → Puts y m (32 ∷ decimal number) z r → Puts x at (joined (refusal_words number none)) z r
 unfolding ascii
 refusal-words number x at y m z r a b =
     subst (λ (w : List ℕ). Puts x at (110 ∷ 111 ∷ w) z r) (sym (spaced-one (decimal number))) (puts-join x at (110 ∷ 111 ∷ []) y m (32 ∷ decimal number) z r a b)
 
 pub value-words : (number value : ℕ) (x : List ℕ) (at : ℕ) (y : List ℕ) (m : ℕ) (z : List ℕ) (r : ℕ)
-    → Puts x at (joined (refusalWords number none)) y m → Puts y m (32 ∷ decimal value) z r → Puts x at (joined (refusalWords number (some value))) z r
+    → Puts x at (joined (refusal_words number none)) y m → Puts y m (32 ∷ decimal value) z r → Puts x at (joined (refusal_words number (some value))) z r
 unfolding ascii
 value-words number value x at y m z r a b =
     subst (λ (w : List ℕ). Puts x at (110 ∷ 111 ∷ w) z r) (sym (spaced-append (decimal number ∷ []) (decimal value ∷ []) ∙ ap (λ (w : List ℕ). spaced (decimal number ∷ []) ++ w) (spaced-one (decimal value))))
-    (puts-join x at (joined (refusalWords number none)) y m (32 ∷ decimal value) z r a b)
+    (puts-join x at (joined (refusal_words number none)) y m (32 ∷ decimal value) z r a b)
 
 -- how far bytes reach that end before the buffer does
 all-least : (c : Cursor) (w : List ℕ) → c.at ≤ (put_all c w).at
 unfolding put_all
 all-least c [] = omega arith
-all-least c (b ∷ w) = go (ltb c.at (length c.buffer)) (all-least (putByte c b) w)
+all-least c (b ∷ w) = go (ltb c.at (length c.buffer)) (all-least (put_byte c b) w)
   where
-    go : (t : Bool) → (cond t (record { buffer = set c.buffer c.at b; at = c.at + 1 }) c).at ≤ (put_all (putByte c b) w).at → c.at ≤ (put_all (putByte c b) w).at
+    go : (t : Bool) → (cond t (record { buffer = set c.buffer c.at b; at = c.at + 1 }) c).at ≤ (put_all (put_byte c b) w).at → c.at ≤ (put_all (put_byte c b) w).at
     go true l = omega arith
     go false l = l
 
 all_whole : (c : Cursor) (w : List ℕ) → (put_all c w).at < length c.buffer → (put_all c w).at ≡ c.at + length w
 unfolding put_all
 all_whole c [] l = omega arith
-all_whole c (b ∷ w) l = go (lt-or-ge c.at (length c.buffer)) (all_whole (putByte c b) w (omega (arith, l, byte-long c b)))
+all_whole c (b ∷ w) l = go (lt-or-ge c.at (length c.buffer)) (all_whole (put_byte c b) w (omega (arith, l, byte-long c b)))
   where
-    go : (c.at < length c.buffer) ⊎ (length c.buffer ≤ c.at) → (put_all (putByte c b) w).at ≡ (putByte c b).at + length w → (put_all (putByte c b) w).at ≡ c.at + suc (length w)
+    go : (c.at < length c.buffer) ⊎ (length c.buffer ≤ c.at) → (put_all (put_byte c b) w).at ≡ (put_byte c b).at + length w → (put_all (put_byte c b) w).at ≡ c.at + suc (length w)
     go (inl m) e = omega (arith, e, ap (λ (t : Bool). (cond t (record { buffer = set c.buffer c.at b; at = c.at + 1 }) c).at) (lt-ltb c.at (length c.buffer) m))
     go (inr m) e =
-        absurd (omega (arith, l, all-least (putByte c b) w, ap (λ (t : Bool). (cond t (record { buffer = set c.buffer c.at b; at = c.at + 1 }) c).at) (le-ltb c.at (length c.buffer) m)))
+        absurd (omega (arith, l, all-least (put_byte c b) w, ap (λ (t : Bool). (cond t (record { buffer = set c.buffer c.at b; at = c.at + 1 }) c).at) (le-ltb c.at (length c.buffer) m)))
 
 -- a text that is put into zeros
 abbrev pub zeros : ℕ → List ℕ
@@ -289,59 +289,59 @@ unfolding spaced
 text-is w v ws =
     line-is w (v ∷ ws) ∙ sym (append_assoc (w ++ (32 ∷ [])) (v ++ spaced ws) (10 ∷ []) ∙ append_assoc w (32 ∷ []) ((v ++ spaced ws) ++ (10 ∷ [])))
 
-pub reply-text : (o : RowOutcome) (s : NetState) (n : ℕ) → line (decimal n ∷ replyWords o s) ≡ ((decimal n ++ (32 ∷ [])) ++ joined (replyWords o s)) ++ (10 ∷ [])
-reply-text ok s n = text-is (decimal n) (ascii "ok") (map decimal s.markings ++ (ascii "|" ∷ map transferWord s.transfers))
-reply-text (refused k v) s n = text-is (decimal n) (ascii "no") (decimal k ∷ valueWords v)
+pub reply-text : (o : RowOutcome) (s : NetState) (n : ℕ) → line (decimal n ∷ reply_words o s) ≡ ((decimal n ++ (32 ∷ [])) ++ joined (reply_words o s)) ++ (10 ∷ [])
+reply-text ok s n = text-is (decimal n) (ascii "ok") (map decimal s.markings ++ (ascii "|" ∷ map transfer_word s.transfers))
+reply-text (refused k v) s n = text-is (decimal n) (ascii "no") (decimal k ∷ value_words v)
 
-pub card-text : (n at : ℕ) → cardLine n at ≡ joined (refusalWords n (some at)) ++ (10 ∷ [])
+pub card-text : (n at : ℕ) → card_line n at ≡ joined (refusal_words n (some at)) ++ (10 ∷ [])
 card-text n at = line-is (ascii "no") (decimal n ∷ decimal at ∷ []) ∙ sym (append_assoc (ascii "no") (spaced (decimal n ∷ decimal at ∷ [])) (10 ∷ []))
 
 -- the words of a reply, from its three numbers
-module _ (o : RowOutcome) (k : Code) (e : k ≡ replyCode o) (s : NetState) (x : List ℕ) (at : ℕ) (z : List ℕ) (r : ℕ) where
-  words_of : (q : RowOutcome) → outcomeIn k ≡ q → Puts x at (joined (replyWords q s)) z r → Puts x at (joined (replyWords o s)) z r
-  words_of q i p = subst (λ (w : RowOutcome). Puts x at (joined (replyWords w s)) z r) (sym (outcome-of o k e ∙ i)) p
+module _ (o : RowOutcome) (k : Code) (e : k ≡ reply_code o) (s : NetState) (x : List ℕ) (at : ℕ) (z : List ℕ) (r : ℕ) where
+  words_of : (q : RowOutcome) → outcome_in k ≡ q → Puts x at (joined (reply_words q s)) z r → Puts x at (joined (reply_words o s)) z r
+  words_of q i p = subst (λ (w : RowOutcome). Puts x at (joined (reply_words w s)) z r) (sym (outcome-of o k e ∙ i)) p
 
-  pub ok-words : k.kind ≡ 0 → Puts x at (joined (stateWords s)) z r → Puts x at (joined (replyWords o s)) z r
+  pub ok-words : k.kind ≡ 0 → Puts x at (joined (state_words s)) z r → Puts x at (joined (reply_words o s)) z r
   ok-words i p = words_of ok (rw (eq-eqb k.kind 0 i)) p
 
-  pub plain-words : (k.kind ≡ 0 → ⊥) → k.kind ≡ 1 → Puts x at (joined (refusalWords k.number none)) z r → Puts x at (joined (replyWords o s)) z r
+  pub plain-words : (k.kind ≡ 0 → ⊥) → k.kind ≡ 1 → Puts x at (joined (refusal_words k.number none)) z r → Puts x at (joined (reply_words o s)) z r
   plain-words n i p = words_of (refused k.number none) (rw (ne_eqb k.kind 0 n, eq-eqb k.kind 1 i)) p
 
-  pub valued-words : (k.kind ≡ 0 → ⊥) → (k.kind ≡ 1 → ⊥) → Puts x at (joined (refusalWords k.number (some k.value))) z r → Puts x at (joined (replyWords o s)) z r
+  pub valued-words : (k.kind ≡ 0 → ⊥) → (k.kind ≡ 1 → ⊥) → Puts x at (joined (refusal_words k.number (some k.value))) z r → Puts x at (joined (reply_words o s)) z r
   valued-words n i p = words_of (refused k.number (some k.value)) (rw (ne_eqb k.kind 0 n, ne_eqb k.kind 1 i)) p
 
 -- the line of a row, and that of a card, part by part
 pub reply-done : (o : RowOutcome) (s : NetState) (n : ℕ) (y : List ℕ) (m : ℕ) (u : List ℕ) (k : ℕ) (v : List ℕ) (j : ℕ) (z : List ℕ) (r : ℕ) → n < 2 ^ 64
-    → Puts (replicate 4361 0) 0 (decimal n) y m → Puts y m (32 ∷ []) u k → Puts u k (joined (replyWords o s)) v j → j ≤ k + 4339 → Puts v j (10 ∷ []) z r
-    → IsPadded longest (line (decimal n ∷ replyWords o s)) z r
+    → Puts (replicate 4361 0) 0 (decimal n) y m → Puts y m (32 ∷ []) u k → Puts u k (joined (reply_words o s)) v j → j ≤ k + 4339 → Puts v j (10 ∷ []) z r
+    → IsPadded longest (line (decimal n ∷ reply_words o s)) z r
 reply-done o s n y m u k v j z r i a b c l d =
-    line-done ((decimal n ++ (32 ∷ [])) ++ joined (replyWords o s)) v j z r
-    (puts-join (replicate 4361 0) 0 (decimal n ++ (32 ∷ [])) u k (joined (replyWords o s)) v j (puts-join (replicate 4361 0) 0 (decimal n) y m (32 ∷ []) u k a b) c)
+    line-done ((decimal n ++ (32 ∷ [])) ++ joined (reply_words o s)) v j z r
+    (puts-join (replicate 4361 0) 0 (decimal n ++ (32 ∷ [])) u k (joined (reply_words o s)) v j (puts-join (replicate 4361 0) 0 (decimal n) y m (32 ∷ []) u k a b) c)
     (omega (arith, l, puts-most (replicate 4361 0) 0 (decimal n) y m a, decimal-long 19 n (omega arith), puts-most y m (32 ∷ []) u k b))
     d
-    (line (decimal n ∷ replyWords o s))
+    (line (decimal n ∷ reply_words o s))
     (reply-text o s n)
 
-pub card-done : (n at : ℕ) (y : List ℕ) (m : ℕ) (z : List ℕ) (r : ℕ) → Puts (replicate 4361 0) 0 (joined (refusalWords n (some at))) y m → m ≤ 44 → Puts y m (10 ∷ []) z r
-    → IsPadded longest (cardLine n at) z r
-card-done n at y m z r a l d = line-done (joined (refusalWords n (some at))) y m z r a (omega arith) d (cardLine n at) (card-text n at)
+pub card-done : (n at : ℕ) (y : List ℕ) (m : ℕ) (z : List ℕ) (r : ℕ) → Puts (replicate 4361 0) 0 (joined (refusal_words n (some at))) y m → m ≤ 44 → Puts y m (10 ∷ []) z r
+    → IsPadded longest (card_line n at) z r
+card-done n at y m z r a l d = line-done (joined (refusal_words n (some at))) y m z r a (omega arith) d (card_line n at) (card-text n at)
 
 -- a refusal's number, by another name
-pub numbered : (room n k at : ℕ) (bytes : List ℕ) (r : ℕ) → n ≡ k → IsPadded room (cardLine n at) bytes r → IsPadded room (cardLine k at) bytes r
-numbered room n k at bytes r e h = subst (λ (m : ℕ). IsPadded room (cardLine m at) bytes r) e h
+pub numbered : (room n k at : ℕ) (bytes : List ℕ) (r : ℕ) → n ≡ k → IsPadded room (card_line n at) bytes r → IsPadded room (card_line k at) bytes r
+numbered room n k at bytes r e h = subst (λ (m : ℕ). IsPadded room (card_line m at) bytes r) e h
 
 -- the first bytes of a buffer, as they are put
-pub first-none : (n : ℕ) (text x : List ℕ) (at : ℕ) → length text < n → Puts x at (firstBytes n text) x at
+pub first-none : (n : ℕ) (text x : List ℕ) (at : ℕ) → length text < n → Puts x at (first_bytes n text) x at
 first-none n text x at l = subst (λ (t : Bool). Puts x at (cond t (take n text) []) x at) (sym (lt-leb n (length text) l)) (puts_none x at)
 
-pub first-put : (n : ℕ) (text x : List ℕ) (at : ℕ) (y : List ℕ) (r : ℕ) → n ≤ length text → Puts x at (take n text) y r → Puts x at (firstBytes n text) y r
+pub first-put : (n : ℕ) (text x : List ℕ) (at : ℕ) (y : List ℕ) (r : ℕ) → n ≤ length text → Puts x at (take n text) y r → Puts x at (first_bytes n text) y r
 first-put n text x at y r l p = subst (λ (t : Bool). Puts x at (cond t (take n text) []) y r) (sym (le-leb n (length text) l)) p
 
 -- a line's text is its first bytes
 pub line-text : (text : List ℕ) (l : Line) → IsLine text l → take l.length l.bytes ≡ text
 line-text text l h = ap₂ (λ (n : ℕ) (xs : List ℕ). take n xs) h.length h.bytes ∙ take-append_seam text (replicate (longest - length text) 0)
 
-pub line-put : (text : List ℕ) (l : Line) (x : List ℕ) (at : ℕ) (y : List ℕ) (r : ℕ) → IsLine text l → Puts x at (firstBytes l.length l.bytes) y r → Puts x at text y r
+pub line-put : (text : List ℕ) (l : Line) (x : List ℕ) (at : ℕ) (y : List ℕ) (r : ℕ) → IsLine text l → Puts x at (first_bytes l.length l.bytes) y r → Puts x at text y r
 line-put text l x at y r h p =
     subst (λ (w : List ℕ). Puts x at w y r)
     (ap (λ (t : Bool). cond t (take l.length l.bytes) [])

@@ -6,24 +6,24 @@ use mathlib.Core.List.{List}
 use native.Mathlib.Omega.{arith}
 use lib.ListN.{length, take}
 use lib.Seq.{take_all}
-use Rattle.card.specs.Tables.{cardBytes}
+use Rattle.card.specs.Tables.{card_bytes}
 use Rattle.card.proofs.BitLaws.{lt-or-ge}
 use Rattle.card.proofs.LongInput.{long-input}
 use Rattle.hierarchy.specs.Judgement.{judged, judge}
-use Rattle.programs.specs.Programs.{runs, runProgram, flattens, flattenProgram}
+use Rattle.programs.specs.Programs.{runs, run_program, flattens, flatten_program}
 
-judge-reads : (card : List ℕ) → judge (take (cardBytes + 1) card) ≡ judge card
+judge-reads : (card : List ℕ) → judge (take (card_bytes + 1) card) ≡ judge card
 unfolding judge
-judge-reads card = go (lt-or-ge (length card) (cardBytes + 1))
+judge-reads card = go (lt-or-ge (length card) (card_bytes + 1))
   where
-    go : (length card < cardBytes + 1) ⊎ (cardBytes + 1 ≤ length card) → judge (take (cardBytes + 1) card) ≡ judge card
-    go (inl l) = ap judge (take_all (cardBytes + 1) card (omega (arith, l)))
+    go : (length card < card_bytes + 1) ⊎ (card_bytes + 1 ≤ length card) → judge (take (card_bytes + 1) card) ≡ judge card
+    go (inl l) = ap judge (take_all (card_bytes + 1) card (omega (arith, l)))
     go (inr l) = ap judged (long-input card l)
 
-pub flatten-reads : (card : List ℕ) → flattenProgram (take (cardBytes + 1) card) ≡ flattenProgram card
-unfolding flattenProgram
+pub flatten-reads : (card : List ℕ) → flatten_program (take (card_bytes + 1) card) ≡ flatten_program card
+unfolding flatten_program
 flatten-reads card = ap flattens (judge-reads card)
 
-pub run-reads : (card rows : List ℕ) → runProgram (take (cardBytes + 1) card) rows ≡ runProgram card rows
-unfolding runProgram
+pub run-reads : (card rows : List ℕ) → run_program (take (card_bytes + 1) card) rows ≡ run_program card rows
+unfolding run_program
 run-reads card rows = ap (λ j. runs j rows) (judge-reads card)

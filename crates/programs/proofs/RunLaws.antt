@@ -1,4 +1,4 @@
--- A run block by block: what is written over any cutting of the input is what `runProgram` says. Assumes nothing.
+-- A run block by block: what is written over any cutting of the input is what `run_program` says. Assumes nothing.
 use Prim.Native.Nat.{ℕ, suc, ◌+◌, ◌*◌, ◌≤◌, ◌<◌}
 use mathlib.Core.Path.{◌≡◌, refl, sym, ap, ap₂, ◌∙◌}
 use mathlib.Core.Bool.{Bool, true, false, cond, ◌&&◌}
@@ -17,15 +17,15 @@ use Rattle.hierarchy.proofs.Accepted.{accepted-meets}
 use Rattle.flattening.specs.Flattening.{flatten}
 use Rattle.runners.specs.Rows.{pieces}
 use Rattle.runners.specs.Calls.{view}
-use Rattle.runners.specs.Nets.{flatJudged}
+use Rattle.runners.specs.Nets.{flat_judged}
 use Rattle.runners.specs.Traces.{trace, observed}
 use Rattle.runners.specs.declared.State.{State as Lent}
 use Rattle.runners.proofs.PieceLaws.{pieces_none, pieces_more}
 use Rattle.programs.specs.Text.{decimal, line}
-use Rattle.programs.specs.Programs.{lines, replyWords, cardLine, runs, runProgram}
-use Rattle.programs.specs.Feeds.{fileCall}
+use Rattle.programs.specs.Programs.{lines, reply_words, card_line, runs, run_program}
+use Rattle.programs.specs.Feeds.{file_call}
 use Rattle.programs.specs.Lines.{longest}
-use Rattle.programs.specs.Runs.{Run, lastNumber, following, FileCall, answered, keeping, taken, feed, fedBlock, lastLine, overBlocks, rowSizeIn, firstText, firstRun, run_from, Fitting}
+use Rattle.programs.specs.Runs.{Run, last_number, following, FileCall, answered, keeping, taken, feed, fed_block, last_line, over_blocks, row_size_in, first_text, first_run, run_from, Fitting}
 use Rattle.programs.proofs.FeedLaws.{fed-lines}
 
 keeping_none : (r : Run) → keeping r [] ≡ r
@@ -81,12 +81,12 @@ module _ (size : ℕ) (call : FileCall) where
   abbrev written : Run → (bytes : List ℕ) → List ℕ
   written r bytes =
       let x = feed size call r bytes in
-      x.0 ++ lastLine call x.1
+      x.0 ++ last_line call x.1
 
   -- a row that is all there, or the short last one, and the rows behind it
   lines-row : (n : ℕ) (s : Lent) (row rest : List ℕ)
       → lines n (map observed (trace call s (row ∷ pieces size rest)))
-      ≡ line (decimal n ∷ replyWords (call s row).0 (view (call s row).1)) ++ lines (suc n) (map observed (trace call (call s row).1 (pieces size rest)))
+      ≡ line (decimal n ∷ reply_words (call s row).0 (view (call s row).1)) ++ lines (suc n) (map observed (trace call (call s row).1 (pieces size rest)))
   unfolding lines trace
   lines-row n s row rest = refl
 
@@ -96,8 +96,8 @@ module _ (size : ℕ) (call : FileCall) where
 
   -- the end of the input
   last-lines : (n : ℕ) (s : Lent) (left : List ℕ) → length left < size
-      → lastLine call (record { number = n; state = s; left = left }) ≡ lines n (map observed (trace call s (pieces size left)))
-  unfolding lastLine
+      → last_line call (record { number = n; state = s; left = left }) ≡ lines n (map observed (trace call s (pieces size left)))
+  unfolding last_line
   last-lines n s [] l = sym (lines_none n s (omega (arith, l)))
   last-lines n s (b ∷ left) l =
       let row = b ∷ left in
@@ -108,7 +108,7 @@ module _ (size : ℕ) (call : FileCall) where
       ∙ append-nil (answered call (record { number = n; state = s; left = row })).0)
 
   -- THE LINES OF AN INPUT, from a run somewhere in it
-  pub written-lines : (r : Run) (bytes : List ℕ) → length r.left < size → r.number + length bytes ≤ lastNumber → written r bytes ≡ lines_of r bytes
+  pub written-lines : (r : Run) (bytes : List ℕ) → length r.left < size → r.number + length bytes ≤ last_number → written r bytes ≡ lines_of r bytes
   unfolding feed
   written-lines r [] l f =
       last-lines r.number r.state r.left l ∙ sym (ap (λ (xs : List ℕ). lines r.number (map observed (trace call r.state (pieces size xs)))) (append-nil r.left))
@@ -118,13 +118,13 @@ module _ (size : ℕ) (call : FileCall) where
       k = keeping r (b ∷ [])
 
       both : List ℕ × Run → List ℕ
-      both x = (x.0 ++ (feed size call x.1 bytes).0) ++ lastLine call (feed size call x.1 bytes).1
+      both x = (x.0 ++ (feed size call x.1 bytes).0) ++ last_line call (feed size call x.1 bytes).1
 
       joined : (r.left ++ (b ∷ [])) ++ bytes ≡ r.left ++ (b ∷ bytes)
       joined = append_assoc r.left (b ∷ []) bytes
 
       go : (t : Bool) → eqb (length r.left + 1) size ≡ t
-          → ((q : Run) → length q.left < size → q.number + length bytes ≤ lastNumber → written q bytes ≡ lines_of q bytes)
+          → ((q : Run) → length q.left < size → q.number + length bytes ≤ last_number → written q bytes ≡ lines_of q bytes)
           → both (taken size call r b) ≡ lines_of r (b ∷ bytes)
       go true e h =
           let whole : length r.left + 1 ≡ size = eqb-true (length r.left + 1) size e in
@@ -133,7 +133,7 @@ module _ (size : ℕ) (call : FileCall) where
           let some : 0 < length (k.left ++ bytes) = omega (arith, long, l, length-append k.left bytes) in
           let rows : pieces size (k.left ++ bytes) ≡ k.left ∷ pieces size bytes = pieces_more size (k.left ++ bytes) (omega (arith, l)) some ∙ ap₂ (λ (u v : List ℕ). u ∷ pieces size v) (take_at k.left bytes size long) (drop_at k.left bytes size long) in
           let next : following r.number ≡ suc r.number = omega (arith, f) in
-          ap both (taken-row r b whole) ∙ append_assoc x.0 (feed size call x.1 bytes).0 (lastLine call (feed size call x.1 bytes).1)
+          ap both (taken-row r b whole) ∙ append_assoc x.0 (feed size call x.1 bytes).0 (last_line call (feed size call x.1 bytes).1)
           ∙ ap (λ (w : List ℕ). x.0 ++ w) (h x.1 (omega (arith, l)) (omega (arith, f, next)))
           ∙ ap (λ (n : ℕ). x.0 ++ lines n (map observed (trace call (call r.state k.left).1 (pieces size bytes)))) next
           ∙ sym (ap (λ (xs : List ℕ). lines r.number (map observed (trace call r.state (pieces size xs)))) (sym joined)
@@ -157,13 +157,13 @@ module _ (size : ℕ) (call : FileCall) where
       go false e = rw (taken-kept r b (eqb-false (length r.left + 1) size e)) (lt_of_le-ne (omega (arith, l, length-append r.left (b ∷ []))) (λ i. eqb-false (length r.left + 1) size e (omega (arith, i, length-append r.left (b ∷ [])))))
 
   -- a block that is taken, and one that is not
-  pub block-fed : (room : ℕ) (r : Run) (block : List ℕ) → longest * length block ≤ room → length r.left < size → fedBlock size call room r block ≡ feed size call r block
+  pub block-fed : (room : ℕ) (r : Run) (block : List ℕ) → longest * length block ≤ room → length r.left < size → fed_block size call room r block ≡ feed size call r block
   block-fed room r block f l = rw (le-leb (longest * length block) room f, lt-ltb (length r.left) size l) refl
 
-  pub block-tight : (room : ℕ) (r : Run) (block : List ℕ) → room < longest * length block → fedBlock size call room r block ≡ ([], r)
+  pub block-tight : (room : ℕ) (r : Run) (block : List ℕ) → room < longest * length block → fed_block size call room r block ≡ ([], r)
   block-tight room r block f = rw (lt-leb (longest * length block) room f) refl
 
-  pub block-over : (room : ℕ) (r : Run) (block : List ℕ) → size ≤ length r.left → fedBlock size call room r block ≡ ([], r)
+  pub block-over : (room : ℕ) (r : Run) (block : List ℕ) → size ≤ length r.left → fed_block size call room r block ≡ ([], r)
   block-over room r block l = rw (le-ltb (length r.left) size l) (go (leb (longest * length block) room))
     where
       go : (t : Bool) → cond (t && false) (feed size call r block) ([], r) ≡ ([], r)
@@ -172,41 +172,41 @@ module _ (size : ℕ) (call : FileCall) where
 
   -- blocks one after another
   over-written : (room : ℕ) (r : Run) (blocks : List (List ℕ)) → All (λ b. longest * length b ≤ room) blocks → length r.left < size
-      → overBlocks size call room r blocks ≡ written r (List.flatten blocks)
-  unfolding feed overBlocks List.flatten
+      → over_blocks size call room r blocks ≡ written r (List.flatten blocks)
+  unfolding feed over_blocks List.flatten
   over-written room r [] f l = refl
   over-written room r (b ∷ blocks) f l =
       let x = feed size call r b in
       let y = feed size call x.1 (List.flatten blocks) in
-      ap (λ (z : List ℕ × Run). z.0 ++ overBlocks size call room z.1 blocks) (block-fed room r b f.0 l)
+      ap (λ (z : List ℕ × Run). z.0 ++ over_blocks size call room z.1 blocks) (block-fed room r b f.0 l)
       ∙ ap (λ (w : List ℕ). x.0 ++ w) (over-written room x.1 blocks f.1 (feed-short r b l))
-      ∙ sym (append_assoc x.0 y.0 (lastLine call y.1))
-      ∙ sym (ap (λ (z : List ℕ × Run). z.0 ++ lastLine call z.1) (feed-append r b (List.flatten blocks)))
+      ∙ sym (append_assoc x.0 y.0 (last_line call y.1))
+      ∙ sym (ap (λ (z : List ℕ × Run). z.0 ++ last_line call z.1) (feed-append r b (List.flatten blocks)))
 
 -- a row of a card has bytes
-positive : (c : Card) → 1 ≤ c.signals → 0 < rowSizeIn (accepted (flatten c))
+positive : (c : Card) → 1 ≤ c.signals → 0 < row_size_in (accepted (flatten c))
 unfolding flatten
 positive c l = omega (arith, l)
 
 -- no block of rows without bytes is taken
-over_none : (call : FileCall) (room : ℕ) (r : Run) (blocks : List (List ℕ)) → r.left ≡ [] → overBlocks 0 call room r blocks ≡ []
-unfolding overBlocks lastLine
+over_none : (call : FileCall) (room : ℕ) (r : Run) (blocks : List (List ℕ)) → r.left ≡ [] → over_blocks 0 call room r blocks ≡ []
+unfolding over_blocks last_line
 over_none call room r [] e = rw e refl
 over_none call room r (b ∷ blocks) e =
-    ap (λ (z : List ℕ × Run). z.0 ++ overBlocks 0 call room z.1 blocks) (block-over 0 call room r b (omega arith)) ∙ over_none call room r blocks e
+    ap (λ (z : List ℕ × Run). z.0 ++ over_blocks 0 call room z.1 blocks) (block-over 0 call room r b (omega arith)) ∙ over_none call room r blocks e
 
--- OVER ANY CUTTING OF THE INPUT INTO BLOCKS that the buffer has room for, the program writes what `runProgram` says.
-pub any-cutting : (room : ℕ) (card : List ℕ) (r : Run) (blocks : List (List ℕ)) → r ≡ firstRun card → Fitting room blocks → run_from room card r blocks ≡ runProgram card (List.flatten blocks)
-unfolding run_from runProgram
+-- OVER ANY CUTTING OF THE INPUT INTO BLOCKS that the buffer has room for, the program writes what `run_program` says.
+pub any-cutting : (room : ℕ) (card : List ℕ) (r : Run) (blocks : List (List ℕ)) → r ≡ first_run card → Fitting room blocks → run_from room card r blocks ≡ run_program card (List.flatten blocks)
+unfolding run_from run_program
 any-cutting room card r blocks same fitting = ap (λ (q : Run). run_from room card q blocks) same ∙ go (judge card) refl
   where
     go : (j : Judgement) → judge card ≡ j
-        → firstText j ++ overBlocks (rowSizeIn (flatJudged j)) (fileCall (flatJudged j)) room (firstRun card) blocks ≡ runs j (List.flatten blocks)
+        → first_text j ++ over_blocks (row_size_in (flat_judged j)) (file_call (flat_judged j)) room (first_run card) blocks ≡ runs j (List.flatten blocks)
     go (refused k at) e =
-        ap (λ (w : List ℕ). cardLine k at ++ w) (over_none (fileCall (refused k at)) room (firstRun card) blocks refl) ∙ append-nil (cardLine k at)
+        ap (λ (w : List ℕ). card_line k at ++ w) (over_none (file_call (refused k at)) room (first_run card) blocks refl) ∙ append-nil (card_line k at)
     go (accepted c) e =
-        let size = rowSizeIn (accepted (flatten c)) in
-        let call = fileCall (flatJudged (accepted c)) in
-        let some : 0 < size = positive c (accepted-meets card c e).wellformed.someSignals in
-        over-written size call room (firstRun card) blocks fitting.fit some ∙ written-lines size call (firstRun card) (List.flatten blocks) some (omega (arith, fitting.few))
+        let size = row_size_in (accepted (flatten c)) in
+        let call = file_call (flat_judged (accepted c)) in
+        let some : 0 < size = positive c (accepted-meets card c e).wellformed.some_signals in
+        over-written size call room (first_run card) blocks fitting.fit some ∙ written-lines size call (first_run card) (List.flatten blocks) some (omega (arith, fitting.few))
         ∙ fed-lines card c e (pieces size (List.flatten blocks))

@@ -1,53 +1,53 @@
 -- Both runners on a file of calls: a corollary of Demand 3 as a function of the code.
 use Rattle.std.specs.Prelude.{ℕ, ◌+◌, ◌*◌, ◌/◌, ◌≡◌, ◌↔◌, Bool, true, false, List, map, length, take, drop}
 use Rattle.card.specs.Finite.{table, All}
-use Rattle.card.specs.Bits.{bytesFor}
+use Rattle.card.specs.Bits.{bytes_for}
 use Rattle.card.specs.Card.{Card}
 use Rattle.hierarchy.specs.Judgement.{accepted, judge}
 use Rattle.hierarchy.specs.Judgement
-use Rattle.runners.specs.Rows.{row, rowWidth, row_of}
-use Rattle.runners.specs.Calls.{freshCall, inState, eachOnce, flatAsk, subnetAsk}
-use Rattle.runners.specs.Traces.{Call, flatTrace, subnetTrace, observed}
+use Rattle.runners.specs.Rows.{row, row_width, row_of}
+use Rattle.runners.specs.Calls.{fresh_call, in_state, each_once, flat_ask, subnet_ask}
+use Rattle.runners.specs.Traces.{Call, flat_trace, subnet_trace, observed}
 use Rattle.runners.specs.declared.Transfer.{Transfer}
 use Rattle.runners.specs.declared.Transfer.TheVariants.{Idle, Carrying}
 use Rattle.runners.specs.declared.State.{State as Lent}
 use Rattle.programs.specs.declared.agree.Both.{Both}
 
 -- Calls in a file: a row's bytes as in a rows file, and then the visiting order, a byte a subnet.
-abbrev pub rowSize : Card → ℕ
-rowSize c = bytesFor (rowWidth c)
+abbrev pub row_size : Card → ℕ
+row_size c = bytes_for (row_width c)
 
-abbrev pub callSize : Card → ℕ
-callSize c = rowSize c + length c.subnets
+abbrev pub call_size : Card → ℕ
+call_size c = row_size c + length c.subnets
 
 abbrev pub call_of : Card → (bytes : List ℕ) → Call
-call_of c bytes = record { ask = row (row_of c (take (rowSize c) bytes)); order = drop (rowSize c) bytes }
+call_of c bytes = record { ask = row (row_of c (take (row_size c) bytes)); order = drop (row_size c) bytes }
 
 abbrev pub call_at : Card → (file : List ℕ) → (k : ℕ) → Call
-call_at c file k = call_of c (take (callSize c) (drop (callSize c * k) file))
+call_at c file k = call_of c (take (call_size c) (drop (call_size c * k) file))
 
 -- a short last piece is no call
 abbrev pub calls_of : Card → (file : List ℕ) → List Call
-calls_of c file = table 0 (length file / callSize c) (call_at c file)
+calls_of c file = table 0 (length file / call_size c) (call_at c file)
 
 -- the replies of both runners and the states after them are equal, call by call, each runner from its own state
 abbrev pub Agrees : (card : List ℕ) → (flat subnet : Lent) → List Call → Type 0
-Agrees card flat subnet calls = map observed (subnetTrace card subnet calls) ≡ map observed (flatTrace card flat calls)
+Agrees card flat subnet calls = map observed (subnet_trace card subnet calls) ≡ map observed (flat_trace card flat calls)
 
 -- One answer for each card and file: no for a refused card; else whether both runners agree from fresh states, which they do wherever the
 -- orders are valid.
 pub record IsAgreed (card file : List ℕ) (r : Bool) : Type 0 where
-  pub turnedBack : (n at : ℕ) → judge card ≡ Judgement.refused n at → r ≡ false
-  pub exact : (c : Card) → judge card ≡ accepted c → (r ≡ true) ↔ Agrees card (freshCall card).1 (freshCall card).1 (calls_of c file)
-  pub always : (c : Card) → judge card ≡ accepted c → All (λ k. eachOnce (length c.subnets) k.order ≡ true) (calls_of c file) → r ≡ true
+  pub turned_back : (n at : ℕ) → judge card ≡ Judgement.refused n at → r ≡ false
+  pub exact : (c : Card) → judge card ≡ accepted c → (r ≡ true) ↔ Agrees card (fresh_call card).1 (fresh_call card).1 (calls_of c file)
+  pub always : (c : Card) → judge card ≡ accepted c → All (λ k. each_once (length c.subnets) k.order ≡ true) (calls_of c file) → r ≡ true
 
 -- a call of both runners, as the code hands it out
 pub record IsBoth (card : List ℕ) (k : Call) (x y : Lent) (r : Both) : Type 0 where
-  pub same : (r.same ≡ true) ↔ (observed (subnetAsk inState card k.order y k.ask) ≡ observed (flatAsk inState card x k.ask))
-  pub flat : r.flat ≡ (flatAsk inState card x k.ask).1
-  pub subnet : r.subnet ≡ (subnetAsk inState card k.order y k.ask).1
+  pub same : (r.same ≡ true) ↔ (observed (subnet_ask in_state card k.order y k.ask) ≡ observed (flat_ask in_state card x k.ask))
+  pub flat : r.flat ≡ (flat_ask in_state card x k.ask).1
+  pub subnet : r.subnet ≡ (subnet_ask in_state card k.order y k.ask).1
 
 -- A transfer as a number, so that two are compared.
-abbrev pub progressCode : Transfer → ℕ
-progressCode Idle = 0
-progressCode (Carrying c) = c + 1
+abbrev pub progress_code : Transfer → ℕ
+progress_code Idle = 0
+progress_code (Carrying c) = c + 1

@@ -4,19 +4,19 @@ use Rattle.std.specs.Prelude.{ℕ, length, take, drop}
 use mathlib.Core.List.{List, [], ◌∷◌, flat_map}
 use Rattle.std.proofs.Math.Option.{some}
 use Rattle.card.specs.Bits.{bits_of, pack}
-use Rattle.card.specs.Card.{Card, Subnet, Place, Transition, Arc, normal, input, inOut, draws, fills, withVersion}
+use Rattle.card.specs.Card.{Card, Subnet, Place, Transition, Arc, normal, input, in_out, draws, fills, with_version}
 use Rattle.card.specs.Writing.{encode}
 use Rattle.hierarchy.specs.Numbers.{CheckOutcome, accepted, refused}
 use Rattle.hierarchy.specs.Judgement.{answer}
 use Rattle.runners.specs.Numbers.{RowOutcome}
 use Rattle.runners.specs.State.{NetState}
-use Rattle.runners.specs.Calls.{store, blank, flatCall, subnetCall}
+use Rattle.runners.specs.Calls.{store, blank, flat_call, subnet_call}
 use Rattle.runners.specs.Traces.{observed}
 use Rattle.runners.specs.declared.Transfer.{Transfer}
 use Rattle.runners.specs.declared.Transfer.TheVariants.{Idle, Carrying}
 use Rattle.runners.specs.declared.State.{State as Lent}
 use Rattle.programs.specs.Text.{ascii}
-use Rattle.programs.specs.Programs.{runProgram}
+use Rattle.programs.specs.Programs.{run_program}
 
 -- tables, given to the writer; a card's bytes, given to the check; a card's bytes and the degrees of rows, given to the run program; a card's
 -- bytes, a visiting order, a state and a row, lent to a call of each runner
@@ -32,8 +32,8 @@ pub data Result : Type 0 where
   prints : (text : List ℕ) → Result
   replies : (flat subnets : RowOutcome × NetState) → Result
 
-abbrev pub rowsFile : List (List ℕ) → List ℕ
-rowsFile = flat_map (λ row. pack (flat_map (bits_of 10) row))
+abbrev pub rows_file : List (List ℕ) → List ℕ
+rows_file = flat_map (λ row. pack (flat_map (bits_of 10) row))
 
 -- a state as a call is lent it
 abbrev pub lent : NetState → Lent
@@ -42,8 +42,8 @@ lent s = store (blank (length s.markings) (length s.transfers) (length s.degrees
 abbrev pub result : Input → Result
 result (bytes_of tables) = spells (encode tables)
 result (check-of card) = answers (answer card)
-result (run_of card rows) = prints (runProgram card (rowsFile rows))
-result (call-of card order s r) = replies (observed (flatCall card (lent s) r)) (observed (subnetCall card order (lent s) r))
+result (run_of card rows) = prints (run_program card (rows_file rows))
+result (call-of card order s r) = replies (observed (flat_call card (lent s) r)) (observed (subnet_call card order (lent s) r))
 
 pub record Case : Type 0 where
   pub given : Input
@@ -70,8 +70,8 @@ abbrev pub to : (subnet place weight : ℕ) → Arc
 to subnet place weight = record { direction = fills; subnet = subnet; place = place; weight = weight }
 
 -- Bench card A, by what the cases change in it: subnet 1's parent, the kind of place (1,0), subnet 0's second arc
-abbrev pub tablesA : (parent kind : ℕ) → Arc → Card
-tablesA parent kind second =
+abbrev pub tables_a : (parent kind : ℕ) → Arc → Card
+tables_a parent kind second =
     record {
       version = 1;
       signals = 2;
@@ -84,14 +84,14 @@ tablesA parent kind second =
     }
 
 abbrev pub bench : (parent kind : ℕ) → Arc → List ℕ
-bench parent kind second = encode (tablesA parent kind second)
+bench parent kind second = encode (tables_a parent kind second)
 
 abbrev pub A : List ℕ
 A = bench 0 input (to 1 0 1)
 
 -- CR 3: bench card A as another version
-abbrev pub versionA : (version : ℕ) → Card
-versionA version = withVersion version (tablesA 0 input (to 1 0 1))
+abbrev pub version_a : (version : ℕ) → Card
+version_a version = with_version version (tables_a 0 input (to 1 0 1))
 
 -- place 0 and two takers of weight w, each of which fills an empty place of its own: card B has capacity, tokens and weight 1
 abbrev pub takers : (capacity tokens w : ℕ) → List ℕ
@@ -133,7 +133,7 @@ looped capacity first second third =
       limit = 0;
       scale = 0;
       subnets = subnet 0 0 1 1 ∷ subnet 0 0 2 1 ∷ [];
-      places = place normal 1 0 ∷ place inOut capacity 1 ∷ place normal 1 0 ∷ [];
+      places = place normal 1 0 ∷ place in_out capacity 1 ∷ place normal 1 0 ∷ [];
       transitions = transition 0 3 ∷ transition 1 2 ∷ [];
       arcs = first ∷ second ∷ third ∷ from 1 0 1 ∷ to 1 1 1 ∷ [];
     })
@@ -158,7 +158,7 @@ both o s = replies (o, s) (o, s)
 
 abbrev pub cases : List Case
 cases =
-    bytes_of (tablesA 0 input (to 1 0 1)) gives spells (0x10 ∷ 0x82 ∷ 0x00 ∷ 0x00 ∷ 0x40 ∷ 0x40 ∷ 0x10 ∷ 0x10 ∷ 0x04 ∷ 0x00 ∷ 0x00 ∷ 0x0c ∷ 0x20
+    bytes_of (tables_a 0 input (to 1 0 1)) gives spells (0x10 ∷ 0x82 ∷ 0x00 ∷ 0x00 ∷ 0x40 ∷ 0x40 ∷ 0x10 ∷ 0x10 ∷ 0x04 ∷ 0x00 ∷ 0x00 ∷ 0x0c ∷ 0x20
     ∷ 0x00 ∷ 0x20 ∷ 0x00 ∷ 0x10 ∷ 0x0a ∷ 0x02 ∷ 0x00 ∷ 0x01 ∷ 0x00 ∷ 0x02 ∷ 0x20 ∷ 0x40 ∷ 0x00 ∷ 0x61 ∷ 0x01 ∷ 0x01 ∷ [])
     ∷ check-of A gives answers (accepted 2 3 2)
     ∷ check-of [] gives answers (refused 1 0)
@@ -186,11 +186,11 @@ cases =
     ∷ check-of (looped 2 (from 1 0 1) (to 1 0 1) (from 1 0 2)) gives answers (refused 13 115)
     ∷ check-of (looped 3 (from 1 0 2) (to 1 0 2) (to 0 0 1)) gives answers (refused 26 93)
     ∷ check-of (looped 3 (to 1 0 2) (from 1 0 2) (to 0 0 1)) gives answers (refused 26 93)
-    ∷ bytes_of (versionA 2) gives spells (0x20 ∷ 0x82 ∷ drop 2 A)
-    ∷ check-of (encode (versionA 0)) gives answers (refused 2 0)
-    ∷ check-of (encode (versionA 3)) gives answers (refused 2 0)
-    ∷ run_of (encode (versionA 2)) (row 1000 0 ∷ row 1000 1000 ∷ []) gives prints (ascii "1 ok 0 1000 0 | - -\n2 ok 0 0 1000 | - -\n")
-    ∷ run_of (encode (versionA 2)) (row 1000 300 ∷ row 1000 300 ∷ row 1000 700 ∷ row 1000 0 ∷ row 1000 200 ∷ []) gives prints (ascii
+    ∷ bytes_of (version_a 2) gives spells (0x20 ∷ 0x82 ∷ drop 2 A)
+    ∷ check-of (encode (version_a 0)) gives answers (refused 2 0)
+    ∷ check-of (encode (version_a 3)) gives answers (refused 2 0)
+    ∷ run_of (encode (version_a 2)) (row 1000 0 ∷ row 1000 1000 ∷ []) gives prints (ascii "1 ok 0 1000 0 | - -\n2 ok 0 0 1000 | - -\n")
+    ∷ run_of (encode (version_a 2)) (row 1000 300 ∷ row 1000 300 ∷ row 1000 700 ∷ row 1000 0 ∷ row 1000 200 ∷ []) gives prints (ascii
     "1 ok 0 1000 0 | - -\n2 ok 0 700 300 | - 300\n3 ok 0 300 700 | - 700\n4 ok 0 300 700 | - 700\n5 ok 0 100 900 | - 900\n")
-    ∷ call-of (encode (versionA 2)) (1 ∷ 0 ∷ []) (state 0 1000 0 Idle Idle 1000 500) empty gives both RowOutcome.ok (state 0 500 500 Idle (Carrying 500) 1000 500)
+    ∷ call-of (encode (version_a 2)) (1 ∷ 0 ∷ []) (state 0 1000 0 Idle Idle 1000 500) empty gives both RowOutcome.ok (state 0 500 500 Idle (Carrying 500) 1000 500)
     ∷ []

@@ -1,6 +1,6 @@
 -- A line as it is put together in a lent buffer, word after word, and the line that the code hands out.
 use Rattle.std.specs.Prelude.{ℕ, ◌+◌, ◌-◌, ◌≤◌, ◌≡◌, cond, List, [], ◌∷◌, ◌++◌, length, set, take, replicate, leb, ltb}
-use Rattle.card.specs.Tables.{cardBytes}
+use Rattle.card.specs.Tables.{card_bytes}
 use Rattle.runners.specs.Numbers.{progress}
 use Rattle.programs.specs.Text.{ascii}
 use Rattle.programs.specs.Programs.{or_else}
@@ -14,21 +14,21 @@ pub record Cursor : Type 0 where
   pub at : ℕ
 
 -- a byte is put in its place, and nothing past the end
-abbrev pub putByte : Cursor → ℕ → Cursor
-putByte c b = cond (ltb c.at (length c.buffer)) (record { buffer = set c.buffer c.at b; at = c.at + 1 }) c
+abbrev pub put_byte : Cursor → ℕ → Cursor
+put_byte c b = cond (ltb c.at (length c.buffer)) (record { buffer = set c.buffer c.at b; at = c.at + 1 }) c
 
 -- bytes one after another
 unfoldable pub put_all : Cursor → List ℕ → Cursor
 put_all c [] = c
-put_all c (b ∷ bytes) = put_all (putByte c b) bytes
+put_all c (b ∷ bytes) = put_all (put_byte c b) bytes
 
 -- what a function that puts bytes leaves
 pub record Puts (before : List ℕ) (at : ℕ) (bytes after : List ℕ) (end : ℕ) : Type 0 where
   pub is : record { buffer = after; at = end } ≡ put_all (record { buffer = before; at = at }) bytes
 
 -- the first n bytes; none, if there are fewer
-abbrev pub firstBytes : (n : ℕ) → (bytes : List ℕ) → List ℕ
-firstBytes n bytes = cond (leb n (length bytes)) (take n bytes) []
+abbrev pub first_bytes : (n : ℕ) → (bytes : List ℕ) → List ℕ
+first_bytes n bytes = cond (leb n (length bytes)) (take n bytes) []
 
 -- words with a space before each
 unfoldable pub spaced : List (List ℕ) → List ℕ
@@ -41,8 +41,8 @@ joined [] = []
 joined (w ∷ ws) = w ++ spaced ws
 
 -- the progress of a transfer as a word
-abbrev pub transferWord : Transfer → List ℕ
-transferWord x = or_else (ascii "-") (progress x)
+abbrev pub transfer_word : Transfer → List ℕ
+transfer_word x = or_else (ascii "-") (progress x)
 
 -- how many bytes the longest line has
 abbrev pub longest : ℕ
@@ -59,4 +59,4 @@ IsLine text l = IsPadded longest text l.bytes l.length
 
 -- what the flatten program writes, as the code hands it out
 abbrev pub IsFlatText : (text : List ℕ) → FlatText → Type 0
-IsFlatText text t = IsPadded cardBytes text t.bytes t.length
+IsFlatText text t = IsPadded card_bytes text t.bytes t.length

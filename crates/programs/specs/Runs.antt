@@ -1,19 +1,19 @@
 -- A run of the program `run`, as its input comes in: block by block, and the end ('Bench card A'). proofs/RunLaws.antt shows that over any
--- cutting of the input into blocks this writes what `runProgram` says.
+-- cutting of the input into blocks this writes what `run_program` says.
 use Rattle.std.specs.Prelude.{ℕ, suc, ◌-◌, ◌*◌, ◌^◌, ◌≤◌, ◌<◌, min, ◌≡◌, Bool, true, false, ◌&&◌, cond, List, [], ◌∷◌, ◌++◌, map, length, take, eqb, leb, ltb}
 use mathlib.Core.List
 use Rattle.card.specs.Finite.{All}
-use Rattle.card.specs.Bits.{bytesFor}
-use Rattle.card.specs.Spelling.{putInto}
+use Rattle.card.specs.Bits.{bytes_for}
+use Rattle.card.specs.Spelling.{put_into}
 use Rattle.hierarchy.specs.Judgement.{Judgement, accepted, refused, judge}
 use Rattle.runners.specs.Numbers.{RowOutcome}
-use Rattle.runners.specs.Rows.{rowWidth}
-use Rattle.runners.specs.Calls.{view, freshCall}
-use Rattle.runners.specs.Nets.{flatJudged, IsNet}
+use Rattle.runners.specs.Rows.{row_width}
+use Rattle.runners.specs.Calls.{view, fresh_call}
+use Rattle.runners.specs.Nets.{flat_judged, IsNet}
 use Rattle.runners.specs.declared.State.{State as Lent}
 use Rattle.programs.specs.Text.{decimal, line}
-use Rattle.programs.specs.Programs.{replyWords, cardLine, runProgram}
-use Rattle.programs.specs.Feeds.{fileCall}
+use Rattle.programs.specs.Programs.{reply_words, card_line, run_program}
+use Rattle.programs.specs.Feeds.{file_call}
 use Rattle.programs.specs.Lines.{longest, IsLine}
 use Rattle.programs.specs.declared.line.Line.{Line}
 use Rattle.programs.specs.declared.blocks.Progress.{Progress}
@@ -27,11 +27,11 @@ pub record Run : Type 0 where
   pub left : List ℕ
 
 -- Rows are counted in 64 bits, and the last number stays.
-abbrev pub lastNumber : ℕ
-lastNumber = 2 ^ 64 - 1
+abbrev pub last_number : ℕ
+last_number = 2 ^ 64 - 1
 
 abbrev pub following : ℕ → ℕ
-following n = min (suc n) lastNumber
+following n = min (suc n) last_number
 
 abbrev pub FileCall : Type 0
 FileCall = Lent → (row : List ℕ) → RowOutcome × Lent
@@ -40,7 +40,7 @@ FileCall = Lent → (row : List ℕ) → RowOutcome × Lent
 abbrev pub answered : FileCall → Run → List ℕ × Run
 answered call r =
     let x = call r.state r.left in
-    (line (decimal r.number ∷ replyWords x.0 (view x.1)), record { number = following r.number; state = x.1; left = [] })
+    (line (decimal r.number ∷ reply_words x.0 (view x.1)), record { number = following r.number; state = x.1; left = [] })
 
 -- bytes that are there too
 abbrev pub keeping : Run → List ℕ → Run
@@ -59,57 +59,57 @@ feed size call r (b ∷ bytes) =
     (x.0 ++ y.0, y.1)
 
 -- A block is taken if a buffer has room for the longest line for each of its bytes. Where rows have no bytes (of a refused card), none is.
-abbrev pub fedBlock : (size : ℕ) → FileCall → (room : ℕ) → Run → (block : List ℕ) → List ℕ × Run
-fedBlock size call room r block = cond (leb (longest * length block) room && ltb (length r.left) size) (feed size call r block) ([], r)
+abbrev pub fed_block : (size : ℕ) → FileCall → (room : ℕ) → Run → (block : List ℕ) → List ℕ × Run
+fed_block size call room r block = cond (leb (longest * length block) room && ltb (length r.left) size) (feed size call r block) ([], r)
 
 -- The input ends: a short last row gets its line.
-unfoldable pub lastLine : FileCall → Run → List ℕ
-lastLine call r = cond (eqb (length r.left) 0) [] (answered call r).0
+unfoldable pub last_line : FileCall → Run → List ℕ
+last_line call r = cond (eqb (length r.left) 0) [] (answered call r).0
 
 -- all that is written for the blocks of an input and its end
-unfoldable pub overBlocks : (size : ℕ) → FileCall → (room : ℕ) → Run → (blocks : List (List ℕ)) → List ℕ
-overBlocks size call room r [] = lastLine call r
-overBlocks size call room r (b ∷ blocks) =
-    let x = fedBlock size call room r b in
-    x.0 ++ overBlocks size call room x.1 blocks
+unfoldable pub over_blocks : (size : ℕ) → FileCall → (room : ℕ) → Run → (blocks : List (List ℕ)) → List ℕ
+over_blocks size call room r [] = last_line call r
+over_blocks size call room r (b ∷ blocks) =
+    let x = fed_block size call room r b in
+    x.0 ++ over_blocks size call room x.1 blocks
 
 -- of a card: how many bytes a row has, what is written before the first row, and the run in front of it
-abbrev pub rowSizeIn : Judgement → ℕ
-rowSizeIn (accepted c) = bytesFor (rowWidth c)
-rowSizeIn (refused n at) = 0
+abbrev pub row_size_in : Judgement → ℕ
+row_size_in (accepted c) = bytes_for (row_width c)
+row_size_in (refused n at) = 0
 
-abbrev pub firstText : Judgement → List ℕ
-firstText (accepted c) = []
-firstText (refused n at) = cardLine n at
+abbrev pub first_text : Judgement → List ℕ
+first_text (accepted c) = []
+first_text (refused n at) = card_line n at
 
-abbrev pub firstRun : (card : List ℕ) → Run
-firstRun card = record { number = 1; state = (freshCall card).1; left = [] }
+abbrev pub first_run : (card : List ℕ) → Run
+first_run card = record { number = 1; state = (fresh_call card).1; left = [] }
 
 -- ALL THAT THE PROGRAM WRITES, with a buffer of so much room for a block's lines, from the run in front of the first row
 unfoldable pub run_from : (room : ℕ) → (card : List ℕ) → Run → (blocks : List (List ℕ)) → List ℕ
 run_from room card r blocks =
-    let j = flatJudged (judge card) in
-    firstText (judge card) ++ overBlocks (rowSizeIn j) (fileCall j) room r blocks
+    let j = flat_judged (judge card) in
+    first_text (judge card) ++ over_blocks (row_size_in j) (file_call j) room r blocks
 
 -- The buffer has room for each block's lines, and rows can be counted: an input has fewer than 2^64 - 1 bytes.
 pub record Fitting (room : ℕ) (blocks : List (List ℕ)) : Type 0 where
   pub fit : All (λ b. longest * length b ≤ room) blocks
-  pub few : length (List.flatten blocks) < lastNumber
+  pub few : length (List.flatten blocks) < last_number
 
 -- a run as the code keeps it
-abbrev pub runIn : Progress → Run
-runIn p = record { number = p.number; state = p.state; left = take p.have p.left }
+abbrev pub run_in : Progress → Run
+run_in p = record { number = p.number; state = p.state; left = take p.have p.left }
 
-abbrev pub isAccepted : Judgement → Bool
-isAccepted (accepted c) = true
-isAccepted (refused n at) = false
+abbrev pub is_accepted : Judgement → Bool
+is_accepted (accepted c) = true
+is_accepted (refused n at) = false
 
 -- what the code hands out for a block: the lines stand at the buffer's front, and what stood behind them still does
 pub record IsTurn (x : List ℕ × Run) (before : List ℕ) (r : Turn) (after : List ℕ) : Type 0 where
   pub fits : length x.0 ≤ length before
   pub length : r.length ≡ length x.0
-  pub lines : after ≡ putInto x.0 before
-  pub run : runIn r.progress ≡ x.1
+  pub lines : after ≡ put_into x.0 before
+  pub run : run_in r.progress ≡ x.1
 
 -- A call of `answer_block`: the block, the lent buffer before and after it, and what it returned.
 pub record BlockCall : Type 0 where
@@ -123,7 +123,7 @@ abbrev pub Follow : Judgement → (room : ℕ) → Progress → List BlockCall �
 Follow j room p [] = Unit {0}
 Follow j room p (k ∷ calls) =
     (length k.before ≡ room)
-    × IsTurn (fedBlock (rowSizeIn j) (fileCall j) (length k.before) (runIn p) k.block) k.before k.turn k.after
+    × IsTurn (fed_block (row_size_in j) (file_call j) (length k.before) (run_in p) k.block) k.before k.turn k.after
     × Follow j room k.turn.progress calls
 
 -- the run behind them, and the bytes that they hand out
@@ -131,17 +131,17 @@ unfoldable pub behind : Progress → List BlockCall → Progress
 behind p [] = p
 behind p (k ∷ calls) = behind k.turn.progress calls
 
-unfoldable pub handedOut : List BlockCall → List ℕ
-handedOut [] = []
-handedOut (k ∷ calls) = take k.turn.length k.after ++ handedOut calls
+unfoldable pub handed_out : List BlockCall → List ℕ
+handed_out [] = []
+handed_out (k ∷ calls) = take k.turn.length k.after ++ handed_out calls
 
 -- What the code hands out before the first block. Whatever calls follow, over any cutting of the input into blocks, with the line that the end
 -- gets: all the bytes that are handed out are the program's.
 pub record IsStart (card : List ℕ) (r : Start) : Type 0 where
-  pub runs : r.runs ≡ isAccepted (judge card)
-  pub net : IsNet (flatJudged (judge card)) r.net
-  pub run : runIn r.progress ≡ firstRun card
-  pub text : IsLine (firstText (judge card)) r.line
-  pub program : (room : ℕ) (calls : List BlockCall) (last : Line) → Follow (flatJudged (judge card)) room r.progress calls
-      → IsLine (lastLine (fileCall (flatJudged (judge card))) (runIn (behind r.progress calls))) last → Fitting room (map (λ k. k.block) calls)
-      → take r.line.length r.line.bytes ++ (handedOut calls ++ take last.length last.bytes) ≡ runProgram card (List.flatten (map (λ k. k.block) calls))
+  pub runs : r.runs ≡ is_accepted (judge card)
+  pub net : IsNet (flat_judged (judge card)) r.net
+  pub run : run_in r.progress ≡ first_run card
+  pub text : IsLine (first_text (judge card)) r.line
+  pub program : (room : ℕ) (calls : List BlockCall) (last : Line) → Follow (flat_judged (judge card)) room r.progress calls
+      → IsLine (last_line (file_call (flat_judged (judge card))) (run_in (behind r.progress calls))) last → Fitting room (map (λ k. k.block) calls)
+      → take r.line.length r.line.bytes ++ (handed_out calls ++ take last.length last.bytes) ≡ run_program card (List.flatten (map (λ k. k.block) calls))

@@ -1,9 +1,9 @@
 // Both runners on a file of calls. A call is a row's bytes as in a rows file, and then the visiting order, a byte a subnet.
 ghost use Rattle.std.specs.Prelude.{◌≡◌, ◌↔◌, true, ◌≤◌, ◌-◌, ◌<◌, length, replicate};
 ghost use Rattle.card.specs.Card.{Card};
-ghost use Rattle.card.specs.Spelling.{putInto};
-ghost use Rattle.runners.specs.Rows.{Ask, degrees, noRow};
-ghost use Rattle.programs.specs.Agreeing.{IsBoth, IsAgreed, Agrees, call_of, calls_of, rowSize};
+ghost use Rattle.card.specs.Spelling.{put_into};
+ghost use Rattle.runners.specs.Rows.{Ask, degrees, no_row};
+ghost use Rattle.programs.specs.Agreeing.{IsBoth, IsAgreed, Agrees, call_of, calls_of, row_size};
 
 use crate::file::{row_bytes, row_of};
 use crate::same::{same_reply, same_state};
@@ -47,7 +47,7 @@ fn both_rows(card: &[u8], order: &[u16], row: &[u16], flat: State, subnet: State
 
 // The numbers of an order's bytes, 32 at most, and zeros behind them.
 fn order_of(bytes: &[u8]) -> [u16; MOST_SUBNETS]
-    ensures { length bytes.now ≤ 32 → result ≡ putInto bytes.now (replicate 32 0) }
+    ensures { length bytes.now ≤ 32 → result ≡ put_into bytes.now (replicate 32 0) }
 {
     let mut order = [0; MOST_SUBNETS];
     let mut i: usize = 0;
@@ -64,7 +64,7 @@ fn order_of(bytes: &[u8]) -> [u16; MOST_SUBNETS]
 // Where bytes hold no row. No card has as many signals as this row has degrees, so that both runners refuse it; a row of none would be an empty
 // row, which they take.
 fn both_without_row(card: &[u8], order: &[u16], flat: State, subnet: State) -> Both
-    ensures { IsBoth card.now (record { ask = Ask.row noRow; order = order.now }) flat subnet result }
+    ensures { IsBoth card.now (record { ask = Ask.row no_row; order = order.now }) flat subnet result }
 {
     let row = [0; MOST_SIGNALS + 1];
     both_rows(card, order, &row, flat, subnet)
@@ -73,7 +73,7 @@ fn both_without_row(card: &[u8], order: &[u16], flat: State, subnet: State) -> B
 // A call of a file, of which the first n bytes are the row's.
 fn both_calls(card: &[u8], bytes: &[u8], n: usize, signals: u16, flat: State, subnet: State) -> Both
     requires { (n ≤ length bytes.now) × (length bytes.now - n ≤ 32) × (signals ≤ 63) }
-    ensures { (c : Card) → c.signals ≡ signals → rowSize c ≡ n → IsBoth card.now (call_of c bytes.now) flat subnet result }
+    ensures { (c : Card) → c.signals ≡ signals → row_size c ≡ n → IsBoth card.now (call_of c bytes.now) flat subnet result }
 {
     let order = order_of(&bytes[n..]);
     let s = bytes.len() - n;

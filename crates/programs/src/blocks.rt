@@ -1,12 +1,12 @@
 // A run as its input comes in: the card, then block after block of rows, then the end.
 ghost use Rattle.std.specs.Prelude.{◌≡◌, ◌+◌, ◌*◌, ◌≤◌, ◌<◌, length, take};
-ghost use Rattle.hierarchy.specs.Numbers.{checkOutcome};
-ghost use Rattle.hierarchy.specs.Judgement.{Judgement, outcomeOf};
+ghost use Rattle.hierarchy.specs.Numbers.{check_outcome};
+ghost use Rattle.hierarchy.specs.Judgement.{Judgement, outcome_of};
 ghost use Rattle.runners.specs.Nets.{IsNet};
-ghost use Rattle.programs.specs.Feeds.{fileCall};
+ghost use Rattle.programs.specs.Feeds.{file_call};
 ghost use Rattle.programs.specs.Lines.{IsLine, longest};
 ghost use Rattle.runners.specs.Answers.{IsRow};
-ghost use Rattle.programs.specs.Runs.{following, rowSizeIn, answered, keeping, feed, lastLine, fedBlock, firstText, isAccepted, runIn, IsStart, IsTurn};
+ghost use Rattle.programs.specs.Runs.{following, row_size_in, answered, keeping, feed, last_line, fed_block, first_text, is_accepted, run_in, IsStart, IsTurn};
 ghost use Rattle.programs.specs.inner.Parts.{PutsLine};
 
 use crate::feed::file_row;
@@ -71,7 +71,7 @@ fn next_number(n: u64) -> u64
 
 // A row of the first bytes of a buffer.
 fn first_row(net: Net, state: State, bytes: &[u8], have: usize) -> RowAnswer
-    ensures { (j : Judgement) → IsNet j net → IsRow (fileCall j state (take have bytes.now)) result }
+    ensures { (j : Judgement) → IsNet j net → IsRow (file_call j state (take have bytes.now)) result }
 {
     if bytes.len() < have {
         return file_row(net, state, bytes);
@@ -81,7 +81,7 @@ fn first_row(net: Net, state: State, bytes: &[u8], have: usize) -> RowAnswer
 
 // The row that is there, answered.
 fn left_row(net: Net, p: Progress) -> RowAnswer
-    ensures { ((j : Judgement) → IsNet j net → IsRow (fileCall j p.state (take p.have p.left)) result) × (length p.left ≡ 79) }
+    ensures { ((j : Judgement) → IsNet j net → IsRow (file_call j p.state (take p.have p.left)) result) × (length p.left ≡ 79) }
 {
     let left = p.left;
     first_row(net, p.state, &left, p.have)
@@ -89,7 +89,7 @@ fn left_row(net: Net, p: Progress) -> RowAnswer
 
 // Its line, and the run in front of the next row.
 fn answer_row(net: Net, p: Progress, out: &mut [u8], at: usize) -> Turn
-    ensures { ((j : Judgement) → IsNet j net → PutsLine (answered (fileCall j) (runIn p)) out.old at result.progress result.length out.new) × (result.progress.have ≡ 0) }
+    ensures { ((j : Judgement) → IsNet j net → PutsLine (answered (file_call j) (run_in p)) out.old at result.progress result.length out.new) × (result.progress.have ≡ 0) }
 {
     let a = left_row(net, p);
     let reply = a.reply;
@@ -107,7 +107,7 @@ fn answer_row(net: Net, p: Progress, out: &mut [u8], at: usize) -> Turn
 // Bytes of the input that do not make the row whole, or just do, behind those that are there.
 fn keep(p: Progress, bytes: &[u8]) -> Progress
     requires { p.have + length bytes.now ≤ 79 }
-    ensures { (runIn result ≡ keeping (runIn p) bytes.now) × (result.have ≡ p.have + length bytes.now) × (length p.left ≡ 79) }
+    ensures { (run_in result ≡ keeping (run_in p) bytes.now) × (result.have ≡ p.have + length bytes.now) × (length p.left ≡ 79) }
 {
     let mut left = p.left;
     let have = put_text(&mut left, p.have, bytes);
@@ -123,8 +123,8 @@ fn keep(p: Progress, bytes: &[u8]) -> Progress
 // Takes the bytes that the row lacks, and answers it, or all there are, if these are fewer.
 fn answer_part(net: Net, p: Progress, size: usize, rest: &[u8], out: &mut [u8], at: usize) -> Part
     requires { (p.have < size) × (size ≤ 79) × (0 < length rest.now) }
-    ensures have_lt_size { (result.progress.have < size) × (0 < result.taken) × (result.taken ≤ length rest.now) }
-    ensures puts_line { (j : Judgement) → IsNet j net → PutsLine (feed size (fileCall j) (runIn p) (take result.taken rest.now)) out.old at result.progress result.length out.new }
+    ensures part_of_a_row { (result.progress.have < size) × (0 < result.taken) × (result.taken ≤ length rest.now) }
+    ensures puts_line { (j : Judgement) → IsNet j net → PutsLine (feed size (file_call j) (run_in p) (take result.taken rest.now)) out.old at result.progress result.length out.new }
 {
     let lacks = size - p.have;
     if rest.len() < lacks {
@@ -147,7 +147,7 @@ fn answer_part(net: Net, p: Progress, size: usize, rest: &[u8], out: &mut [u8], 
 // All bytes of a block, the lines one after another.
 fn answer_all(net: Net, first: Progress, size: usize, block: &[u8], out: &mut [u8]) -> Turn
     requires { (first.have < size) × (size ≤ 79) }
-    ensures { (j : Judgement) → IsNet j net → longest * length block.now ≤ length out.old → IsTurn (feed size (fileCall j) (runIn first) block.now) out.old result out.new }
+    ensures { (j : Judgement) → IsNet j net → longest * length block.now ≤ length out.old → IsTurn (feed size (file_call j) (run_in first) block.now) out.old result out.new }
 {
     let mut progress = first;
     let mut length: usize = 0;
@@ -174,7 +174,7 @@ fn no_turn(p: Progress) -> Turn
 // A block of the input, in a buffer that has room for the longest line for each of its bytes; of another nothing is taken. Two wrong ones that
 // this rules out: one that keeps or prints the state in front of a row, and one that loses the bytes of a row that two blocks share.
 pub fn answer_block(net: Net, p: Progress, block: &[u8], out: &mut [u8]) -> Turn
-    ensures { (j : Judgement) → IsNet j net → IsTurn (fedBlock (rowSizeIn j) (fileCall j) (length out.old) (runIn p) block.now) out.old result out.new }
+    ensures { (j : Judgement) → IsNet j net → IsTurn (fed_block (row_size_in j) (file_call j) (length out.old) (run_in p) block.now) out.old result out.new }
 {
     let size = row_bytes(net_signals(net));
     if out.len() / LONGEST < block.len() {
@@ -191,7 +191,7 @@ pub fn answer_block(net: Net, p: Progress, block: &[u8], out: &mut [u8]) -> Turn
 
 // The end of the input. Two wrong ones that this rules out: one that drops a short last row, and one that prints a line where no byte is left.
 pub fn last_line(net: Net, p: Progress) -> Line
-    ensures { (j : Judgement) → IsNet j net → IsLine (lastLine (fileCall j) (runIn p)) result }
+    ensures { (j : Judgement) → IsNet j net → IsLine (last_line (file_call j) (run_in p)) result }
 {
     if p.have == 0 {
         return no_line();
@@ -204,7 +204,7 @@ pub fn last_line(net: Net, p: Progress) -> Line
 
 // What is written before the first row.
 fn first_line(a: Answer) -> Line
-    ensures { (j : Judgement) → checkOutcome a ≡ outcomeOf j → IsLine (firstText j) result }
+    ensures { (j : Judgement) → check_outcome a ≡ outcome_of j → IsLine (first_text j) result }
 {
     match a {
         Answer::Refused(why, at) => card_line(why, at),
@@ -213,7 +213,7 @@ fn first_line(a: Answer) -> Line
 }
 
 fn is_accepted(a: Answer) -> bool
-    ensures { (j : Judgement) → checkOutcome a ≡ outcomeOf j → result ≡ isAccepted j }
+    ensures { (j : Judgement) → check_outcome a ≡ outcome_of j → result ≡ is_accepted j }
 {
     match a {
         Answer::Refused(_why, _at) => false,

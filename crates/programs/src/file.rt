@@ -1,12 +1,12 @@
 // A row of a file: so many bits in front, so many a signal, and zeros to the byte. In a rows file there are none in front, and 10 a degree.
 ghost use Rattle.std.specs.Prelude.{◌≡◌, ◌+◌, ◌-◌, ◌*◌, ◌≤◌, ◌<◌, [], ◌++◌, replicate, eqb};
 ghost use Rattle.card.specs.Finite.{every, table};
-ghost use Rattle.card.specs.Bits.{bytesFor};
-ghost use Rattle.card.specs.Fields.{fieldAt};
+ghost use Rattle.card.specs.Bits.{bytes_for};
+ghost use Rattle.card.specs.Fields.{field_at};
 ghost use Rattle.card.specs.Card.{Card};
 ghost use Rattle.runners.specs.State.{entry};
-ghost use Rattle.runners.specs.Rows.{degrees as degreesOf, noRow, orNoRow, cells, row_of};
-ghost use Rattle.programs.specs.Files.{fileRow};
+ghost use Rattle.runners.specs.Rows.{degrees as degreesOf, no_row, or_no_row, cells, row_of};
+ghost use Rattle.programs.specs.Files.{file_row};
 
 use card::MOST_SIGNALS;
 use card::fields::field_at;
@@ -27,13 +27,13 @@ pub struct FileRow {
 
 // How many bytes a row has. Two wrong counts that this rules out: one that cuts the last byte off, and one that takes 16 bits a degree.
 pub fn row_bytes(signals: u16) -> usize
-    ensures { result ≡ bytesFor (10 * signals) }
+    ensures { result ≡ bytes_for (10 * signals) }
 {
     (DEGREE_BITS * signals as usize + 7) / 8
 }
 
 fn no_row() -> FileRow
-    ensures { result ≡ fileRow noRow }
+    ensures { result ≡ file_row no_row }
 {
     FileRow {
         whole: false,
@@ -43,7 +43,7 @@ fn no_row() -> FileRow
 }
 
 fn empty_row() -> FileRow
-    ensures { result ≡ fileRow (degreesOf []) }
+    ensures { result ≡ file_row (degreesOf []) }
 {
     FileRow {
         whole: true,
@@ -54,7 +54,7 @@ fn empty_row() -> FileRow
 
 fn cells_in(bytes: &[u8], lead: usize, cell: usize, signals: u16) -> [u16; MOST_SIGNALS]
     requires { (lead ≤ 16) × (cell ≤ 16) × (signals ≤ 63) }
-    ensures { result ≡ table 0 signals (λ g. fieldAt bytes.now (lead + cell * g) cell) ++ replicate (63 - signals) 0 }
+    ensures { result ≡ table 0 signals (λ g. field_at bytes.now (lead + cell * g) cell) ++ replicate (63 - signals) 0 }
 {
     let mut numbers = [0; MOST_SIGNALS];
     let mut g = 0;
@@ -68,7 +68,7 @@ fn cells_in(bytes: &[u8], lead: usize, cell: usize, signals: u16) -> [u16; MOST_
 // What bytes hold for each signal.
 fn cells_of(bytes: &[u8], lead: usize, cell: usize, signals: u16) -> FileRow
     requires { (lead ≤ 16) × (cell ≤ 16) × (signals ≤ 63) }
-    ensures { result ≡ fileRow (orNoRow (cells lead cell signals bytes.now)) }
+    ensures { result ≡ file_row (or_no_row (cells lead cell signals bytes.now)) }
 {
     let width = lead + cell * signals as usize;
     let n = (width + 7) / 8;
@@ -103,7 +103,7 @@ fn all_marked(degrees: [u16; MOST_SIGNALS], signals: u16) -> bool
 // The row that bytes hold; no card has more than 63 signals. Two wrong readers that this rules out: one that lets a fill bit be 1, and one
 // that takes a row with one degree of 1023 for an empty one. That the count fits is also said of every outcome, for callers without a card.
 pub fn row_of(bytes: &[u8], signals: u16) -> FileRow
-    ensures { ((f : Card) → f.signals ≡ signals → signals ≤ 63 → result ≡ fileRow (row_of f bytes.now)) × (63 < signals → result ≡ fileRow noRow) × (result.count ≤ 63) }
+    ensures { ((f : Card) → f.signals ≡ signals → signals ≤ 63 → result ≡ file_row (row_of f bytes.now)) × (63 < signals → result ≡ file_row no_row) × (result.count ≤ 63) }
 {
     if 63 < signals {
         return no_row();

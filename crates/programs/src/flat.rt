@@ -1,5 +1,5 @@
 // What the program flatten writes.
-ghost use Rattle.programs.specs.Programs.{cardLine, flattenProgram};
+ghost use Rattle.programs.specs.Programs.{card_line, flatten_program};
 ghost use Rattle.programs.specs.Lines.{IsFlatText};
 
 use crate::line::{put_line, refusal_line};
@@ -16,7 +16,7 @@ pub struct FlatText {
 }
 
 fn refusal_text(number: u64, value: usize) -> FlatText
-    ensures { IsFlatText (cardLine number value) result }
+    ensures { IsFlatText (card_line number value) result }
 {
     let mut bytes = [0; CARD_BYTES];
     let length = put_line(&mut bytes, 0, refusal_line(number, value));
@@ -26,7 +26,7 @@ fn refusal_text(number: u64, value: usize) -> FlatText
 // All that is written for a card. (None is short: no card has more bytes than there is room for.) Two wrong ones that this rules out: one that
 // prints the bit before the number, and one that writes the card itself.
 pub fn flat_text(card: &[u8]) -> FlatText
-    ensures { IsFlatText (flattenProgram card.now) result }
+    ensures { IsFlatText (flatten_program card.now) result }
 {
     let mut bytes = [0; CARD_BYTES];
     match flatten(card, &mut bytes) {

@@ -2,11 +2,11 @@
 ghost use Rattle.std.specs.Prelude.{◌+◌, ◌≤◌, [], ◌∷◌, map};
 ghost use Rattle.std.proofs.Math.Option.{none, some};
 ghost use Rattle.hierarchy.specs.Numbers.{number};
-ghost use Rattle.runners.specs.Numbers.{rowOutcome};
+ghost use Rattle.runners.specs.Numbers.{row_outcome};
 ghost use Rattle.runners.specs.Calls.{view};
 ghost use Rattle.programs.specs.Text.{digit, decimal, line};
-ghost use Rattle.programs.specs.Programs.{replyWords, stateWords, refusalWords, cardLine};
-ghost use Rattle.programs.specs.Lines.{Puts, IsLine, firstBytes, spaced, joined, transferWord};
+ghost use Rattle.programs.specs.Programs.{reply_words, state_words, refusal_words, card_line};
+ghost use Rattle.programs.specs.Lines.{Puts, IsLine, first_bytes, spaced, joined, transfer_word};
 
 use card::{MOST_PLACES, MOST_TRANSITIONS};
 use hierarchy::{CardFault, fault_number};
@@ -78,7 +78,7 @@ fn put_marking(out: &mut [u8], at: usize, m: u32) -> usize
 
 // A space and a progress, which has at most 5 digits; an idle transition has a minus.
 fn put_transfer(out: &mut [u8], at: usize, x: Transfer) -> usize
-    ensures { Puts out.old at (32 ∷ transferWord x) out.new result × (result ≤ at + 6) }
+    ensures { Puts out.old at (32 ∷ transfer_word x) out.new result × (result ≤ at + 6) }
 {
     match x {
         Transfer::Idle => put_two(out, at, b' ', b'-'),
@@ -103,7 +103,7 @@ fn put_markings(out: &mut [u8], at: usize, state: State) -> usize
 }
 
 fn put_transfers(out: &mut [u8], at: usize, state: State) -> usize
-    ensures { Puts out.old at (spaced (map transferWord (view state).transfers)) out.new result × (result ≤ at + 1530) }
+    ensures { Puts out.old at (spaced (map transfer_word (view state).transfers)) out.new result × (result ≤ at + 1530) }
 {
     let count = state.transitions;
     let mut next = at;
@@ -122,7 +122,7 @@ fn put_transfers(out: &mut [u8], at: usize, state: State) -> usize
 
 // The words of a state: ok, its markings, a bar and its transfers.
 fn put_state(out: &mut [u8], at: usize, state: State) -> usize
-    ensures { Puts out.old at (joined (stateWords (view state))) out.new result × (result ≤ at + 4339) }
+    ensures { Puts out.old at (joined (state_words (view state))) out.new result × (result ≤ at + 4339) }
 {
     let a = put_two(out, at, b'o', b'k');
     let b = put_markings(out, a, state);
@@ -132,14 +132,14 @@ fn put_state(out: &mut [u8], at: usize, state: State) -> usize
 
 // The words of a refusal that has no value, and of one that has.
 fn put_refusal(out: &mut [u8], at: usize, n: u64) -> usize
-    ensures { Puts out.old at (joined (refusalWords n none)) out.new result × (result ≤ at + 23) }
+    ensures { Puts out.old at (joined (refusal_words n none)) out.new result × (result ≤ at + 23) }
 {
     let next = put_two(out, at, b'n', b'o');
     put_number(out, next, n)
 }
 
 fn put_refusal_at(out: &mut [u8], at: usize, n: u64, value: u64) -> usize
-    ensures { Puts out.old at (joined (refusalWords n (some value))) out.new result × (result ≤ at + 44) }
+    ensures { Puts out.old at (joined (refusal_words n (some value))) out.new result × (result ≤ at + 44) }
 {
     let next = put_refusal(out, at, n);
     put_number(out, next, value)
@@ -147,7 +147,7 @@ fn put_refusal_at(out: &mut [u8], at: usize, n: u64, value: u64) -> usize
 
 // The words of a reply, by the paper's numbers.
 fn put_reply(out: &mut [u8], at: usize, reply: Reply, state: State) -> usize
-    ensures { Puts out.old at (joined (replyWords (rowOutcome reply) (view state))) out.new result × (result ≤ at + 4339) }
+    ensures { Puts out.old at (joined (reply_words (row_outcome reply) (view state))) out.new result × (result ≤ at + 4339) }
 {
     let c = reply_code(reply);
     if c.kind == 0 {
@@ -175,7 +175,7 @@ pub fn put_text(out: &mut [u8], at: usize, text: &[u8]) -> usize
 
 // The first n bytes of a text; nothing, if it has fewer.
 fn put_first(out: &mut [u8], at: usize, text: &[u8], n: usize) -> usize
-    ensures { Puts out.old at (firstBytes n text.now) out.new result }
+    ensures { Puts out.old at (first_bytes n text.now) out.new result }
 {
     if text.len() < n {
         return at;
@@ -185,7 +185,7 @@ fn put_first(out: &mut [u8], at: usize, text: &[u8], n: usize) -> usize
 
 // A line in a longer text. Two wrong ones that this rules out: one that puts the zeros behind the line too, and one that leaves the newline out.
 pub fn put_line(out: &mut [u8], at: usize, l: Line) -> usize
-    ensures { Puts out.old at (firstBytes l.length l.bytes) out.new result }
+    ensures { Puts out.old at (first_bytes l.length l.bytes) out.new result }
 {
     let bytes = l.bytes;
     put_first(out, at, &bytes, l.length)
@@ -204,7 +204,7 @@ pub fn no_line() -> Line
 // The line of row n. Two wrong ones that this rules out: one that prints fixed markings, and one that prints an idle transition as a
 // progress of 0.
 pub fn reply_line(n: u64, reply: Reply, state: State) -> Line
-    ensures { IsLine (line (decimal n ∷ replyWords (rowOutcome reply) (view state))) result }
+    ensures { IsLine (line (decimal n ∷ reply_words (row_outcome reply) (view state))) result }
 {
     let mut bytes = [0; LONGEST];
     let a = put_decimal(&mut bytes, 0, n);
@@ -217,7 +217,7 @@ pub fn reply_line(n: u64, reply: Reply, state: State) -> Line
 // The line of a refusal that has a number and a value. Two wrong ones that this rules out: one that prints the value before the number, and one
 // that leaves the value out.
 pub fn refusal_line(number: u64, value: usize) -> Line
-    ensures { IsLine (cardLine number value) result }
+    ensures { IsLine (card_line number value) result }
 {
     let mut bytes = [0; LONGEST];
     let a = put_refusal_at(&mut bytes, 0, number, value as u64);
@@ -228,7 +228,7 @@ pub fn refusal_line(number: u64, value: usize) -> Line
 // The one line of a refused card. Two wrong ones that this rules out: one that leaves the bit out, and one that prints the number of the
 // format's faults for those of the hierarchy.
 pub fn card_line(fault: CardFault, bit: usize) -> Line
-    ensures { IsLine (cardLine (number fault) bit) result }
+    ensures { IsLine (card_line (number fault) bit) result }
 {
     refusal_line(fault_number(fault), bit)
 }

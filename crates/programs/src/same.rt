@@ -1,8 +1,8 @@
 // Whether two replies and two states are equal.
 ghost use Rattle.std.specs.Prelude.{◌≡◌, ◌↔◌, true, min};
-ghost use Rattle.runners.specs.Numbers.{rowOutcome};
+ghost use Rattle.runners.specs.Numbers.{row_outcome};
 ghost use Rattle.runners.specs.Calls.{view};
-ghost use Rattle.programs.specs.Agreeing.{progressCode};
+ghost use Rattle.programs.specs.Agreeing.{progress_code};
 
 use card::{MOST_PLACES, MOST_SIGNALS, MOST_TRANSITIONS};
 use runners::replies::reply_code;
@@ -10,7 +10,7 @@ use runners::{Reply, State, Transfer};
 
 // Two wrong tests that this rules out: one that compares the numbers only, and one that takes any two refusals for equal.
 pub fn same_reply(a: Reply, b: Reply) -> bool
-    ensures { (result ≡ true) ↔ (rowOutcome a ≡ rowOutcome b) }
+    ensures { (result ≡ true) ↔ (row_outcome a ≡ row_outcome b) }
 {
     let x = reply_code(a);
     let y = reply_code(b);
@@ -66,7 +66,7 @@ fn same_degrees(a: &[u16], b: &[u16]) -> bool
 }
 
 fn progress_code(x: Transfer) -> u32
-    ensures { result ≡ progressCode x }
+    ensures { result ≡ progress_code x }
 {
     match x {
         Transfer::Idle => 0,

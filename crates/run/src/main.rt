@@ -7,9 +7,9 @@
 ghost use Rattle.std.specs.Prelude.{◌≡◌, ◌*◌, ◌≤◌, length};
 ghost use Rattle.hierarchy.specs.Judgement.{Judgement};
 ghost use Rattle.runners.specs.Nets.{IsNet};
-ghost use Rattle.programs.specs.Feeds.{fileCall};
+ghost use Rattle.programs.specs.Feeds.{file_call};
 ghost use Rattle.programs.specs.Lines.{longest};
-ghost use Rattle.programs.specs.Runs.{rowSizeIn, fedBlock, runIn};
+ghost use Rattle.programs.specs.Runs.{row_size_in, fed_block, run_in};
 
 use card::INPUT_BYTES;
 use console::{put_first, read_file, read_some};
@@ -26,7 +26,7 @@ fn put_line(rt: &HostRuntime, l: Line) {
 fn put_block(rt: &HostRuntime, net: Net, p: Progress, block: &[u8], lines: &mut [u8]) -> Progress
     requires { longest * length block.now ≤ length lines.old }
     ensures lines_len_unchanged { length lines.new ≡ length lines.old }
-    ensures result_value { (j : Judgement) → IsNet j net → runIn result ≡ (fedBlock (rowSizeIn j) (fileCall j) (length lines.old) (runIn p) block.now).1 }
+    ensures behind { (j : Judgement) → IsNet j net → run_in result ≡ (fed_block (row_size_in j) (file_call j) (length lines.old) (run_in p) block.now).1 }
 {
     let t = answer_block(net, p, block, lines);
     let next = t.progress;

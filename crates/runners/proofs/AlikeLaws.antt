@@ -1,8 +1,8 @@
 -- Two visits that are equal in all they may read post, start and move the same, whatever stands elsewhere. Assumes nothing.
 use Rattle.std.proofs.Common.{◌≡◌, ℕ, ◌%◌, List, sym, refl, ap, ◌∙◌, subst, arith}
-use Rattle.card.specs.Card.{Card, draws, fills, subnetAt, firstTransition}
+use Rattle.card.specs.Card.{Card, draws, fills, subnet_at, first_transition}
 use Rattle.runners.specs.Columns.{word, nothing, Columns}
-use Rattle.runners.specs.Visits.{OwnsTransition, Round, posting, finding, moving, Turn, effect, SameView, Does, turnIn, SameChange, SameOutcome, VisitsAlike}
+use Rattle.runners.specs.Visits.{OwnsTransition, Round, posting, finding, moving, Turn, effect, SameView, Does, turn_in, SameChange, SameOutcome, VisitsAlike}
 use Rattle.runners.proofs.OwnerLaws.{next-first}
 use Rattle.runners.proofs.MovedLaws.{moved-alike}
 
@@ -21,7 +21,7 @@ self-view r s i =
       found = λ e t o. refl;
     }
 
-module _ (s : ℕ) (c d : Card) (a a' b b' : Columns) (first : firstTransition c s ≡ firstTransition d s) (count : (subnetAt c s).transitions ≡ (subnetAt d s).transitions) where
+module _ (s : ℕ) (c d : Card) (a a' b b' : Columns) (first : first_transition c s ≡ first_transition d s) (count : (subnet_at c s).transitions ≡ (subnet_at d s).transitions) where
   -- an own transition of one card is one of the other
   own_on : (t : ℕ) → OwnsTransition c s t → OwnsTransition d s t
   own_on t o = record { low = omega (arith, o.low, first); high = omega (arith, o.high, first, count, next-first c s, next-first d s) }
@@ -67,4 +67,4 @@ module _ (s : ℕ) (c d : Card) (a a' b b' : Columns) (first : firstTransition c
 -- FACT 2, OF ANY TWO VISITS: no visit's outcome hangs on a place that its subnet cannot see
 pub visits-alike : VisitsAlike
 visits-alike r s numbers starts numbers₂ starts₂ a a' b b' one two c d h g l k v =
-    alike s c d a a' b b' v.first v.count r (turnIn d b) refl ((one c h l).local (turnIn d b) v) ((two d g k).local (turnIn d b) (self-view r s (turnIn d b)))
+    alike s c d a a' b b' v.first v.count r (turn_in d b) refl ((one c h l).local (turn_in d b) v) ((two d g k).local (turn_in d b) (self-view r s (turn_in d b)))

@@ -7,10 +7,10 @@ use Rattle.hierarchy.specs.Conditions.{Meets}
 use Rattle.flattening.specs.Flattening.{flatten}
 use Rattle.runners.specs.State.{scale, entry, transfer, remaining, incidence, flow, owed, due, covered}
 use Rattle.runners.specs.Calls.{view}
-use Rattle.runners.specs.Columns.{Grown, code_of, transferOf, code_at, Columns}
-use Rattle.runners.specs.Visits.{posting, turnIn}
-use Rattle.runners.specs.inner.Transitions.{spanSum}
-use Rattle.runners.specs.inner.Verdict.{coveredBy}
+use Rattle.runners.specs.Columns.{Grown, code_of, transfer_of, code_at, Columns}
+use Rattle.runners.specs.Visits.{posting, turn_in}
+use Rattle.runners.specs.inner.Transitions.{span_sum}
+use Rattle.runners.specs.inner.Verdict.{covered_by}
 use Rattle.runners.specs.inner.Storing.{slot_at, CodesOf, Counts}
 use Rattle.runners.specs.inner.Markings.{Filled}
 use Rattle.runners.specs.declared.Transfer.{Transfer}
@@ -27,7 +27,7 @@ pub board-exact : (c : Card) → Meets c → (amount : ℕ → ℕ) → ((t : �
     → ((p : ℕ) → entry z p ≡ 0) → Grown z o (flow (flatten c) amount way) → (p : ℕ) → p < length c.places → entry o p ≡ flow (flatten c) amount way p
 board-exact c m amount few way z o long zeros g p l =
     let n = claims-few c m amount few way p in
-    omega (arith, zeros p, n, moved-exact z o _ _ g p (omega (arith, long, m.wellformed.rows.fewPlaces)) (omega arith) (omega (arith, zeros p, n)))
+    omega (arith, zeros p, n, moved-exact z o _ _ g p (omega (arith, long, m.wellformed.rows.few_places)) (omega arith) (omega (arith, zeros p, n)))
 
 -- the transfers of a lent state, by their numbers
 module _ (c : Card) (l : Lent) (h : Counts c l) where
@@ -44,20 +44,20 @@ module _ (c : Card) (l : Lent) (h : Counts c l) where
     pub code-seen : (t : ℕ) → t < length c.transitions → code_at codes t ≡ code_of (transfer (view l).transfers t)
     code-seen t b = k.own t (omega (arith, h.transitions)) (omega arith) ∙ ap code_of (sym (transfer-seen t b))
 
-    remaining-seen : (f : Card) (t : ℕ) → t < length c.transitions → remaining f (transfer (map transferOf codes) t) ≡ remaining f (transfer (view l).transfers t)
+    remaining-seen : (f : Card) (t : ℕ) → t < length c.transitions → remaining f (transfer (map transfer_of codes) t) ≡ remaining f (transfer (view l).transfers t)
     remaining-seen f t b =
-        ap (remaining f) (transfer-code codes t) ∙ ap (λ (n : ℕ). remaining f (transferOf n)) (code-seen t b) ∙ remaining-coded f (transfer (view l).transfers t)
+        ap (remaining f) (transfer-code codes t) ∙ ap (λ (n : ℕ). remaining f (transfer_of n)) (code-seen t b) ∙ remaining-coded f (transfer (view l).transfers t)
 
     -- what all transitions post for them
     pub codes-flow : (a : Columns) → a.transfers ≡ codes → (n way p : ℕ) → n ≡ length c.transitions
-        → spanSum posting (turnIn c a) 0 n way p ≡ flow (flatten c) (λ t. remaining (flatten c) (transfer (view l).transfers t)) way p
+        → span_sum posting (turn_in c a) 0 n way p ≡ flow (flatten c) (λ t. remaining (flatten c) (transfer (view l).transfers t)) way p
     unfolding flow flatten
     codes-flow a e n way p en =
-        ap (λ (k : ℕ). sum_to k (λ i. remaining (flatten c) (transfer (map transferOf a.transfers) (0 + i)) * incidence (flatten c) way (0 + i) p)) (omega (arith, en))
+        ap (λ (k : ℕ). sum_to k (λ i. remaining (flatten c) (transfer (map transfer_of a.transfers) (0 + i)) * incidence (flatten c) way (0 + i) p)) (omega (arith, en))
         ∙ sum_same (length c.transitions) _ _ (λ t b. rw (zero-add t, e, remaining-seen (flatten c) t b) refl)
 
 -- a place is covered by the claims that the columns hold
 pub covered-seen : (c : Card) (full ms vs : List ℕ) (xs : List Transfer) (o d x y : List ℕ) (p : ℕ) → p < length c.places → Filled Capacity c full → entry vs p ≡ entry ms p
-    → entry o p + entry x p ≡ owed (flatten c) xs p → entry d p + entry y p ≡ due (flatten c) xs p → coveredBy full ms o d x y p ≡ covered (flatten c) vs xs p
+    → entry o p + entry x p ≡ owed (flatten c) xs p → entry d p + entry y p ≡ due (flatten c) xs p → covered_by full ms o d x y p ≡ covered (flatten c) vs xs p
 unfolding covered
 covered-seen c full ms vs xs o d x y p l f em eo ed = rw (eo, ed, em, f.first p l)

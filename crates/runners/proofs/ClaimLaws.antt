@@ -1,15 +1,15 @@
 -- What the arcs of a transition post and move, and whether they allow it to start, out of a card's tables. Assumes nothing.
 use Rattle.std.proofs.Common.{◌≡◌, ℕ, ◌+◌, ◌*◌, ◌<◌, ◌≤◌, Bool, true, false, cond, ◌&&◌, eqb, leb, List, length, get_or, sym, refl, ap, ◌∙◌, ap₂, mul-le-mul_left, add-one, arith, eq-eqb, ne_eqb}
 use Rattle.card.specs.Finite.{sum_to}
-use Rattle.card.specs.Card.{Arc, Card, draws, fills, placeAt, transitionAt, arcAt, flatPlace}
-use Rattle.card.specs.Index.{Lists, ArcThere, firstPlaceStart, transitionRowStart, placeField, transitionRow}
-use Rattle.card.specs.Index.{arcOf, Begins}
+use Rattle.card.specs.Card.{Arc, Card, draws, fills, place_at, transition_at, arc_at, flat_place}
+use Rattle.card.specs.Index.{Lists, ArcThere, first_place_start, transition_row_start, place_field, transition_row}
+use Rattle.card.specs.Index.{arc_of, Begins}
 use Rattle.hierarchy.specs.Conditions.{IsPlace}
 use Rattle.card.specs.declared.tables.Arc as declared
 use Rattle.hierarchy.proofs.LoadedLaws.{arc-of, arcs-of, capacity-of}
 use Rattle.flattening.specs.Flattening.{flatten}
 use Rattle.flattening.proofs.FlatLaws.{place-flat, arc-flat, there}
-use Rattle.runners.specs.State.{scale, entry, weightAt, incidence, fullMarking}
+use Rattle.runners.specs.State.{scale, entry, weight_at, incidence, full_marking}
 use Rattle.runners.specs.Step.{allows}
 use Rattle.runners.specs.Columns.{Moved, Grown, nothing, posted}
 use Rattle.runners.specs.Visits.{InTables}
@@ -17,49 +17,49 @@ use Rattle.runners.specs.inner.Transitions.{share}
 use Rattle.runners.proofs.MovedLaws.{moved_none, moved_then, moved_same}
 
 -- where a transition's row begins
-pub begins : (c : Card) (numbers starts : List ℕ) → InTables c numbers starts → (i t at : ℕ) → Lists c i t → at ≡ get_or starts (transitionRowStart t) 0 → Begins c at i t
-begins c numbers starts h i t at l e = record { lists = l; at = e ∙ h.loaded.indexed.transitionRow i t l }
+pub begins : (c : Card) (numbers starts : List ℕ) → InTables c numbers starts → (i t at : ℕ) → Lists c i t → at ≡ get_or starts (transition_row_start t) 0 → Begins c at i t
+begins c numbers starts h i t at l e = record { lists = l; at = e ∙ h.loaded.indexed.transition_row i t l }
 
 -- the weights of the first j arcs of transition t at place p
 abbrev pub weights : Card → (way t j p : ℕ) → ℕ
-weights c way t j p = sum_to j (λ k. weightAt way p (arcAt (flatten c) t k))
+weights c way t j p = sum_to j (λ k. weight_at way p (arc_at (flatten c) t k))
 
 module _ (c : Card) (numbers starts : List ℕ) (h : InTables c numbers starts) (row i t : ℕ) (b : Begins c row i t) where
-  pub counted : (count : ℕ) → count ≡ get_or numbers (row + 1) 0 → count ≡ (transitionAt c t).arcs
+  pub counted : (count : ℕ) → count ≡ get_or numbers (row + 1) 0 → count ≡ (transition_at c t).arcs
   counted count e = arcs-of c numbers starts h.loaded i t row count b.lists b.at e
 
-  pub in-arcs : (count j : ℕ) → count ≡ get_or numbers (row + 1) 0 → j < count → j < (transitionAt c t).arcs
+  pub in-arcs : (count j : ℕ) → count ≡ get_or numbers (row + 1) 0 → j < count → j < (transition_at c t).arcs
   in-arcs count j e l = omega (arith, counted count e)
 
-  module _ (j : ℕ) (l : j < (transitionAt c t).arcs) where
-    seen : ((arcAt c t j).subnet < length c.subnets) × IsPlace c (arcAt c t j).subnet (arcAt c t j).place
+  module _ (j : ℕ) (l : j < (transition_at c t).arcs) where
+    seen : ((arc_at c t j).subnet < length c.subnets) × IsPlace c (arc_at c t j).subnet (arc_at c t j).place
     seen = there c h.meets i _ _ b.lists.subnet ((h.meets.conditions.transitions i t b.lists.subnet b.lists.first b.lists.last).sees j l)
 
     -- the arc that stands there is the card's
-    pub arc-is : (a : declared.Arc) → ArcThere numbers row j (arcOf a) → arcOf a ≡ arcAt c t j
+    pub arc-is : (a : declared.Arc) → ArcThere numbers row j (arc_of a) → arc_of a ≡ arc_at c t j
     arc-is a x =
         let y = arc-of c numbers starts h.loaded i t row j b.lists b.at l in
         go a.direction a.subnet a.place a.weight (sym x.direction ∙ y.direction) (sym x.subnet ∙ y.subnet) (sym x.place ∙ y.place) (sym x.weight ∙ y.weight)
       where
-        go : (d s p w : ℕ) → d ≡ (arcAt c t j).direction → s ≡ (arcAt c t j).subnet → p ≡ (arcAt c t j).place → w ≡ (arcAt c t j).weight
-            → record { direction = d; subnet = s; place = p; weight = w } ≡ arcAt c t j
+        go : (d s p w : ℕ) → d ≡ (arc_at c t j).direction → s ≡ (arc_at c t j).subnet → p ≡ (arc_at c t j).place → w ≡ (arc_at c t j).weight
+            → record { direction = d; subnet = s; place = p; weight = w } ≡ arc_at c t j
         go d s p w ed es ep ew = rw (ed, es, ep, ew)
 
-    module _ (a : declared.Arc) (e : arcOf a ≡ arcAt c t j) (p : ℕ) (f : p ≡ get_or starts (firstPlaceStart a.subnet) 0 + a.place) where
-      pub flat-is : p ≡ (arcAt (flatten c) t j).place
+    module _ (a : declared.Arc) (e : arc_of a ≡ arc_at c t j) (p : ℕ) (f : p ≡ get_or starts (first_place_start a.subnet) 0 + a.place) where
+      pub flat-is : p ≡ (arc_at (flatten c) t j).place
       flat-is =
-          let q = h.loaded.indexed.firstPlace (arcAt c t j).subnet (omega (arith, seen.0)) in
-          rw (arc-flat c t j) (f ∙ ap₂ (λ (x y : ℕ). get_or starts (firstPlaceStart x) 0 + y) (ap (λ (z : Arc). z.subnet) e) (ap (λ (z : Arc). z.place) e)
-          ∙ ap (λ (x : ℕ). x + (arcAt c t j).place) q)
+          let q = h.loaded.indexed.first_place (arc_at c t j).subnet (omega (arith, seen.0)) in
+          rw (arc-flat c t j) (f ∙ ap₂ (λ (x y : ℕ). get_or starts (first_place_start x) 0 + y) (ap (λ (z : Arc). z.subnet) e) (ap (λ (z : Arc). z.place) e)
+          ∙ ap (λ (x : ℕ). x + (arc_at c t j).place) q)
 
       -- what it moves at a place is its part of its weight there
-      pub share-is : (way part q : ℕ) → share way a.direction p (part * a.weight) q ≡ part * weightAt way q (arcAt (flatten c) t j)
+      pub share-is : (way part q : ℕ) → share way a.direction p (part * a.weight) q ≡ part * weight_at way q (arc_at (flatten c) t j)
       share-is way part q =
-          let d : a.direction ≡ (arcAt (flatten c) t j).direction = rw (arc-flat c t j) (ap (λ (z : Arc). z.direction) e) in
-          let w : a.weight ≡ (arcAt (flatten c) t j).weight = rw (arc-flat c t j) (ap (λ (z : Arc). z.weight) e) in
-          rw (d, w, flat-is) (go (eqb (arcAt (flatten c) t j).direction way && eqb (arcAt (flatten c) t j).place q))
+          let d : a.direction ≡ (arc_at (flatten c) t j).direction = rw (arc-flat c t j) (ap (λ (z : Arc). z.direction) e) in
+          let w : a.weight ≡ (arc_at (flatten c) t j).weight = rw (arc-flat c t j) (ap (λ (z : Arc). z.weight) e) in
+          rw (d, w, flat-is) (go (eqb (arc_at (flatten c) t j).direction way && eqb (arc_at (flatten c) t j).place q))
         where
-          go : (x : Bool) → cond x (part * (arcAt (flatten c) t j).weight) 0 ≡ part * cond x (arcAt (flatten c) t j).weight 0
+          go : (x : Bool) → cond x (part * (arc_at (flatten c) t j).weight) 0 ≡ part * cond x (arc_at (flatten c) t j).weight 0
           go true = refl
           go false = omega arith
 
@@ -84,7 +84,7 @@ module _ (c : Card) (numbers starts : List ℕ) (h : InTables c numbers starts) 
   weights-all : (way count j part q : ℕ) → count ≡ get_or numbers (row + 1) 0 → j ≤ count → count ≤ j → part * weights c way t j q ≡ part * incidence (flatten c) way t q
   unfolding incidence flatten
   weights-all way count j part q e l m =
-      let k : j ≡ (transitionAt c t).arcs = omega (arith, counted count e) in
+      let k : j ≡ (transition_at c t).arcs = omega (arith, counted count e) in
       ap (λ (n : ℕ). part * weights c way t n q) k
 
   -- all arcs
@@ -125,13 +125,13 @@ product-fits a b l m =
     omega (arith, mul-le-mul_left a k)
 
 -- whether each arc allows the transition to start
-module _ (c : Card) (numbers starts : List ℕ) (h : InTables c numbers starts) (i t j : ℕ) (b : Lists c i t) (l : j < (transitionAt c t).arcs) (a : declared.Arc) (e : arcOf a ≡ arcAt c t j) (p : ℕ)
-    (f : p ≡ get_or starts (firstPlaceStart a.subnet) 0 + a.place) (markings owed due : List ℕ) (m w u : ℕ) (em : m ≡ entry markings p) (ew : w ≡ u * a.weight) (eu : u ≡ scale (flatten c)) where
+module _ (c : Card) (numbers starts : List ℕ) (h : InTables c numbers starts) (i t j : ℕ) (b : Lists c i t) (l : j < (transition_at c t).arcs) (a : declared.Arc) (e : arc_of a ≡ arc_at c t j) (p : ℕ)
+    (f : p ≡ get_or starts (first_place_start a.subnet) 0 + a.place) (markings owed due : List ℕ) (m w u : ℕ) (em : m ≡ entry markings p) (ew : w ≡ u * a.weight) (eu : u ≡ scale (flatten c)) where
   abbrev g : Arc
-  g = arcAt (flatten c) t j
+  g = arc_at (flatten c) t j
 
   at : p ≡ g.place
-  at = flat-is c numbers starts h (transitionRow c i t) i t (record { lists = b; at = refl }) j l a e p f
+  at = flat-is c numbers starts h (transition_row c i t) i t (record { lists = b; at = refl }) j l a e p f
 
   weight : w ≡ scale (flatten c) * g.weight
   weight = rw (arc-flat c t j) (ew ∙ ap₂ (λ (x : ℕ) (z : Arc). x * z.weight) eu e)
@@ -144,19 +144,19 @@ module _ (c : Card) (numbers starts : List ℕ) (h : InTables c numbers starts) 
   allows-draws o eo d =
       rw (eq-eqb g.direction draws (sym direction ∙ d)) (ap₂ leb (ap₂ (λ (x y : ℕ). x + y) (eo ∙ ap (entry owed) at) weight) (em ∙ ap (entry markings) at))
 
-  pub allows-fills : (o k row : ℕ) → o ≡ entry due p → (a.direction ≡ 0 → ⊥) → row ≡ get_or starts a.subnet 0 → k ≡ get_or numbers (placeField row a.place 1) 0
+  pub allows-fills : (o k row : ℕ) → o ≡ entry due p → (a.direction ≡ 0 → ⊥) → row ≡ get_or starts a.subnet 0 → k ≡ get_or numbers (place_field row a.place 1) 0
       → leb (m + o + w) (u * k) ≡ allows (flatten c) (posted owed due) markings g
   unfolding allows
   allows-fills o k row eo d er ek =
       rw (ne_eqb g.direction draws (λ z. d (direction ∙ z))) (ap₂ leb (ap₂ (λ (x y : ℕ). x + y) (ap₂ (λ (x y : ℕ). x + y) (em ∙ ap (entry markings) at) (eo ∙ ap (entry due) at)) weight) room)
     where
-      x : ((arcAt c t j).subnet < length c.subnets) × IsPlace c (arcAt c t j).subnet (arcAt c t j).place
-      x = seen c numbers starts h (transitionRow c i t) i t (record { lists = b; at = refl }) j l
+      x : ((arc_at c t j).subnet < length c.subnets) × IsPlace c (arc_at c t j).subnet (arc_at c t j).place
+      x = seen c numbers starts h (transition_row c i t) i t (record { lists = b; at = refl }) j l
 
-      cap : k ≡ (placeAt c (flatPlace c (arcAt c t j))).capacity
+      cap : k ≡ (place_at c (flat_place c (arc_at c t j))).capacity
       cap =
-          capacity-of c numbers starts h.loaded (arcAt c t j).subnet row (arcAt c t j).place k x.0 x.1 (er ∙ ap (λ (z : Arc). get_or starts z.subnet 0) e)
-          (ek ∙ ap (λ (z : Arc). get_or numbers (placeField row z.place 1) 0) e)
+          capacity-of c numbers starts h.loaded (arc_at c t j).subnet row (arc_at c t j).place k x.0 x.1 (er ∙ ap (λ (z : Arc). get_or starts z.subnet 0) e)
+          (ek ∙ ap (λ (z : Arc). get_or numbers (place_field row z.place 1) 0) e)
 
-      room : u * k ≡ fullMarking (flatten c) g.place
+      room : u * k ≡ full_marking (flatten c) g.place
       room = ap (λ (x : ℕ). x * k) eu ∙ rw (place-flat c g.place, arc-flat c t j, cap)

@@ -2,14 +2,14 @@
 -- Assumes nothing.
 use Rattle.std.proofs.Common.{◌≡◌, ℕ, ◌<◌, ◌≤◌, Bool, true, false, ◌⊎◌, List, [], ◌∷◌, ◌++◌, length, take, drop, sym, refl, ap, ◌∙◌, subst, inl, inr, arith, take_at}
 use mathlib.Core.Option.{none, map}
-use Rattle.card.specs.Card.{Card, transitionAt}
+use Rattle.card.specs.Card.{Card, transition_at}
 use Rattle.flattening.specs.Flattening.{flatten}
 use Rattle.runners.specs.State.{NetState, scale, entry}
 use Rattle.runners.specs.Step.{candidate, conflict, asked, degree, moves, next}
-use Rattle.runners.specs.Rows.{settle, effective, rowFault, rowNext}
+use Rattle.runners.specs.Rows.{settle, effective, row_fault, row_next}
 use Rattle.runners.specs.Calls.{view, store}
 use Rattle.runners.specs.Answers.{IsRow}
-use Rattle.runners.specs.inner.Steps.{withDegrees}
+use Rattle.runners.specs.inner.Steps.{with_degrees}
 use Rattle.runners.specs.declared.State.{State as Lent}
 use Rattle.runners.specs.declared.Refusal.TheVariants.{Conflict}
 use Rattle.runners.specs.declared.RowAnswer.{RowAnswer}
@@ -17,7 +17,7 @@ use Rattle.runners.proofs.StartLaws.{start-one, start-whole}
 use Rattle.runners.proofs.StateLaws.{Consistent, Sized, Fits, fault-is, next-sized, next-consistent}
 
 -- AN EMPTY ROW EARNS NEITHER 20 NOR 21, nothing moves in it but what starts in it on a version 2 card, and the last degrees stay
-pub empty-passes : (f : Card) → rowFault f [] ≡ none
+pub empty-passes : (f : Card) → row_fault f [] ≡ none
 empty-passes f = (fault-is f []).1 (inl refl, λ g l. omega arith)
 
 pub empty-still : (f : Card) (s : NetState) (t : ℕ) → (candidate f s (effective s.degrees []) t ≡ false) ⊎ (f.version ≡ 1) → moves f s (effective s.degrees []) t ≡ 0
@@ -29,7 +29,7 @@ empty-still f s t (inr e) = omega (arith, still (candidate f s s.degrees t))
     still true = omega (arith, start-one f (degree f s.degrees t) (degree f s.degrees t) (omega (arith, e)))
     still false = omega arith
 
-pub empty-keeps : (f : Card) (s : NetState) → (rowNext f s []).degrees ≡ s.degrees
+pub empty-keeps : (f : Card) (s : NetState) → (row_next f s []).degrees ≡ s.degrees
 unfolding next
 empty-keeps f s = refl
 
@@ -50,18 +50,18 @@ module _ (f : Card) (s : NetState) (row : List ℕ) (h : Consistent f s) (k : Fi
       go (d ∷ ds) low = low
 
   -- on version 2 a transition that starts in it moves by its degree there, which is its last one where the row is empty
-  pub row-start : (t : ℕ) → (transitionAt f t).signal < f.signals → candidate f s (effective s.degrees row) t ≡ true → 2 ≤ f.version
+  pub row-start : (t : ℕ) → (transition_at f t).signal < f.signals → candidate f s (effective s.degrees row) t ≡ true → 2 ≤ f.version
       → moves f s (effective s.degrees row) t ≡ degree f (effective s.degrees row) t
-  row-start t l e v = start-whole f s (effective s.degrees row) t e (effective-low (transitionAt f t).signal l) v
+  row-start t l e v = start-whole f s (effective s.degrees row) t e (effective-low (transition_at f t).signal l) v
 
-  pub row-consistent : Consistent f (rowNext f s row)
+  pub row-consistent : Consistent f (row_next f s row)
   row-consistent = next-consistent f s (effective s.degrees row) h k.free effective-low
 
-  pub row_sized : (0 < length row) ⊎ (length s.degrees ≡ f.signals) → Sized f (rowNext f s row)
+  pub row_sized : (0 < length row) ⊎ (length s.degrees ≡ f.signals) → Sized f (row_next f s row)
   row_sized e = next-sized f s (effective s.degrees row) (effective-long s.degrees row f.signals e k.long)
 
 -- The row's degrees put over the last ones are the effective row, of a row that passes 20.
-pub fault-long : (c : Card) (row : List ℕ) (n : ℕ) → n ≡ c.signals → rowFault (flatten c) row ≡ none → (length row ≡ 0) ⊎ (length row ≡ n)
+pub fault-long : (c : Card) (row : List ℕ) (n : ℕ) → n ≡ c.signals → row_fault (flatten c) row ≡ none → (length row ≡ 0) ⊎ (length row ≡ n)
 unfolding flatten
 fault-long c row n i e = subst (λ (m : ℕ). (length row ≡ 0) ⊎ (length row ≡ m)) (sym i) ((fault-is (flatten c) row).0 e).0
 
@@ -79,6 +79,6 @@ module _ (c : Card) (l after : Lent) (row : List ℕ) (x : RowAnswer) where
   abbrev Stepped : List ℕ → Type 0
   Stepped r = IsRow (settle (map Conflict (conflict (flatten c) (view l) r)) l (store l (next (flatten c) (view l) r))) x
 
-  pub put-stepped : (n : ℕ) → after ≡ withDegrees l row → n ≡ l.signals → (length row ≡ 0) ⊎ (length row ≡ n) → Stepped (take n after.degrees) → Stepped (effective (view l).degrees row)
+  pub put-stepped : (n : ℕ) → after ≡ with_degrees l row → n ≡ l.signals → (length row ≡ 0) ⊎ (length row ≡ n) → Stepped (take n after.degrees) → Stepped (effective (view l).degrees row)
   put-stepped n e i h =
       subst Stepped (ap (λ (k : Lent). take n k.degrees) e ∙ effective-put l.degrees row n h ∙ ap (λ (m : ℕ). effective (take m l.degrees) row) i)

@@ -2,7 +2,7 @@
 -- place, of a weight below 256. Assumes nothing.
 use Rattle.std.proofs.Common.{◌≡◌, ℕ, zero, suc, ◌+◌, ◌*◌, ◌<◌, ◌≤◌, Bool, true, false, cond, ◌&&◌, eqb, List, [], ◌∷◌, length, get_or, sym, refl, ◌∙◌, mul-le-mul, arith}
 use Rattle.card.specs.Finite.{sum_to, All}
-use Rattle.card.specs.Card.{Arc, Card, transitionAt, arcAt, firstArc, noArc}
+use Rattle.card.specs.Card.{Arc, Card, transition_at, arc_at, first_arc, no_arc}
 use Rattle.card.specs.Wellformed.{ArcRow}
 use Rattle.card.proofs.Sums.{sum-zero}
 use Rattle.card.proofs.Decides.{eq_is, and_is}
@@ -35,7 +35,7 @@ sum_one (suc n) hit w b few one = go (hit n) refl (sum_one n hit w b (λ i l. fe
     go false e r = omega arith
 
 -- an arc is in its ranges, past the last one too
-pub arc-row : (xs : List Arc) → All ArcRow xs → (i : ℕ) → ArcRow (get_or xs i noArc)
+pub arc-row : (xs : List Arc) → All ArcRow xs → (i : ℕ) → ArcRow (get_or xs i no_arc)
 arc-row [] h i = record { direction = omega arith; subnet = omega arith; place = omega arith; weight = omega arith }
 arc-row (x ∷ xs) h zero = h.0
 arc-row (x ∷ xs) h (suc i) = arc-row xs h.1 i
@@ -54,16 +54,16 @@ module _ (c : Card) (m : Meets c) where
 
   -- the arcs of transition t of a direction at place p
   abbrev hits : (way p t j : ℕ) → Bool
-  hits way p t j = eqb (arcAt f t j).direction way && eqb (arcAt f t j).place p
+  hits way p t j = eqb (arc_at f t j).direction way && eqb (arc_at f t j).place p
 
-  hit-is : (way p t j : ℕ) → hits way p t j ≡ true → ((arcAt f t j).direction ≡ way) × ((arcAt f t j).place ≡ p)
-  hit-is way p t j = (and_is _ _ _ _ (eq_is (arcAt f t j).direction way) (eq_is (arcAt f t j).place p)).0
+  hit-is : (way p t j : ℕ) → hits way p t j ≡ true → ((arc_at f t j).direction ≡ way) × ((arc_at f t j).place ≡ p)
+  hit-is way p t j = (and_is _ _ _ _ (eq_is (arc_at f t j).direction way) (eq_is (arc_at f t j).place p)).0
 
   -- all arcs of the flat card name subnet 0
-  pub one-subnet : (t i j : ℕ) → (arcAt f t i).subnet ≡ (arcAt f t j).subnet
+  pub one-subnet : (t i j : ℕ) → (arc_at f t i).subnet ≡ (arc_at f t j).subnet
   one-subnet t i j = rw (arc-flat c t i, arc-flat c t j) refl
 
-  single : (way p t i j : ℕ) → t < length f.transitions → i < j → j < (transitionAt f t).arcs → hits way p t i ≡ true → hits way p t j ≡ true → ⊥
+  single : (way p t i j : ℕ) → t < length f.transitions → i < j → j < (transition_at f t).arcs → hits way p t i ≡ true → hits way p t j ≡ true → ⊥
   single way p t i j l k b x y =
       let u = hit-is way p t i x in
       let v = hit-is way p t j y in
@@ -71,20 +71,20 @@ module _ (c : Card) (m : Meets c) where
 
   -- the incidence is the weight of one arc, or 0
   pub incidence-most : (way t p b : ℕ) → t < length f.transitions
-      → ((j : ℕ) → j < (transitionAt f t).arcs → (arcAt f t j).direction ≡ way → (arcAt f t j).place ≡ p → (arcAt f t j).weight ≤ b)
+      → ((j : ℕ) → j < (transition_at f t).arcs → (arc_at f t j).direction ≡ way → (arc_at f t j).place ≡ p → (arc_at f t j).weight ≤ b)
       → incidence f way t p ≤ b
   unfolding incidence
   incidence-most way t p b l few =
-      sum_one (transitionAt f t).arcs (hits way p t) (λ j. (arcAt f t j).weight) b (λ j k h. let u = hit-is way p t j h in few j k u.0 u.1) (λ i j. single way p t i j l)
+      sum_one (transition_at f t).arcs (hits way p t) (λ j. (arc_at f t j).weight) b (λ j k h. let u = hit-is way p t j h in few j k u.0 u.1) (λ i j. single way p t i j l)
 
   incidence-few : (way t p : ℕ) → t < length f.transitions → incidence f way t p ≤ 255
-  incidence-few way t p l = incidence-most way t p 255 l (λ j k d q. omega (arith, (arc-row f.arcs flat.wellformed.rows.arcs (firstArc f t + j)).weight))
+  incidence-few way t p l = incidence-most way t p 255 l (λ j k d q. omega (arith, (arc-row f.arcs flat.wellformed.rows.arcs (first_arc f t + j)).weight))
 
   flow-few : (amount : ℕ → ℕ) (b : ℕ) → ((t : ℕ) → t < length f.transitions → amount t ≤ b) → (way p : ℕ) → flow f amount way p ≤ 65025 * b
   unfolding flow
   flow-few amount b h way p =
       let s = sum-few (length f.transitions) (λ t. amount t * incidence f way t p) (b * 255) (λ t l. mul-le-mul (h t l) (incidence-few way t p l)) in
-      let n : length f.transitions * (b * 255) ≤ 255 * (b * 255) = mul-le-mul flat.wellformed.rows.fewTransitions (omega arith) in
+      let n : length f.transitions * (b * 255) ≤ 255 * (b * 255) = mul-le-mul flat.wellformed.rows.few_transitions (omega arith) in
       omega (arith, s, n)
 
   -- the claims of an accepted card, and what a row moves, on its flat net: at most 255 × 255 × 10000

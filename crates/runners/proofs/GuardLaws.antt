@@ -12,17 +12,17 @@ use Rattle.card.proofs.BitLaws.{lt-or-ge}
 use Rattle.hierarchy.specs.Conditions.{Meets}
 use Rattle.hierarchy.proofs.WalkLaws.{Below, every-none, every-all, and_no}
 use Rattle.runners.proofs.TestLaws.{test-fails, test-holds}
-use Rattle.flattening.specs.Flattening.{flatPlaceRow, flatten}
+use Rattle.flattening.specs.Flattening.{flat_place_row, flatten}
 use Rattle.runners.specs.State.{scale, entry, transfer, remaining, flow, owed, due, covered}
-use Rattle.runners.specs.Rows.{rowFault}
-use Rattle.runners.specs.Calls.{view, in_range, consistent, validIn, valid}
+use Rattle.runners.specs.Rows.{row_fault}
+use Rattle.runners.specs.Calls.{view, in_range, consistent, valid_in, valid}
 use Rattle.runners.specs.Columns.{Grown, nothing, Columns}
-use Rattle.runners.specs.Visits.{posting, turnIn}
-use Rattle.runners.specs.inner.Transitions.{spanSum, PostsSpan}
-use Rattle.runners.specs.inner.Verdict.{coveredBy, orPast}
+use Rattle.runners.specs.Visits.{posting, turn_in}
+use Rattle.runners.specs.inner.Transitions.{span_sum, PostsSpan}
+use Rattle.runners.specs.inner.Verdict.{covered_by, or_past}
 use Rattle.runners.specs.inner.Storing.{slot_at, CodesOf, Counts}
 use Rattle.runners.specs.inner.Markings.{Filled}
-use Rattle.runners.specs.inner.Steps.{replyOf}
+use Rattle.runners.specs.inner.Steps.{reply_of}
 use Rattle.runners.specs.declared.Transfer.{Transfer}
 use Rattle.runners.specs.declared.Transfer.TheVariants.{Idle, Carrying}
 use Rattle.runners.specs.declared.places.PlaceNumber.TheVariants.{Capacity}
@@ -53,35 +53,35 @@ none_left [] e = refl
 none_left (d ∷ ds) e = absurd (omega (arith, e))
 
 module _ (c : Card) (row : List ℕ) (n u : ℕ) (en : n ≡ c.signals) (eu : u ≡ scale c) where
-  pub row-empty : length row ≡ 0 → Ok ≡ replyOf (rowFault c row)
+  pub row-empty : length row ≡ 0 → Ok ≡ reply_of (row_fault c row)
   row-empty e = rw (none_left row e, empty-passes c)
 
-  pub row-long : ¬ (length row ≡ 0) → ¬ (length row ≡ n) → No BadRow ≡ replyOf (rowFault c row)
-  unfolding rowFault
+  pub row-long : ¬ (length row ≡ 0) → ¬ (length row ≡ n) → No BadRow ≡ reply_of (row_fault c row)
+  unfolding row_fault
   row-long z d = rw (← en, ne_eqb (length row) 0 z, ne_eqb (length row) n d)
 
-  abbrev firstHigh : Option ℕ
-  firstHigh = lowest 0 c.signals (high (scale c) row)
+  abbrev first_high : Option ℕ
+  first_high = lowest 0 c.signals (high (scale c) row)
 
-  told : (g : ℕ) → g ≡ orPast n (lowest 0 n (high u row)) → g ≡ orPast c.signals firstHigh
-  told g e = e ∙ ap₂ (λ (m k : ℕ). orPast m (lowest 0 m (high k row))) en eu
+  told : (g : ℕ) → g ≡ or_past n (lowest 0 n (high u row)) → g ≡ or_past c.signals first_high
+  told g e = e ∙ ap₂ (λ (m k : ℕ). or_past m (lowest 0 m (high k row))) en eu
 
   counted : length row ≡ n → (eqb (length row) 0 || eqb (length row) c.signals) ≡ true
   counted e = rw (eq-eqb (length row) c.signals (e ∙ en)) (or-true (eqb (length row) 0))
 
-  pub row-high : (g : ℕ) → length row ≡ n → g ≡ orPast n (lowest 0 n (high u row)) → g < n → No (BadDegree g) ≡ replyOf (rowFault c row)
-  unfolding rowFault
-  row-high g e eg l = rw (counted e) (go firstHigh (told g eg))
+  pub row-high : (g : ℕ) → length row ≡ n → g ≡ or_past n (lowest 0 n (high u row)) → g < n → No (BadDegree g) ≡ reply_of (row_fault c row)
+  unfolding row_fault
+  row-high g e eg l = rw (counted e) (go first_high (told g eg))
     where
-      go : (o : Option ℕ) → g ≡ orPast c.signals o → No (BadDegree g) ≡ replyOf (Option.map BadDegree o)
+      go : (o : Option ℕ) → g ≡ or_past c.signals o → No (BadDegree g) ≡ reply_of (Option.map BadDegree o)
       go none q = absurd (omega (arith, en))
       go (some p) q = rw q
 
-  pub row_fits : (g : ℕ) → length row ≡ n → g ≡ orPast n (lowest 0 n (high u row)) → n ≤ g → Ok ≡ replyOf (rowFault c row)
-  unfolding rowFault
-  row_fits g e eg l = rw (counted e) (go firstHigh refl (told g eg))
+  pub row_fits : (g : ℕ) → length row ≡ n → g ≡ or_past n (lowest 0 n (high u row)) → n ≤ g → Ok ≡ reply_of (row_fault c row)
+  unfolding row_fault
+  row_fits g e eg l = rw (counted e) (go first_high refl (told g eg))
     where
-      go : (o : Option ℕ) → firstHigh ≡ o → g ≡ orPast c.signals o → Ok ≡ replyOf (Option.map BadDegree o)
+      go : (o : Option ℕ) → first_high ≡ o → g ≡ or_past c.signals o → Ok ≡ reply_of (Option.map BadDegree o)
       go none w q = refl
       go (some p) w q = absurd (omega (arith, lowest-below 0 c.signals (high (scale c) row) p w, en))
 
@@ -122,26 +122,26 @@ module _ (c : Card) (l : Lent) (h : Counts c l) where
 
 -- A place is covered by what the transitions post on a board of zeros.
 module _ (c : Card) (l : Lent) (h : Counts c l) (m : Meets c) (full : List ℕ) (x : Filled Capacity c full) (z : List ℕ) (long : length z ≡ 255) (zeros : (p : ℕ) → entry z p ≡ 0)
-    (a a' : Columns) (codes : CodesOf l a.transfers) (eo : a.owed ≡ z) (ed : a.due ≡ z) (all : PostsSpan 0 l.transitions (turnIn c a) a a') where
+    (a a' : Columns) (codes : CodesOf l a.transfers) (eo : a.owed ≡ z) (ed : a.due ≡ z) (all : PostsSpan 0 l.transitions (turn_in c a) a a') where
   abbrev left : ℕ → ℕ
   left t = remaining (flatten c) (transfer (view l).transfers t)
 
-  posted-is : (way : ℕ) (o : List ℕ) → Grown z o (spanSum posting (turnIn c a) 0 l.transitions way) → (p : ℕ) → p < length c.places → entry o p ≡ flow (flatten c) left way p
+  posted-is : (way : ℕ) (o : List ℕ) → Grown z o (span_sum posting (turn_in c a) 0 l.transitions way) → (p : ℕ) → p < length c.places → entry o p ≡ flow (flatten c) left way p
   posted-is way o g =
       board-exact c m left (λ t b. remaining-few (flatten c) (transfer (view l).transfers t)) way z o long zeros
-      (moved_same z o nothing _ nothing (flow (flatten c) left way) (λ p. refl) (λ p. codes-flow c l h a.transfers codes m.wellformed.rows.fewTransitions a refl l.transitions way p h.transitions) g)
+      (moved_same z o nothing _ nothing (flow (flatten c) left way) (λ p. refl) (λ p. codes-flow c l h a.transfers codes m.wellformed.rows.few_transitions a refl l.transitions way p h.transitions) g)
 
-  covered-place : (p : ℕ) → p < length c.places → coveredBy full l.markings a'.owed a'.due z z p ≡ covered (flatten c) (view l).markings (view l).transfers p
+  covered-place : (p : ℕ) → p < length c.places → covered_by full l.markings a'.owed a'.due z z p ≡ covered (flatten c) (view l).markings (view l).transfers p
   unfolding owed due
   covered-place p b =
       covered-seen c full l.markings (view l).markings (view l).transfers a'.owed a'.due z z p b x (marking-seen c l h p b)
-      (omega (arith, zeros p, posted-is draws a'.owed (subst (λ (k : List ℕ). Grown k a'.owed (spanSum posting (turnIn c a) 0 l.transitions draws)) eo all.owed) p b))
-      (omega (arith, zeros p, posted-is fills a'.due (subst (λ (k : List ℕ). Grown k a'.due (spanSum posting (turnIn c a) 0 l.transitions fills)) ed all.due) p b))
+      (omega (arith, zeros p, posted-is draws a'.owed (subst (λ (k : List ℕ). Grown k a'.owed (span_sum posting (turn_in c a) 0 l.transitions draws)) eo all.owed) p b))
+      (omega (arith, zeros p, posted-is fills a'.due (subst (λ (k : List ℕ). Grown k a'.due (span_sum posting (turn_in c a) 0 l.transitions fills)) ed all.due) p b))
 
-  pub covered-verdict : (r : ℕ) → r ≡ orPast l.places (lowest 0 l.places (λ p. not (coveredBy full l.markings a'.owed a'.due z z p)))
+  pub covered-verdict : (r : ℕ) → r ≡ or_past l.places (lowest 0 l.places (λ p. not (covered_by full l.markings a'.owed a'.due z z p)))
       → eqb r l.places ≡ every (length c.places) (covered (flatten c) (view l).markings (view l).transfers)
   covered-verdict r e =
-      verdict-is l.places (coveredBy full l.markings a'.owed a'.due z z) (covered (flatten c) (view l).markings (view l).transfers) r (λ p b. covered-place p (omega (arith, h.places))) e
+      verdict-is l.places (covered_by full l.markings a'.owed a'.due z z) (covered (flatten c) (view l).markings (view l).transfers) r (λ p b. covered-place p (omega (arith, h.places))) e
       ∙ ap (λ (n : ℕ). every n (covered (flatten c) (view l).markings (view l).transfers)) h.places
 
 -- 25, part after part
@@ -160,19 +160,19 @@ range-flat c Idle = refl
 range-flat c (Carrying n) = ap (ltb n) (scale-flat c)
 
 module _ (c : Card) (l : Lent) where
-  abbrev coveredAll : Bool
-  coveredAll = every (length c.places) (covered (flatten c) (view l).markings (view l).transfers)
+  abbrev covered_all : Bool
+  covered_all = every (length c.places) (covered (flatten c) (view l).markings (view l).transfers)
 
-  abbrev rangedAll : Bool
-  rangedAll = every (length c.transitions) (λ t. in_range c (transfer (view l).transfers t))
+  abbrev ranged_all : Bool
+  ranged_all = every (length c.transitions) (λ t. in_range c (transfer (view l).transfers t))
 
-  abbrev lowAll : Bool
-  lowAll = every c.signals (λ g. leb (entry (view l).degrees g) (scale c))
+  abbrev low_all : Bool
+  low_all = every c.signals (λ g. leb (entry (view l).degrees g) (scale c))
 
-  valid-parts : valid (flatten c) l ≡ (eqb l.places (length c.places) && eqb l.transitions (length c.transitions) && eqb l.signals c.signals && (coveredAll && rangedAll && lowAll))
-  unfolding validIn consistent flatten
+  valid-parts : valid (flatten c) l ≡ (eqb l.places (length c.places) && eqb l.transitions (length c.transitions) && eqb l.signals c.signals && (covered_all && ranged_all && low_all))
+  unfolding valid_in consistent flatten
   valid-parts = rw (
-    map-length flatPlaceRow c.places,
+    map-length flat_place_row c.places,
     every-same (length c.transitions) _ (λ t. in_range c (transfer (view l).transfers t)) (λ t b. range-flat c (transfer (view l).transfers t)),
     every-same c.signals _ (λ g. leb (entry (view l).degrees g) (scale c)) (λ g b. ap (leb (entry (view l).degrees g)) (scale-flat c)),
   )
@@ -187,14 +187,14 @@ module _ (c : Card) (l : Lent) where
   signals-off d = sym (valid-parts ∙ rw (ne_eqb l.signals c.signals d, and_no))
 
   module _ (h : Counts c l) where
-    valid-counted : valid (flatten c) l ≡ (coveredAll && rangedAll && lowAll)
+    valid-counted : valid (flatten c) l ≡ (covered_all && ranged_all && low_all)
     valid-counted = valid-parts ∙ rw (eq-eqb l.places (length c.places) h.places, eq-eqb l.transitions (length c.transitions) h.transitions, eq-eqb l.signals c.signals h.signals)
 
-    pub transfers-off : (x : Bool) → x ≡ rangedAll → not x ≡ true → false ≡ valid (flatten c) l
-    transfers-off x e n = sym (valid-counted ∙ rw (test-fails x rangedAll e n) (and-false coveredAll lowAll))
+    pub transfers-off : (x : Bool) → x ≡ ranged_all → not x ≡ true → false ≡ valid (flatten c) l
+    transfers-off x e n = sym (valid-counted ∙ rw (test-fails x ranged_all e n) (and-false covered_all low_all))
 
-    pub degrees-off : (x : Bool) → x ≡ lowAll → not x ≡ true → false ≡ valid (flatten c) l
-    degrees-off x e n = sym (valid-counted ∙ rw (test-fails x lowAll e n) (and_no (coveredAll && rangedAll)))
+    pub degrees-off : (x : Bool) → x ≡ low_all → not x ≡ true → false ≡ valid (flatten c) l
+    degrees-off x e n = sym (valid-counted ∙ rw (test-fails x low_all e n) (and_no (covered_all && ranged_all)))
 
-    pub valid-covered : (x y r : Bool) → x ≡ rangedAll → not x ≡ false → y ≡ lowAll → not y ≡ false → r ≡ coveredAll → r ≡ valid (flatten c) l
-    valid-covered x y r e n f m g = g ∙ sym (valid-counted ∙ and_split coveredAll rangedAll lowAll (test-holds x rangedAll e n) (test-holds y lowAll f m))
+    pub valid-covered : (x y r : Bool) → x ≡ ranged_all → not x ≡ false → y ≡ low_all → not y ≡ false → r ≡ covered_all → r ≡ valid (flatten c) l
+    valid-covered x y r e n f m g = g ∙ sym (valid-counted ∙ and_split covered_all ranged_all low_all (test-holds x ranged_all e n) (test-holds y low_all f m))

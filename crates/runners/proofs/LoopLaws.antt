@@ -5,24 +5,24 @@ use mathlib.Core.Option.{none}
 use native.Mathlib.Nat.{le_of_mul-le-mul_left}
 use borrow.Author.Tests.{eqb-false}
 use Rattle.card.specs.Finite.{sum_to, table}
-use Rattle.card.specs.Card.{Arc, Card, draws, fills, placeAt, transitionAt, arcAt, firstPlace, firstArc, flatPlace, place_of, noTransition}
+use Rattle.card.specs.Card.{Arc, Card, draws, fills, place_at, transition_at, arc_at, first_place, first_arc, flat_place, place_of, no_transition}
 use Rattle.card.specs.Wellformed.{TransitionRow, Wellformed}
-use Rattle.card.specs.Parsing.{readCard}
+use Rattle.card.specs.Parsing.{read_card}
 use Rattle.card.specs.Parsing
 use Rattle.card.proofs.TableLaws.{no-yes}
 use Rattle.card.proofs.Ranges.{read-wellformed}
 use Rattle.card.proofs.Sums.{sum_mono, table_at, table-length, all-at}
 use Rattle.card.proofs.Decides.{Decides, le_is, lt-is, and_is, every-is}
 use Rattle.hierarchy.specs.Conditions.{SelfLoop, Meets}
-use Rattle.hierarchy.specs.Check.{loopsFit}
+use Rattle.hierarchy.specs.Check.{loops_fit}
 use Rattle.hierarchy.specs.Judgement.{refused, judge}
-use Rattle.hierarchy.proofs.Agree.{loopsFit-is}
+use Rattle.hierarchy.proofs.Agree.{loops_fit-is}
 use Rattle.hierarchy.proofs.DeadLoopLaws.{DeadAt, told-26}
 use Rattle.flattening.specs.Flattening.{flatten}
 use Rattle.flattening.proofs.FlatLaws.{arc-flat, net-flat, Home, home, flat-below, flat-meets}
-use Rattle.runners.specs.State.{NetState, scale, entry, transfer, remaining, weightAt, incidence, flow, owed, due, fullMarking, Claims, claims}
-use Rattle.runners.specs.Step.{idle, allows, candidateOn, candidate}
-use Rattle.runners.specs.Rows.{rowFault}
+use Rattle.runners.specs.State.{NetState, scale, entry, transfer, remaining, weight_at, incidence, flow, owed, due, full_marking, Claims, claims}
+use Rattle.runners.specs.Step.{idle, allows, candidate_on, candidate}
+use Rattle.runners.specs.Rows.{row_fault}
 use Rattle.runners.specs.Calls.{consistent}
 use Rattle.runners.specs.declared.Transfer.TheVariants.{Idle}
 use Rattle.runners.proofs.ScaleLaws.{scale-some}
@@ -32,11 +32,11 @@ use Rattle.runners.proofs.FewLaws.{arc-row, one-subnet, incidence-most}
 
 -- what a candidate is
 candidate-is : (f : Card) (s : NetState) (row : List ℕ) (t : ℕ)
-    → Decides (candidate f s row t) (((idle (transfer s.transfers t) ≡ true) × (0 < entry row (transitionAt f t).signal))
-    × ((j : ℕ) → j < (transitionAt f t).arcs → allows f (claims f s.transfers) s.markings (arcAt f t j) ≡ true))
-unfolding candidate candidateOn
+    → Decides (candidate f s row t) (((idle (transfer s.transfers t) ≡ true) × (0 < entry row (transition_at f t).signal))
+    × ((j : ℕ) → j < (transition_at f t).arcs → allows f (claims f s.transfers) s.markings (arc_at f t j) ≡ true))
+unfolding candidate candidate_on
 candidate-is f s row t =
-    and_is _ _ _ _ (and_is _ _ _ _ (λ e. e, λ e. e) (lt-is 0 (entry row (transitionAt f t).signal))) (every-is _ _ _ (λ j. (λ e. e, λ e. e)))
+    and_is _ _ _ _ (and_is _ _ _ _ (λ e. e, λ e. e) (lt-is 0 (entry row (transition_at f t).signal))) (every-is _ _ _ (λ j. (λ e. e, λ e. e)))
 
 -- what an arc asks of its place's marking
 module _ (f : Card) (k : Claims) (ms : List ℕ) (a : Arc) where
@@ -44,9 +44,9 @@ module _ (f : Card) (k : Claims) (ms : List ℕ) (a : Arc) where
   unfolding allows
   draws-is e = rw (eq-eqb a.direction draws e) (le_is (k.owed a.place + scale f * a.weight) (entry ms a.place))
 
-  fills-is : a.direction ≡ fills → Decides (allows f k ms a) (entry ms a.place + k.due a.place + scale f * a.weight ≤ fullMarking f a.place)
+  fills-is : a.direction ≡ fills → Decides (allows f k ms a) (entry ms a.place + k.due a.place + scale f * a.weight ≤ full_marking f a.place)
   unfolding allows
-  fills-is e = rw e (le_is (entry ms a.place + k.due a.place + scale f * a.weight) (fullMarking f a.place))
+  fills-is e = rw e (le_is (entry ms a.place + k.due a.place + scale f * a.weight) (full_marking f a.place))
 
 -- an arc that draws from a place and one that fills it
 module _ (f : Card) (a b : Arc) (d : a.direction ≡ draws) (u : b.direction ≡ fills) (e : b.place ≡ a.place) where
@@ -54,74 +54,74 @@ module _ (f : Card) (a b : Arc) (d : a.direction ≡ draws) (u : b.direction ≡
   p = a.place
 
   -- allow a start together only where both weights are within the capacity together, whatever is there and whatever is claimed,
-  pub loop-within : (k : Claims) (ms : List ℕ) → allows f k ms a ≡ true → allows f k ms b ≡ true → a.weight + b.weight ≤ (placeAt f p).capacity
+  pub loop-within : (k : Claims) (ms : List ℕ) → allows f k ms a ≡ true → allows f k ms b ≡ true → a.weight + b.weight ≤ (place_at f p).capacity
   loop-within k ms x y =
       let v = (draws-is f k ms a d).0 x in
-      let w : entry ms p + k.due p + scale f * b.weight ≤ fullMarking f p = rw e at ((fills-is f k ms b u).0 y) in
-      let x : scale f * (a.weight + b.weight) ≤ scale f * (placeAt f p).capacity = omega (arith, v, w) in
+      let w : entry ms p + k.due p + scale f * b.weight ≤ full_marking f p = rw e at ((fills-is f k ms b u).0 y) in
+      let x : scale f * (a.weight + b.weight) ≤ scale f * (place_at f p).capacity = omega (arith, v, w) in
       le_of_mul-le-mul_left x (scale-some f)
 
   -- and there a marking of the place allows both, where nothing is claimed: as many tokens as are drawn.
-  pub loop-allowed : a.weight + b.weight ≤ (placeAt f p).capacity
-      → (m : ℕ) × (m ≤ fullMarking f p)
+  pub loop-allowed : a.weight + b.weight ≤ (place_at f p).capacity
+      → (m : ℕ) × (m ≤ full_marking f p)
       × ((k : Claims) (ms : List ℕ) → k.owed p ≡ 0 → k.due p ≡ 0 → entry ms p ≡ m → (allows f k ms a ≡ true) × (allows f k ms b ≡ true))
   loop-allowed l = (scale f * a.weight, omega (arith, mul-le-mul_left (scale f) l), both)
     where
       both : (k : Claims) (ms : List ℕ) → k.owed p ≡ 0 → k.due p ≡ 0 → entry ms p ≡ scale f * a.weight → (allows f k ms a ≡ true) × (allows f k ms b ≡ true)
       both k ms o n m =
-          let w : entry ms p + k.due p + scale f * b.weight ≤ fullMarking f p = omega (arith, n, m, mul-le-mul_left (scale f) l) in
+          let w : entry ms p + k.due p + scale f * b.weight ≤ full_marking f p = omega (arith, n, m, mul-le-mul_left (scale f) l) in
           ((draws-is f k ms a d).1 (omega (arith, o, m)), (fills-is f k ms b u).1 (rw e w))
 
 -- A TRANSITION WITH A LOOP THAT FAILS THE TEST OF 26 IS A CANDIDATE IN NO STATE AND NO ROW, be they valid or not
 module _ (c : Card) (t : ℕ) where
-  abbrev flatArc : ℕ → Arc
-  flatArc = arcAt (flatten c) t
+  abbrev flat_arc : ℕ → Arc
+  flat_arc = arc_at (flatten c) t
 
-  module _ (h j : ℕ) (o : SelfLoop (arcAt c t h) (arcAt c t j)) where
-    met : (flatArc h).place ≡ (flatArc j).place
+  module _ (h j : ℕ) (o : SelfLoop (arc_at c t h) (arc_at c t j)) where
+    met : (flat_arc h).place ≡ (flat_arc j).place
     met = (net-flat c).places t h ∙ rw (o.subnet, o.place) refl ∙ sym ((net-flat c).places t j)
 
-    capacity-there : (placeAt (flatten c) (flatArc j).place).capacity ≡ (place_of c (arcAt c t j)).capacity
-    capacity-there = rw ((net-flat c).places t j) ((net-flat c).capacities (flatPlace c (arcAt c t j)))
+    capacity-there : (place_at (flatten c) (flat_arc j).place).capacity ≡ (place_of c (arc_at c t j)).capacity
+    capacity-there = rw ((net-flat c).places t j) ((net-flat c).capacities (flat_place c (arc_at c t j)))
 
     -- arcs of which one draws and one fills, both allowed
-    module _ (k : Claims) (ms : List ℕ) (x : allows (flatten c) k ms (flatArc h) ≡ true) (y : allows (flatten c) k ms (flatArc j) ≡ true) where
+    module _ (k : Claims) (ms : List ℕ) (x : allows (flatten c) k ms (flat_arc h) ≡ true) (y : allows (flatten c) k ms (flat_arc j) ≡ true) where
       abbrev Within : Type 0
-      Within = (arcAt c t h).weight + (arcAt c t j).weight ≤ (place_of c (arcAt c t j)).capacity
+      Within = (arc_at c t h).weight + (arc_at c t j).weight ≤ (place_of c (arc_at c t j)).capacity
 
-      draws_first : (arcAt c t h).direction ≡ draws → (arcAt c t j).direction ≡ fills → Within
+      draws_first : (arc_at c t h).direction ≡ draws → (arc_at c t j).direction ≡ fills → Within
       draws_first d u =
-          let w = loop-within (flatten c) (flatArc h) (flatArc j) ((net-flat c).directions t h ∙ d) ((net-flat c).directions t j ∙ u) (sym met) k ms x y in
-          let q = ap (λ (p : ℕ). (placeAt (flatten c) p).capacity) met in
+          let w = loop-within (flatten c) (flat_arc h) (flat_arc j) ((net-flat c).directions t h ∙ d) ((net-flat c).directions t j ∙ u) (sym met) k ms x y in
+          let q = ap (λ (p : ℕ). (place_at (flatten c) p).capacity) met in
           omega (arith, w, q, capacity-there, (net-flat c).weights t h, (net-flat c).weights t j)
 
-      fills_first : (arcAt c t h).direction ≡ fills → (arcAt c t j).direction ≡ draws → Within
+      fills_first : (arc_at c t h).direction ≡ fills → (arc_at c t j).direction ≡ draws → Within
       fills_first u d =
-          let w = loop-within (flatten c) (flatArc j) (flatArc h) ((net-flat c).directions t j ∙ d) ((net-flat c).directions t h ∙ u) met k ms y x in
+          let w = loop-within (flatten c) (flat_arc j) (flat_arc h) ((net-flat c).directions t j ∙ d) ((net-flat c).directions t h ∙ u) met k ms y x in
           omega (arith, w, capacity-there, (net-flat c).weights t h, (net-flat c).weights t j)
 
-      within : (arcAt c t h).direction ≤ fills → (arcAt c t j).direction ≤ fills → Within
-      within a b = go (eqb (arcAt c t h).direction draws) refl
+      within : (arc_at c t h).direction ≤ fills → (arc_at c t j).direction ≤ fills → Within
+      within a b = go (eqb (arc_at c t h).direction draws) refl
         where
-          go : (z : Bool) → eqb (arcAt c t h).direction draws ≡ z → Within
+          go : (z : Bool) → eqb (arc_at c t h).direction draws ≡ z → Within
           go true e =
-              let d = eqb-true (arcAt c t h).direction draws e in
-              let n : (arcAt c t j).direction ≢ draws = λ q. o.directions (d ∙ sym q) in
+              let d = eqb-true (arc_at c t h).direction draws e in
+              let n : (arc_at c t j).direction ≢ draws = λ q. o.directions (d ∙ sym q) in
               draws_first d (omega (arith, b, n))
           go false e =
-              let u : (arcAt c t h).direction ≡ fills = omega (arith, a, eqb-false (arcAt c t h).direction draws e) in
-              let n : (arcAt c t j).direction ≢ fills = λ q. o.directions (u ∙ sym q) in
+              let u : (arc_at c t h).direction ≡ fills = omega (arith, a, eqb-false (arc_at c t h).direction draws e) in
+              let n : (arc_at c t j).direction ≢ fills = λ q. o.directions (u ∙ sym q) in
               fills_first u (omega (arith, b, n))
 
-  module _ (w : Wellformed c) (j : ℕ) (l : j < (transitionAt c t).arcs) (s : NetState) (row : List ℕ) where
+  module _ (w : Wellformed c) (j : ℕ) (l : j < (transition_at c t).arcs) (s : NetState) (row : List ℕ) where
     -- arc j of a candidate passes the test of 26
-    candidate-fits : candidate (flatten c) s row t ≡ true → loopsFit c t j ≡ true
+    candidate-fits : candidate (flatten c) s row t ≡ true → loops_fit c t j ≡ true
     unfolding flatten
     candidate-fits e =
         let x = ((candidate-is (flatten c) s row t).0 e).1 in
-        (loopsFit-is c t j).1 (λ h m o. within h j o (claims (flatten c) s.transfers) s.markings (x h (omega arith)) (x j l) (arc-row c.arcs w.rows.arcs _).direction (arc-row c.arcs w.rows.arcs _).direction)
+        (loops_fit-is c t j).1 (λ h m o. within h j o (claims (flatten c) s.transfers) s.markings (x h (omega arith)) (x j l) (arc-row c.arcs w.rows.arcs _).direction (arc-row c.arcs w.rows.arcs _).direction)
 
-    pub loop-never : loopsFit c t j ≡ false → candidate (flatten c) s row t ≡ false
+    pub loop-never : loops_fit c t j ≡ false → candidate (flatten c) s row t ≡ false
     loop-never f = go (candidate (flatten c) s row t) refl
       where
         go : (z : Bool) → candidate (flatten c) s row t ≡ z → candidate (flatten c) s row t ≡ false
@@ -129,7 +129,7 @@ module _ (c : Card) (t : ℕ) where
         go false e = e
 
 -- BYTES THAT ARE REFUSED WITH 26 HAVE A TRANSITION THAT IS A CANDIDATE IN NO STATE AND NO ROW, and the bit is that of an arc of it
-pub refused-never : (bytes : List ℕ) (c : Card) (end at : ℕ) → readCard bytes ≡ Parsing.whole c end → judge bytes ≡ refused 26 at
+pub refused-never : (bytes : List ℕ) (c : Card) (end at : ℕ) → read_card bytes ≡ Parsing.whole c end → judge bytes ≡ refused 26 at
     → (d : DeadAt c at) × ((s : NetState) (row : List ℕ) → candidate (flatten c) s row d.transition ≡ false)
 refused-never bytes c end at p e =
     let d = told-26 bytes c end at p e in
@@ -141,7 +141,7 @@ pub record Starts (f : Card) (t : ℕ) : Type 0 where
   pub row : List ℕ
   pub sized : Sized f state
   pub valid : consistent f state ≡ true
-  pub taken : rowFault f row ≡ none
+  pub taken : row_fault f row ≡ none
   pub starts : candidate f state row t ≡ true
 
 -- EACH TRANSITION OF AN ACCEPTED CARD CAN START
@@ -154,13 +154,13 @@ module _ (c : Card) (m : Meets c) (t : ℕ) (l : t < length c.transitions) where
   below = l
 
   abbrev arcs : ℕ
-  arcs = (transitionAt f t).arcs
+  arcs = (transition_at f t).arcs
 
   abbrev drawn : ℕ → ℕ
   drawn = incidence f draws t
 
-  abbrev capacityAt : ℕ → ℕ
-  capacityAt p = (placeAt f p).capacity
+  abbrev capacity_at : ℕ → ℕ
+  capacity_at p = (place_at f p).capacity
 
   flat : Meets f
   flat = flat-meets c m
@@ -168,23 +168,23 @@ module _ (c : Card) (m : Meets c) (t : ℕ) (l : t < length c.transitions) where
   abbrev at : Home f flat t
   at = home f flat t below
 
-  own-capacity : (j : ℕ) → (place_of f (arcAt f t j)).capacity ≡ capacityAt (arcAt f t j).place
-  unfolding firstPlace sum_to
+  own-capacity : (j : ℕ) → (place_of f (arc_at f t j)).capacity ≡ capacity_at (arc_at f t j).place
+  unfolding first_place sum_to
   own-capacity j = rw (arc-flat c t j, zero-add) refl
 
   -- what it draws from a place is within the capacity, at least what one arc draws, and leaves room for what an arc fills
-  drawn-most : (p : ℕ) → drawn p ≤ capacityAt p
-  drawn-most p = incidence-most c m draws t p (capacityAt p) below (λ j k d q. let w = (at.sound.weighted j k).fits in omega (arith, w, own-capacity j, ap capacityAt q))
+  drawn-most : (p : ℕ) → drawn p ≤ capacity_at p
+  drawn-most p = incidence-most c m draws t p (capacity_at p) below (λ j k d q. let w = (at.sound.weighted j k).fits in omega (arith, w, own-capacity j, ap capacity_at q))
 
-  drawn-least : (j : ℕ) → j < arcs → (arcAt f t j).direction ≡ draws → (arcAt f t j).weight ≤ drawn (arcAt f t j).place
+  drawn-least : (j : ℕ) → j < arcs → (arc_at f t j).direction ≡ draws → (arc_at f t j).weight ≤ drawn (arc_at f t j).place
   unfolding incidence sum_to
   drawn-least j k d =
-      let x : weightAt draws (arcAt f t j).place (arcAt f t j) ≡ (arcAt f t j).weight = rw (d, eq-eqb (arcAt f t j).place (arcAt f t j).place refl) in
-      omega (arith, x, sum_mono (suc j) arcs (λ i. weightAt draws (arcAt f t j).place (arcAt f t i)) k)
+      let x : weight_at draws (arc_at f t j).place (arc_at f t j) ≡ (arc_at f t j).weight = rw (d, eq-eqb (arc_at f t j).place (arc_at f t j).place refl) in
+      omega (arith, x, sum_mono (suc j) arcs (λ i. weight_at draws (arc_at f t j).place (arc_at f t i)) k)
 
-  module _ (i j : ℕ) (k : i < arcs) (n : j < arcs) (d : (arcAt f t i).direction ≡ draws) (u : (arcAt f t j).direction ≡ fills) (e : (arcAt f t i).place ≡ (arcAt f t j).place) where
+  module _ (i j : ℕ) (k : i < arcs) (n : j < arcs) (d : (arc_at f t i).direction ≡ draws) (u : (arc_at f t j).direction ≡ fills) (e : (arc_at f t i).place ≡ (arc_at f t j).place) where
     abbrev Both : Type 0
-    Both = (arcAt f t i).weight + (arcAt f t j).weight ≤ capacityAt (arcAt f t j).place
+    Both = (arc_at f t i).weight + (arc_at f t j).weight ≤ capacity_at (arc_at f t j).place
 
     both : Both
     both = go (ltb i j) refl (ltb j i) refl
@@ -195,16 +195,16 @@ module _ (c : Card) (m : Meets c) (t : ℕ) (l : t < length c.transitions) where
             omega (arith, w, own-capacity j)
         go false p true q =
             let w = at.sound.loops j i (ltb-true j i q) k (record { directions = λ z. omega (arith, z, d, u); subnet = one-subnet c m t j i; place = sym e }) in
-            omega (arith, w, own-capacity i, ap capacityAt e)
+            omega (arith, w, own-capacity i, ap capacity_at e)
         go false p false q =
             let z : i ≡ j = omega (arith, ltb-false i j p, ltb-false j i q) in
-            absurd (omega (arith, d, u, ap (λ (v : ℕ). (arcAt f t v).direction) z))
+            absurd (omega (arith, d, u, ap (λ (v : ℕ). (arc_at f t v).direction) z))
 
-  drawn-beside : (j : ℕ) → j < arcs → (arcAt f t j).direction ≡ fills → drawn (arcAt f t j).place + (arcAt f t j).weight ≤ capacityAt (arcAt f t j).place
+  drawn-beside : (j : ℕ) → j < arcs → (arc_at f t j).direction ≡ fills → drawn (arc_at f t j).place + (arc_at f t j).weight ≤ capacity_at (arc_at f t j).place
   drawn-beside j n u =
-      let p = (arcAt f t j).place in
+      let p = (arc_at f t j).place in
       let w = (at.sound.weighted j n).fits in
-      let x = incidence-most c m draws t p (capacityAt p - (arcAt f t j).weight) below (λ i k d q. omega (arith, both i j k n d u q)) in
+      let x = incidence-most c m draws t p (capacity_at p - (arc_at f t j).weight) below (λ i k d q. omega (arith, both i j k n d u q)) in
       omega (arith, w, x, own-capacity j)
 
   -- the state and the row: nothing carries, each place has what the transition draws from it, and all signals are up
@@ -248,37 +248,37 @@ module _ (c : Card) (m : Meets c) (t : ℕ) (l : t < length c.transitions) where
   unfolding full
   full_at g k = table_at f.signals (λ h. scale f) 0 g k
 
-  full-taken : rowFault f full ≡ none
+  full-taken : row_fault f full ≡ none
   unfolding full
   full-taken = (fault-is f full).1 (inr (table-length _ _ _), λ g k. omega (arith, full_at g k))
 
   module _ (j : ℕ) (k : j < arcs) where
     abbrev place : ℕ
-    place = (arcAt f t j).place
+    place = (arc_at f t j).place
 
     here : place < length f.places
     here = omega (arith, flat-below f flat at.subnet _ _ at.below (at.sound.sees j k))
 
-    allowed : allows f (claims f ready.transfers) ready.markings (arcAt f t j) ≡ true
+    allowed : allows f (claims f ready.transfers) ready.markings (arc_at f t j) ≡ true
     unfolding owed due
-    allowed = go (eqb (arcAt f t j).direction draws) refl
+    allowed = go (eqb (arc_at f t j).direction draws) refl
       where
-        go : (z : Bool) → eqb (arcAt f t j).direction draws ≡ z → allows f (claims f ready.transfers) ready.markings (arcAt f t j) ≡ true
+        go : (z : Bool) → eqb (arc_at f t j).direction draws ≡ z → allows f (claims f ready.transfers) ready.markings (arc_at f t j) ≡ true
         go true e =
-            let d = eqb-true (arcAt f t j).direction draws e in
+            let d = eqb-true (arc_at f t j).direction draws e in
             let w = mul-le-mul_left (scale f) (drawn-least j k d) in
-            (draws-is f (claims f ready.transfers) ready.markings (arcAt f t j) d).1 (omega (arith, no-claim draws place, marked place here, w))
+            (draws-is f (claims f ready.transfers) ready.markings (arc_at f t j) d).1 (omega (arith, no-claim draws place, marked place here, w))
         go false e =
-            let u : (arcAt f t j).direction ≡ fills = omega (arith, (arc-row f.arcs flat.wellformed.rows.arcs (firstArc f t + j)).direction, eqb-false (arcAt f t j).direction draws e) in
+            let u : (arc_at f t j).direction ≡ fills = omega (arith, (arc-row f.arcs flat.wellformed.rows.arcs (first_arc f t + j)).direction, eqb-false (arc_at f t j).direction draws e) in
             let w = mul-le-mul_left (scale f) (drawn-beside j k u) in
-            (fills-is f (claims f ready.transfers) ready.markings (arcAt f t j) u).1 (omega (arith, no-claim fills place, marked place here, w))
+            (fills-is f (claims f ready.transfers) ready.markings (arc_at f t j) u).1 (omega (arith, no-claim fills place, marked place here, w))
 
   ready-starts : candidate f ready full t ≡ true
   unfolding ready
   ready-starts =
-      let g = (all-at (TransitionRow f.version f.signals) f.transitions noTransition flat.wellformed.rows.transitions t below).signal in
+      let g = (all-at (TransitionRow f.version f.signals) f.transitions no_transition flat.wellformed.rows.transitions t below).signal in
       let i = ap idle (table_at (length f.transitions) (λ v. Idle) Idle t below) in
-      let d : 0 < entry full (transitionAt f t).signal = omega (arith, full_at _ g, scale-some f) in
+      let d : 0 < entry full (transition_at f t).signal = omega (arith, full_at _ g, scale-some f) in
       (candidate-is f ready full t).1 ((i, d), allowed)
 
   pub can-start : Starts f t

@@ -7,7 +7,7 @@ use Rattle.card.proofs.BitLaws.{lt-or-ge}
 use Rattle.card.proofs.Decides.{Some, eq_is, and_is, every-is, any-is}
 use Rattle.card.proofs.Sums.{sum_same, sum-plus, sum-zero, sum_mono}
 use Rattle.card.specs.Finite.{one}
-use Rattle.runners.specs.Calls.{names, eachOnce}
+use Rattle.runners.specs.Calls.{names, each_once}
 use Rattle.runners.proofs.OrderLaws.{past-last}
 
 -- how many of x 0, .., x (n - 1) are s
@@ -78,8 +78,8 @@ pub record Once (S : ℕ) (order : List ℕ) : Type 0 where
   pub below : (i : ℕ) → i < S → get_or order i 0 < S
   pub named : (s : ℕ) → s < S → Some S (λ i. get_or order i 0 ≡ s)
 
-pub once : (S : ℕ) (order : List ℕ) → eachOnce S order ≡ true → Once S order
-unfolding eachOnce
+pub once : (S : ℕ) (order : List ℕ) → each_once S order ≡ true → Once S order
+unfolding each_once
 once S order e = record { size = h.0; below = λ i l. small i l (lt-or-ge (get_or order i 0) S); named = named }
   where
     Stands : ℕ → Type 0

@@ -1,11 +1,11 @@
 -- What one transition posts, whether it is a candidate, and how far it moves, out of a card's tables and the columns. Assumes nothing.
 use Rattle.std.proofs.Common.{◌≡◌, ℕ, suc, ◌+◌, ◌*◌, ◌<◌, ◌≤◌, Bool, true, false, cond, ◌&&◌, ltb, List, length, get_or, sym, refl, ap, ◌∙◌, subst, add-one, arith, lt-ltb}
 use Rattle.card.specs.Finite.{every}
-use Rattle.card.specs.Card.{Card, transitionAt, arcAt, firstTransition}
-use Rattle.card.specs.Index.{firstTransitionStart, transitionRowStart}
+use Rattle.card.specs.Card.{Card, transition_at, arc_at, first_transition}
+use Rattle.card.specs.Index.{first_transition_start, transition_row_start}
 use Rattle.flattening.specs.Flattening.{flatten}
 use Rattle.runners.specs.State.{NetState, Claims, entry, transfer, remaining}
-use Rattle.runners.specs.Step.{allows, candidateOn, startedOn, rise, startMove, asked, askedOn, movesOn}
+use Rattle.runners.specs.Step.{allows, candidate_on, started_on, rise, start_move, asked, asked_on, moves_on}
 use Rattle.runners.specs.Columns.{Moved, Grown, posted}
 use Rattle.runners.specs.Visits.{InTables}
 use Rattle.runners.specs.declared.Transfer.{Transfer}
@@ -23,32 +23,32 @@ moved_by m n down up a b e h = subst (λ (k : ℕ). Moved a b (λ p. k * down p)
 
 module _ (c : Card) (numbers starts : List ℕ) (h : InTables c numbers starts) where
   -- the entry for a transition's signal
-  pub degree-at : (t row g : ℕ) (degrees : List ℕ) (n : ℕ) → t < length c.transitions → row ≡ get_or starts (transitionRowStart t) 0 → g ≡ get_or numbers row 0 → n ≡ entry degrees g
-      → n ≡ entry degrees (transitionAt c t).signal
+  pub degree-at : (t row g : ℕ) (degrees : List ℕ) (n : ℕ) → t < length c.transitions → row ≡ get_or starts (transition_row_start t) 0 → g ≡ get_or numbers row 0 → n ≡ entry degrees g
+      → n ≡ entry degrees (transition_at c t).signal
   degree-at t row g degrees n l er eg en =
       let o = listed c h.meets t l in
       en ∙ ap (entry degrees) (eg ∙ rw (begins c numbers starts h o.0 t row o.2 er).at (h.loaded.laid.transition o.0 t o.2).signal)
 
   -- where a subnet's transitions begin and end
-  pub own-span : (s a b first end : ℕ) → s < length c.subnets → a ≡ get_or starts (firstTransitionStart s) 0 → b ≡ get_or starts (firstTransitionStart (s + 1)) 0
-      → (a < 65536 → first ≡ a) → (b < 65536 → end ≡ b) → (first ≡ firstTransition c s) × (end ≡ firstTransition c (suc s))
+  pub own-span : (s a b first end : ℕ) → s < length c.subnets → a ≡ get_or starts (first_transition_start s) 0 → b ≡ get_or starts (first_transition_start (s + 1)) 0
+      → (a < 65536 → first ≡ a) → (b < 65536 → end ≡ b) → (first ≡ first_transition c s) × (end ≡ first_transition c (suc s))
   own-span s a b first end l ea eb ef ee =
-      let x : a ≡ firstTransition c s = ea ∙ h.loaded.indexed.firstTransition s (omega arith) in
-      let y : b ≡ firstTransition c (suc s) = eb ∙ ap (λ (n : ℕ). get_or starts (firstTransitionStart n) 0) (add-one s) ∙ h.loaded.indexed.firstTransition (suc s) (omega arith) in
+      let x : a ≡ first_transition c s = ea ∙ h.loaded.indexed.first_transition s (omega arith) in
+      let y : b ≡ first_transition c (suc s) = eb ∙ ap (λ (n : ℕ). get_or starts (first_transition_start n) 0) (add-one s) ∙ h.loaded.indexed.first_transition (suc s) (omega arith) in
       (ef (omega (arith, x, few s (omega arith))) ∙ x, ee (omega (arith, y, few (suc s) (omega arith))) ∙ y)
     where
-      few : (n : ℕ) → n ≤ length c.subnets → firstTransition c n ≤ 255
-      few n k = omega (arith, firsts-below c h.meets n k, h.meets.wellformed.rows.fewTransitions)
+      few : (n : ℕ) → n ≤ length c.subnets → first_transition c n ≤ 255
+      few n k = omega (arith, firsts-below c h.meets n k, h.meets.wellformed.rows.few_transitions)
 
 -- a candidate
-pub candidate-busy : (f : Card) (k : Claims) (s : NetState) (row : List ℕ) (t n : ℕ) (x : Transfer) → x ≡ Carrying n → x ≡ transfer s.transfers t → false ≡ candidateOn f k s row t
-unfolding candidateOn
+pub candidate-busy : (f : Card) (k : Claims) (s : NetState) (row : List ℕ) (t n : ℕ) (x : Transfer) → x ≡ Carrying n → x ≡ transfer s.transfers t → false ≡ candidate_on f k s row t
+unfolding candidate_on
 candidate-busy f k s row t n x e h = rw (← h, e)
 
 pub candidate-idle : (c : Card) (owed due : List ℕ) (s : NetState) (row ms : List ℕ) (t : ℕ) (x : Transfer) (b : Bool) → x ≡ Idle → x ≡ transfer s.transfers t → s.markings ≡ ms
-    → b ≡ (ltb 0 (entry row (transitionAt c t).signal) && every (transitionAt c t).arcs (λ j. allows (flatten c) (posted owed due) ms (arcAt (flatten c) t j)))
-    → b ≡ candidateOn (flatten c) (posted owed due) s row t
-unfolding candidateOn flatten
+    → b ≡ (ltb 0 (entry row (transition_at c t).signal) && every (transition_at c t).arcs (λ j. allows (flatten c) (posted owed due) ms (arc_at (flatten c) t j)))
+    → b ≡ candidate_on (flatten c) (posted owed due) s row t
+unfolding candidate_on flatten
 candidate-idle c owed due s row ms t x b e h m q = rw (← h, e, m) q
 
 pub starts-not : (degree : ℕ) (b : Bool) → degree ≡ 0 → false ≡ (ltb 0 degree && b)
@@ -65,39 +65,39 @@ claim-none u b e = rw e refl
 
 -- what a starting transition moves, by the version in the tables
 module _ (c : Card) (numbers starts : List ℕ) (h : InTables c numbers starts) (v last new : ℕ) (e : v ≡ get_or numbers 0 0) where
-  pub start-zero : 2 ≤ v → new ≡ startMove (flatten c) last new
+  pub start-zero : 2 ≤ v → new ≡ start_move (flatten c) last new
   unfolding flatten
   start-zero l = sym (start-two (flatten c) last new (omega (arith, e, h.loaded.laid.version)))
 
-  pub start-risen : (d : ℕ) → v < 2 → d ≡ rise last new → d ≡ startMove (flatten c) last new
+  pub start-risen : (d : ℕ) → v < 2 → d ≡ rise last new → d ≡ start_move (flatten c) last new
   unfolding flatten
   start-risen d l k = k ∙ sym (start-one (flatten c) last new (omega (arith, e, h.loaded.laid.version)))
 
-pub asked-starts : (f : Card) (b : Bool) (last new d : ℕ) → b ≡ true → d ≡ startMove f last new → d ≡ asked f b last new
+pub asked-starts : (f : Card) (b : Bool) (last new d : ℕ) → b ≡ true → d ≡ start_move f last new → d ≡ asked f b last new
 asked-starts f b last new d e k = rw e k
 
 pub asked-later : (f : Card) (b : Bool) (last new d : ℕ) → b ≡ false → d ≡ rise last new → d ≡ asked f b last new
 asked-later f b last new d e k = rw e k
 
 -- how far a transition moves: no more than remains,
-pub moves-within : (f : Card) (s : NetState) (found : ℕ → Bool) (row : List ℕ) (t d : ℕ) (x : Transfer) → d ≡ movesOn f found s row t → x ≡ startedOn found s.transfers t → d ≤ remaining f x
+pub moves-within : (f : Card) (s : NetState) (found : ℕ → Bool) (row : List ℕ) (t d : ℕ) (x : Transfer) → d ≡ moves_on f found s row t → x ≡ started_on found s.transfers t → d ≤ remaining f x
 moves-within f s found row t d x e ex = omega (arith, e, ap (remaining f) ex)
 
-module _ (c : Card) (s : NetState) (found : ℕ → Bool) (row degrees : List ℕ) (t : ℕ) (x : Transfer) (rest : ℕ) (er : rest ≡ remaining (flatten c) x) (ex : x ≡ startedOn found s.transfers t) where
-  left : rest ≡ remaining (flatten c) (startedOn found s.transfers t)
+module _ (c : Card) (s : NetState) (found : ℕ → Bool) (row degrees : List ℕ) (t : ℕ) (x : Transfer) (rest : ℕ) (er : rest ≡ remaining (flatten c) x) (ex : x ≡ started_on found s.transfers t) where
+  left : rest ≡ remaining (flatten c) (started_on found s.transfers t)
   left = er ∙ ap (remaining (flatten c)) ex
 
-  pub moves-none : rest ≡ 0 → 0 ≡ movesOn (flatten c) found s row t
+  pub moves-none : rest ≡ 0 → 0 ≡ moves_on (flatten c) found s row t
   moves-none e = omega (arith, left)
 
-  module _ (new last d : ℕ) (starts : Bool) (en : new ≡ entry row (transitionAt c t).signal) (el : last ≡ entry degrees (transitionAt c t).signal) (es : s.degrees ≡ degrees)
+  module _ (new last d : ℕ) (starts : Bool) (en : new ≡ entry row (transition_at c t).signal) (el : last ≡ entry degrees (transition_at c t).signal) (es : s.degrees ≡ degrees)
       (eb : starts ≡ found t) (ed : d ≡ asked (flatten c) starts last new) where
-    whole : d ≡ askedOn (flatten c) found s.degrees row t
+    whole : d ≡ asked_on (flatten c) found s.degrees row t
     unfolding flatten
     whole = ed ∙ rw (eb, en, el, es)
 
-    pub moves-asked : d ≤ rest → d ≡ movesOn (flatten c) found s row t
+    pub moves-asked : d ≤ rest → d ≡ moves_on (flatten c) found s row t
     moves-asked l = omega (arith, left, whole)
 
-    pub moves-rest : rest < d → rest ≡ movesOn (flatten c) found s row t
+    pub moves-rest : rest < d → rest ≡ moves_on (flatten c) found s row t
     moves-rest l = omega (arith, left, whole)

@@ -12,7 +12,7 @@ use Rattle.card.specs.Finite.{sum_to, every, any}
 use Rattle.card.proofs.Sums.{sum_same, sum-zero, sum-front, sum_mono}
 use Rattle.card.specs.Finite.{one}
 use Rattle.hierarchy.proofs.WalkLaws.{and_no, and_yes, any-one}
-use Rattle.runners.specs.Calls.{names, eachOnce}
+use Rattle.runners.specs.Calls.{names, each_once}
 
 -- the digit of a at place k
 abbrev digit : ℕ → ℕ → ℕ
@@ -151,12 +151,12 @@ named-le order n (suc i) =
     )
 
 -- The three answers: an order of another length, an entry that is no subnet, and at the end the number of members.
-pub wrong-length : (order : List ℕ) (s : ℕ) → (length order ≡ s → ⊥) → false ≡ eachOnce s order
-unfolding eachOnce
+pub wrong-length : (order : List ℕ) (s : ℕ) → (length order ≡ s → ⊥) → false ≡ each_once s order
+unfolding each_once
 wrong-length order s h = rw (ne_eqb (length order) s h)
 
-pub past-last : (order : List ℕ) (s i : ℕ) → length order ≡ s → i < length order → s ≤ get_or order i 0 → false ≡ eachOnce s order
-unfolding eachOnce sum_to
+pub past-last : (order : List ℕ) (s i : ℕ) → length order ≡ s → i < length order → s ≤ get_or order i 0 → false ≡ each_once s order
+unfolding each_once sum_to
 past-last order s i size l h =
     rw (eq-eqb (length order) s size, sym (ones-every s (names order)))
     (sym (ne_eqb (sum_to s (λ k. one (names order k))) s (λ q. omega (arith, few))))
@@ -171,8 +171,8 @@ past-last order s i size l h =
     few = omega (arith, most, ap one here, sum_mono s (get_or order i 0) (λ k. one (names order k)) h)
 
 pub all-gathered : (order : List ℕ) (s i set : ℕ) → length order ≡ s → length order ≤ i → i ≤ length order → Gathered order s i set
-    → eqb (ones set) s ≡ eachOnce s order
-unfolding eachOnce
+    → eqb (ones set) s ≡ each_once s order
+unfolding each_once
 all-gathered order s i set size l m g = rw (counted, eq-eqb (length order) s size) (ones-every s (names order))
   where
     whole : i ≡ length order

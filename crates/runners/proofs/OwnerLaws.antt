@@ -1,7 +1,7 @@
 -- Each transition of a card is one subnet's. Assumes nothing.
 use Rattle.std.proofs.Common.{◌≡◌, ℕ, suc, ◌+◌, ◌<◌, ◌≤◌, ◌⊎◌, length, refl, inl, inr, arith}
 use Rattle.card.specs.Finite.{sum_to}
-use Rattle.card.specs.Card.{Card, subnetAt, firstTransition}
+use Rattle.card.specs.Card.{Card, subnet_at, first_transition}
 use Rattle.card.specs.Index.{Lists}
 use Rattle.card.proofs.BitLaws.{lt-or-ge}
 use Rattle.card.proofs.Decides.{Some}
@@ -11,17 +11,17 @@ use Rattle.runners.specs.Visits.{OwnsTransition}
 
 module _ (c : Card) where
   -- where a subnet's transitions end
-  pub next-first : (s : ℕ) → firstTransition c (suc s) ≡ firstTransition c s + (subnetAt c s).transitions
-  unfolding firstTransition sum_to
+  pub next-first : (s : ℕ) → first_transition c (suc s) ≡ first_transition c s + (subnet_at c s).transitions
+  unfolding first_transition sum_to
   next-first s = refl
 
   -- an own transition, by its number in the subnet
-  pub own : (s k : ℕ) → k < (subnetAt c s).transitions → OwnsTransition c s (firstTransition c s + k)
+  pub own : (s k : ℕ) → k < (subnet_at c s).transitions → OwnsTransition c s (first_transition c s + k)
   own s k l = record { low = omega arith; high = omega (arith, next-first s) }
 
-  firsts-mono : (r s : ℕ) → r ≤ s → firstTransition c r ≤ firstTransition c s
-  unfolding firstTransition
-  firsts-mono r s l = sum_mono r s (λ q. (subnetAt c q).transitions) l
+  firsts-mono : (r s : ℕ) → r ≤ s → first_transition c r ≤ first_transition c s
+  unfolding first_transition
+  firsts-mono r s l = sum_mono r s (λ q. (subnet_at c q).transitions) l
 
   pub owner-unique : (r s t : ℕ) → OwnsTransition c r t → OwnsTransition c s t → r ≡ s
   owner-unique r s t a b = go (lt-or-ge r s) (lt-or-ge s r)
@@ -34,14 +34,14 @@ module _ (c : Card) where
   -- each transition of the card has an owner, and a number past the last has none
   module _ (m : Meets c) where
     pub owner : (t : ℕ) → t < length c.transitions → Some (length c.subnets) (λ s. OwnsTransition c s t)
-    unfolding firstTransition
+    unfolding first_transition
     owner t l =
-        let o = sum-owner (length c.subnets) (λ s. (subnetAt c s).transitions) t (omega (arith, m.wellformed.rows.transitionCount)) in
+        let o = sum-owner (length c.subnets) (λ s. (subnet_at c s).transitions) t (omega (arith, m.wellformed.rows.transition_count)) in
         (o.range, o.below, record { low = o.low; high = o.high })
 
-    pub firsts-below : (s : ℕ) → s ≤ length c.subnets → firstTransition c s ≤ length c.transitions
-    unfolding firstTransition
-    firsts-below s l = omega (arith, m.wellformed.rows.transitionCount, sum_mono s (length c.subnets) (λ q. (subnetAt c q).transitions) l)
+    pub firsts-below : (s : ℕ) → s ≤ length c.subnets → first_transition c s ≤ length c.transitions
+    unfolding first_transition
+    firsts-below s l = omega (arith, m.wellformed.rows.transition_count, sum_mono s (length c.subnets) (λ q. (subnet_at c q).transitions) l)
 
     pub owned_below : (s t : ℕ) → s < length c.subnets → OwnsTransition c s t → t < length c.transitions
     owned_below s t l o = omega (arith, o.high, firsts-below (suc s) l)

@@ -8,10 +8,10 @@ use Rattle.card.proofs.Decides.{Some}
 use Rattle.hierarchy.specs.Conditions.{Meets}
 use Rattle.flattening.specs.Flattening.{flatten}
 use Rattle.runners.specs.State.{NetState, transfer, flow}
-use Rattle.runners.specs.Step.{candidateOn, arrivesOn}
-use Rattle.runners.specs.Calls.{eachOnce}
-use Rattle.runners.specs.Columns.{Moved, Grown, nothing, idleCode, code_of, transferOf, Columns, withStanding, withCandidates, withState}
-use Rattle.runners.specs.Visits.{OwnsTransition, Round, posting, finding, moving, Turn, amount, effect, stepTurn, InTurn, Does, SameElsewhere, InTables, turnIn, IsVisit}
+use Rattle.runners.specs.Step.{candidate_on, arrives_on}
+use Rattle.runners.specs.Calls.{each_once}
+use Rattle.runners.specs.Columns.{Moved, Grown, nothing, idle_code, code_of, transfer_of, Columns, with_standing, with_candidates, with_state}
+use Rattle.runners.specs.Visits.{OwnsTransition, Round, posting, finding, moving, Turn, amount, effect, step_turn, InTurn, Does, SameElsewhere, InTables, turn_in, IsVisit}
 use Rattle.runners.specs.inner.Rounds.{DoesAll}
 use Rattle.runners.proofs.OwnerLaws.{owner-unique, owner}
 use Rattle.runners.proofs.OnceLaws.{Once, once, sum-once, once-distinct}
@@ -28,11 +28,11 @@ up_to n j l = go (lt-or-ge j n)
     go (inr m) = inr (omega arith)
 
 -- an entry of the order that is still to be visited is a subnet
-pub visited : (S : ℕ) (order : List ℕ) (n : ℕ) → eachOnce S order ≡ true → n < length order → get_or order n 0 < S
+pub visited : (S : ℕ) (order : List ℕ) (n : ℕ) → each_once S order ≡ true → n < length order → get_or order n 0 < S
 visited S order n e l = let o = once S order e in o.below n (omega (arith, o.size))
 
 -- a transition of a subnet that was visited is none of the next one
-module _ (c : Card) (order : List ℕ) (e : eachOnce (length c.subnets) order ≡ true) where
+module _ (c : Card) (order : List ℕ) (e : each_once (length c.subnets) order ≡ true) where
   not-again : (n k t : ℕ) → k < n → n < length order → OwnsTransition c (get_or order k 0) t → ¬ OwnsTransition c (get_or order n 0) t
   not-again n k t l m a b =
       let o = once (length c.subnets) order e in
@@ -57,7 +57,7 @@ module _ {A : Type 0} (d : A) (good : ℕ → A) (c : Card) (order : List ℕ) w
   set-start : (xs : List A) → SetTo d good c order 0 xs xs
   set-start xs = record { long = refl; own = λ k t l o b. absurd (omega arith); others = λ t h. refl }
 
-  module _ (e : eachOnce (length c.subnets) order ≡ true) where
+  module _ (e : each_once (length c.subnets) order ≡ true) where
     set_more : (n : ℕ) (xs ys zs : List A) → n < length order → SetTo d good c order n xs ys → length zs ≡ length ys
         → ((t : ℕ) → OwnsTransition c (get_or order n 0) t → t < length ys → get_or zs t d ≡ good t)
         → ((t : ℕ) → ¬ OwnsTransition c (get_or order n 0) t → get_or zs t d ≡ get_or ys t d) → SetTo d good c order (n + 1) xs zs
@@ -110,7 +110,7 @@ module _ (r : Round) (j : Turn) (order : List ℕ) where
       → Moved b e (effect r (get_or order n 0) j draws) (effect r (get_or order n 0) j fills) → Moved a e (partly r j order (n + 1) draws) (partly r j order (n + 1) fills)
   moved_more n a b e g h = moved-join a b e _ _ _ _ _ _ g h (λ p. partly_more n draws p) (λ p. partly_more n fills p)
 
-  module _ (n : ℕ) (m : Meets j.card) (o : eachOnce (length j.card.subnets) order ≡ true) (q : n ≡ length order) where
+  module _ (n : ℕ) (m : Meets j.card) (o : each_once (length j.card.subnets) order ≡ true) (q : n ≡ length order) where
     grown-all : (way : ℕ) (a b : List ℕ) → Grown a b (partly r j order n way) → Grown a b (flow (flatten j.card) (amount r j) way)
     grown-all way a b h = moved_same a b nothing _ nothing _ (λ p. refl) (λ p. partly-all n way p m (once (length j.card.subnets) order o) q) h
 
@@ -120,20 +120,20 @@ module _ (r : Round) (j : Turn) (order : List ℕ) where
 
 -- What the first n visits do.
 pub record PostsTo (j : Turn) (order : List ℕ) (n : ℕ) (a a' : Columns) : Type 0 where
-  pub only : a' ≡ withStanding a a'.owed a'.due
+  pub only : a' ≡ with_standing a a'.owed a'.due
   pub owed : Grown a.owed a'.owed (partly posting j order n draws)
   pub due : Grown a.due a'.due (partly posting j order n fills)
 
 pub record FindsTo (j : Turn) (order : List ℕ) (n : ℕ) (a a' : Columns) : Type 0 where
-  pub only : a' ≡ withCandidates a a'.drawn a'.filled a'.candidates
+  pub only : a' ≡ with_candidates a a'.drawn a'.filled a'.candidates
   pub drawn : Grown a.drawn a'.drawn (partly finding j order n draws)
   pub filled : Grown a.filled a'.filled (partly finding j order n fills)
-  pub candidates : SetTo false (candidateOn (flatten j.card) j.standing j.state j.row) j.card order n a.candidates a'.candidates
+  pub candidates : SetTo false (candidate_on (flatten j.card) j.standing j.state j.row) j.card order n a.candidates a'.candidates
 
 pub record MovesTo (j : Turn) (order : List ℕ) (n : ℕ) (a a' : Columns) : Type 0 where
-  pub only : a' ≡ withState a a'.markings a'.transfers
+  pub only : a' ≡ with_state a a'.markings a'.transfers
   pub markings : Moved a.markings a'.markings (partly moving j order n draws) (partly moving j order n fills)
-  pub transfers : SetTo idleCode (λ t. code_of (arrivesOn (flatten j.card) j.found j.state j.row t)) j.card order n a.transfers a'.transfers
+  pub transfers : SetTo idle_code (λ t. code_of (arrives_on (flatten j.card) j.found j.state j.row t)) j.card order n a.transfers a'.transfers
 
 abbrev pub DoesTo : Round → Turn → (order : List ℕ) → (n : ℕ) → (a a' : Columns) → Type 0
 DoesTo posting j order n a a' = PostsTo j order n a a'
@@ -149,9 +149,9 @@ round-start finding j order a =
       filled = grown-start finding j order fills a.filled;
       candidates = set-start false _ j.card order a.candidates;
     }
-round-start moving j order a = record { only = refl; markings = moved-start moving j order a.markings; transfers = set-start idleCode _ j.card order a.transfers }
+round-start moving j order a = record { only = refl; markings = moved-start moving j order a.markings; transfers = set-start idle_code _ j.card order a.transfers }
 
-pub round-all : (r : Round) (j : Turn) (order : List ℕ) (n : ℕ) (a a' : Columns) → Meets j.card → eachOnce (length j.card.subnets) order ≡ true → n ≡ length order
+pub round-all : (r : Round) (j : Turn) (order : List ℕ) (n : ℕ) (a a' : Columns) → Meets j.card → each_once (length j.card.subnets) order ≡ true → n ≡ length order
     → DoesTo r j order n a a' → DoesAll r j a a'
 round-all posting j order n a a' m o q h =
     record { only = h.only; owed = grown-all posting j order n m o q draws a.owed a'.owed h.owed; due = grown-all posting j order n m o q fills a.due a'.due h.due }
@@ -166,38 +166,38 @@ round-all moving j order n a a' m o q h =
     record {
       only = h.only;
       markings = moved_all moving j order n m o q a.markings a'.markings h.markings;
-      transfers = set_all idleCode _ j.card order o n a.transfers a'.transfers m q h.transfers;
+      transfers = set_all idle_code _ j.card order o n a.transfers a'.transfers m q h.transfers;
     }
 
 -- EACH VISIT OF A ROUND IS IN ITS TURN, if each subnet is as the round begins: what the visits before it have done is none of its own
-module _ (c : Card) (before : NetState) (order : List ℕ) (o : eachOnce (length c.subnets) order ≡ true) (n : ℕ) (l : n < length order) (a b : Columns) where
+module _ (c : Card) (before : NetState) (order : List ℕ) (o : each_once (length c.subnets) order ≡ true) (n : ℕ) (l : n < length order) (a b : Columns) where
   abbrev s : ℕ
   s = get_or order n 0
 
-  still-in-turn : (r : Round) → InTurn r s (turnIn c a) before → DoesTo r (stepTurn c before a.row) order n a b → InTurn r s (turnIn c b) before
+  still-in-turn : (r : Round) → InTurn r s (turn_in c a) before → DoesTo r (step_turn c before a.row) order n a b → InTurn r s (turn_in c b) before
   still-in-turn posting h g =
       record {
-        transfers = λ t w. ap (λ (k : Columns). transfer (map transferOf k.transfers) t) g.only ∙ h.transfers t w;
+        transfers = λ t w. ap (λ (k : Columns). transfer (map transfer_of k.transfers) t) g.only ∙ h.transfers t w;
         degrees = λ q w. ap (λ (k : Columns). get_or k.degrees q 0) g.only ∙ h.degrees q w;
         places = λ e q i w. absurd (let z : ◌≡◌ {A = ℕ} 0 1 = cc in omega arith);
         found = λ e t w. absurd (let z : ◌≡◌ {A = ℕ} 0 1 = cc in omega arith);
       }
-  still-in-turn finding h g = subst (λ (k : Columns). InTurn finding s (turnIn c k) before) (sym g.only) (record {
+  still-in-turn finding h g = subst (λ (k : Columns). InTurn finding s (turn_in c k) before) (sym g.only) (record {
     transfers = h.transfers;
     degrees = h.degrees;
     places = λ e q i w. let x = h.places e q i w in record { capacities = x.capacities; markings = x.markings; owed = x.owed; due = x.due };
     found = λ e t w. absurd (let z : ◌≡◌ {A = ℕ} 0 1 = cc in omega arith);
   })
-  still-in-turn moving h g = subst (λ (k : Columns). InTurn moving s (turnIn c k) before) (sym g.only) (record {
+  still-in-turn moving h g = subst (λ (k : Columns). InTurn moving s (turn_in c k) before) (sym g.only) (record {
     transfers = λ t w.
-        transfer-code b.transfers t ∙ ap transferOf (set_next idleCode _ c order o n a.transfers b.transfers l g.transfers t w)
+        transfer-code b.transfers t ∙ ap transfer_of (set_next idle_code _ c order o n a.transfers b.transfers l g.transfers t w)
         ∙ sym (transfer-code a.transfers t) ∙ h.transfers t w;
     degrees = h.degrees;
     places = λ e q i w. absurd (let z : ◌≡◌ {A = ℕ} 0 1 = cc in omega arith);
     found = h.found;
   })
 
-  row-still : (r : Round) → DoesTo r (stepTurn c before a.row) order n a b → b.row ≡ a.row
+  row-still : (r : Round) → DoesTo r (step_turn c before a.row) order n a b → b.row ≡ a.row
   row-still posting g = ap (λ (k : Columns). k.row) g.only
   row-still finding g = ap (λ (k : Columns). k.row) g.only
   row-still moving g = ap (λ (k : Columns). k.row) g.only
@@ -205,35 +205,35 @@ module _ (c : Card) (before : NetState) (order : List ℕ) (o : eachOnce (length
   -- one visit more
   module _ (e : Columns) where
     abbrev j : Turn
-    j = stepTurn c before a.row
+    j = step_turn c before a.row
 
     more : (r : Round) → DoesTo r j order n a b → Does r s j b e → SameElsewhere c s b e → DoesTo r j order (n + 1) a e
     more posting g d u =
         record {
-          only = d.only ∙ ap (λ (k : Columns). withStanding k e.owed e.due) g.only;
+          only = d.only ∙ ap (λ (k : Columns). with_standing k e.owed e.due) g.only;
           owed = grown-more posting j order n draws a.owed b.owed e.owed g.owed d.owed;
           due = grown-more posting j order n fills a.due b.due e.due g.due d.due;
         }
     more finding g d u =
         record {
-          only = d.only ∙ ap (λ (k : Columns). withCandidates k e.drawn e.filled e.candidates) g.only;
+          only = d.only ∙ ap (λ (k : Columns). with_candidates k e.drawn e.filled e.candidates) g.only;
           drawn = grown-more finding j order n draws a.drawn b.drawn e.drawn g.drawn d.drawn;
           filled = grown-more finding j order n fills a.filled b.filled e.filled g.filled d.filled;
           candidates = set_more false _ c order o n a.candidates b.candidates e.candidates l g.candidates d.long d.own u.candidates;
         }
     more moving g d u =
         record {
-          only = d.only ∙ ap (λ (k : Columns). withState k e.markings e.transfers) g.only;
+          only = d.only ∙ ap (λ (k : Columns). with_state k e.markings e.transfers) g.only;
           markings = moved_more moving j order n a.markings b.markings e.markings g.markings d.markings;
-          transfers = set_more idleCode _ c order o n a.transfers b.transfers e.transfers l g.transfers d.long d.own u.transfers;
+          transfers = set_more idle_code _ c order o n a.transfers b.transfers e.transfers l g.transfers d.long d.own u.transfers;
         }
 
 pub round-more : (r : Round) (c : Card) (before : NetState) (order : List ℕ) (n : ℕ) (numbers starts : List ℕ) (a b e : Columns) → InTables c numbers starts
-    → eachOnce (length c.subnets) order ≡ true → n < length order → ((s : ℕ) → s < length c.subnets → InTurn r s (turnIn c a) before)
-    → DoesTo r (stepTurn c before a.row) order n a b → IsVisit r (get_or order n 0) numbers starts b e → DoesTo r (stepTurn c before a.row) order (n + 1) a e
+    → each_once (length c.subnets) order ≡ true → n < length order → ((s : ℕ) → s < length c.subnets → InTurn r s (turn_in c a) before)
+    → DoesTo r (step_turn c before a.row) order n a b → IsVisit r (get_or order n 0) numbers starts b e → DoesTo r (step_turn c before a.row) order (n + 1) a e
 round-more r c before order n numbers starts a b e h o l t g v =
     let below = visited (length c.subnets) order n o l in
     let f = v c h below in
     let w = still-in-turn c before order o n l a b r (t (get_or order n 0) below) g in
     more c before order o n l a b e r g
-    (subst (λ (row : List ℕ). Does r (get_or order n 0) (stepTurn c before row) b e) (row-still c before order o n l a b r g) (f.right before w)) f.elsewhere
+    (subst (λ (row : List ℕ). Does r (get_or order n 0) (step_turn c before row) b e) (row-still c before order o n l a b r g) (f.right before w)) f.elsewhere

@@ -1,15 +1,15 @@
 -- What a visit does for its transitions, one after another. Assumes nothing.
 use Rattle.std.proofs.Common.{◌≡◌, ℕ, suc, ◌+◌, ◌-◌, ◌*◌, ◌<◌, ◌≤◌, min, Bool, cond, ◌⊎◌, List, map, length, get_or, set, sym, refl, ap, ◌∙◌, subst, subst₂, inl, inr, arith, length-set, get_or-set_other, get_or-set_same}
 use Rattle.card.specs.Finite.{sum_to}
-use Rattle.card.specs.Card.{Card, draws, fills, subnetAt, firstTransition}
+use Rattle.card.specs.Card.{Card, draws, fills, subnet_at, first_transition}
 use Rattle.card.proofs.BitLaws.{lt-or-ge}
 use Rattle.hierarchy.specs.Conditions.{Meets}
 use Rattle.flattening.specs.Flattening.{flatten}
 use Rattle.runners.specs.State.{entry, transfer, remaining, incidence}
-use Rattle.runners.specs.Step.{candidateOn, askedOn, advanced, arrivesOn}
-use Rattle.runners.specs.Columns.{Moved, Grown, nothing, idleCode, code_of, transferOf, code_at, noted, posted, Columns, stateIn, withStanding, withCandidates, withState}
-use Rattle.runners.specs.Visits.{Round, posting, finding, moving, Turn, amount, effect, Does, SameElsewhere, InTables, turnIn, IsVisit}
-use Rattle.runners.specs.inner.Transitions.{part, DoesOne, spanSum, DoesSpan, IsSpan}
+use Rattle.runners.specs.Step.{candidate_on, asked_on, advanced, arrives_on}
+use Rattle.runners.specs.Columns.{Moved, Grown, nothing, idle_code, code_of, transfer_of, code_at, noted, posted, Columns, state_in, with_standing, with_candidates, with_state}
+use Rattle.runners.specs.Visits.{Round, posting, finding, moving, Turn, amount, effect, Does, SameElsewhere, InTables, turn_in, IsVisit}
+use Rattle.runners.specs.inner.Transitions.{part, DoesOne, span_sum, DoesSpan, IsSpan}
 use Rattle.runners.specs.declared.Transfer.{Transfer}
 use Rattle.runners.specs.declared.Transfer.TheVariants.{Carrying}
 use Rattle.runners.proofs.TransferLaws.{transfer-code}
@@ -31,29 +31,29 @@ module _ {A : Type 0} (d : A) (good : ℕ → A) (first t : ℕ) (a b : List A) 
 
 -- what the transitions up to t post or move, and one more
 module _ (r : Round) (i : Turn) (first : ℕ) where
-  span_none : (direction p : ℕ) → 0 ≡ spanSum r i first first direction p
+  span_none : (direction p : ℕ) → 0 ≡ span_sum r i first first direction p
   unfolding sum_to
   span_none direction p = let z : first - first ≡ 0 = omega arith in rw z refl
 
-  span-step : (t direction p : ℕ) → first ≤ t → spanSum r i first (t + 1) direction p ≡ spanSum r i first t direction p + part r i t direction p
+  span-step : (t direction p : ℕ) → first ≤ t → span_sum r i first (t + 1) direction p ≡ span_sum r i first t direction p + part r i t direction p
   unfolding sum_to
   span-step t direction p l =
       let z : t + 1 - first ≡ suc (t - first) = omega arith in
       let w : first + (t - first) ≡ t = omega arith in
-      rw z (ap (λ (u : ℕ). spanSum r i first t direction p + part r i u direction p) w)
+      rw z (ap (λ (u : ℕ). span_sum r i first t direction p + part r i u direction p) w)
 
-  moved-start : (a : List ℕ) → Moved a a (spanSum r i first first draws) (spanSum r i first first fills)
-  moved-start a = moved_same a a nothing nothing (spanSum r i first first draws) (spanSum r i first first fills) (span_none draws) (span_none fills) (moved_none a)
+  moved-start : (a : List ℕ) → Moved a a (span_sum r i first first draws) (span_sum r i first first fills)
+  moved-start a = moved_same a a nothing nothing (span_sum r i first first draws) (span_sum r i first first fills) (span_none draws) (span_none fills) (moved_none a)
 
-  grown-start : (way : ℕ) (a : List ℕ) → Grown a a (spanSum r i first first way)
-  grown-start way a = moved_same a a nothing nothing nothing (spanSum r i first first way) (λ p. refl) (span_none way) (moved_none a)
+  grown-start : (way : ℕ) (a : List ℕ) → Grown a a (span_sum r i first first way)
+  grown-start way a = moved_same a a nothing nothing nothing (span_sum r i first first way) (λ p. refl) (span_none way) (moved_none a)
 
   module _ (t : ℕ) (l : first ≤ t) (a b e : List ℕ) where
-    moved_more : Moved a b (spanSum r i first t draws) (spanSum r i first t fills) → Moved b e (part r i t draws) (part r i t fills)
-        → Moved a e (spanSum r i first (t + 1) draws) (spanSum r i first (t + 1) fills)
+    moved_more : Moved a b (span_sum r i first t draws) (span_sum r i first t fills) → Moved b e (part r i t draws) (part r i t fills)
+        → Moved a e (span_sum r i first (t + 1) draws) (span_sum r i first (t + 1) fills)
     moved_more g h = moved-join a b e _ _ _ _ _ _ g h (λ p. span-step t draws p l) (λ p. span-step t fills p l)
 
-    grown-more : (way : ℕ) → Grown a b (spanSum r i first t way) → Grown b e (part r i t way) → Grown a e (spanSum r i first (t + 1) way)
+    grown-more : (way : ℕ) → Grown a b (span_sum r i first t way) → Grown b e (part r i t way) → Grown a e (span_sum r i first (t + 1) way)
     grown-more way g h = moved-join a b e nothing _ nothing _ nothing _ g h (λ p. refl) (λ p. span-step t way p l)
 
 pub span-start : (r : Round) (i : Turn) (first : ℕ) (a : Columns) → DoesSpan r first first i a a
@@ -73,10 +73,10 @@ span-start moving i first a =
 -- What the next transition finds of its own is what stood there before the visit.
 module _ (c : Card) (a b e : Columns) (first t : ℕ) where
   abbrev i : Turn
-  i = turnIn c a
+  i = turn_in c a
 
   abbrev j : Turn
-  j = turnIn c b
+  j = turn_in c b
 
   part_same : (r : Round) → amount r j t ≡ amount r i t → (direction p : ℕ) → part r j t direction p ≡ part r i t direction p
   part_same r h direction p = ap (λ (n : ℕ). n * incidence (flatten c) direction t p) h
@@ -86,12 +86,12 @@ module _ (c : Card) (a b e : Columns) (first t : ℕ) where
 
   again : (r : Round) → DoesSpan r first t i a b → DoesOne r t j b e → DoesOne r t i b e
   again posting h o =
-      let n : amount posting j t ≡ amount posting i t = ap (λ (k : Columns). amount posting (turnIn c k) t) h.only in
+      let n : amount posting j t ≡ amount posting i t = ap (λ (k : Columns). amount posting (turn_in c k) t) h.only in
       record { only = o.only; owed = grown-same posting n draws b.owed e.owed o.owed; due = grown-same posting n fills b.due e.due o.due }
   again finding h o =
-      let q : candidateOn (flatten c) j.standing j.state j.row t ≡ candidateOn (flatten c) i.standing i.state i.row t =
-      ap (λ (k : Columns). candidateOn (flatten c) (posted k.owed k.due) (stateIn k) k.row t) h.only in
-      let n : amount finding j t ≡ amount finding i t = ap (λ (k : Columns). amount finding (turnIn c k) t) h.only in
+      let q : candidate_on (flatten c) j.standing j.state j.row t ≡ candidate_on (flatten c) i.standing i.state i.row t =
+      ap (λ (k : Columns). candidate_on (flatten c) (posted k.owed k.due) (state_in k) k.row t) h.only in
+      let n : amount finding j t ≡ amount finding i t = ap (λ (k : Columns). amount finding (turn_in c k) t) h.only in
       record {
         only = o.only;
         drawn = grown-same finding n draws b.drawn e.drawn o.drawn;
@@ -105,69 +105,69 @@ module _ (c : Card) (a b e : Columns) (first t : ℕ) where
         transfers = o.transfers ∙ ap (λ (x : Transfer). set b.transfers t (code_of x)) w;
       }
     where
-      x : transfer (map transferOf b.transfers) t ≡ transfer (map transferOf a.transfers) t
-      x = transfer-code b.transfers t ∙ ap transferOf (h.others t (λ z. omega (arith, z.1))) ∙ sym (transfer-code a.transfers t)
+      x : transfer (map transfer_of b.transfers) t ≡ transfer (map transfer_of a.transfers) t
+      x = transfer-code b.transfers t ∙ ap transfer_of (h.others t (λ z. omega (arith, z.1))) ∙ sym (transfer-code a.transfers t)
 
-      y : j ≡ turnIn c (withState a b.markings b.transfers)
-      y = ap (turnIn c) h.only
+      y : j ≡ turn_in c (with_state a b.markings b.transfers)
+      y = ap (turn_in c) h.only
 
       n : amount moving j t ≡ amount moving i t
-      n = ap (λ (k : Turn). amount moving k t) y ∙ ap (λ (z : Transfer). min (askedOn (flatten c) (noted a.candidates) a.degrees a.row t) (remaining (flatten c) (cond (noted a.candidates t) (Carrying 0) z))) x
+      n = ap (λ (k : Turn). amount moving k t) y ∙ ap (λ (z : Transfer). min (asked_on (flatten c) (noted a.candidates) a.degrees a.row t) (remaining (flatten c) (cond (noted a.candidates t) (Carrying 0) z))) x
 
-      w : arrivesOn (flatten c) j.found j.state j.row t ≡ arrivesOn (flatten c) i.found i.state i.row t
+      w : arrives_on (flatten c) j.found j.state j.row t ≡ arrives_on (flatten c) i.found i.state i.row t
       w =
-          ap (λ (k : Turn). arrivesOn (flatten c) k.found k.state k.row t) y
-          ∙ ap (λ (z : Transfer). advanced (flatten c) (cond (noted a.candidates t) (Carrying 0) z) (min (askedOn (flatten c) (noted a.candidates) a.degrees a.row t) (remaining (flatten c) (cond (noted a.candidates t) (Carrying 0) z)))) x
+          ap (λ (k : Turn). arrives_on (flatten c) k.found k.state k.row t) y
+          ∙ ap (λ (z : Transfer). advanced (flatten c) (cond (noted a.candidates t) (Carrying 0) z) (min (asked_on (flatten c) (noted a.candidates) a.degrees a.row t) (remaining (flatten c) (cond (noted a.candidates t) (Carrying 0) z)))) x
 
   -- one transition more
   more : (r : Round) → first ≤ t → DoesSpan r first t i a b → DoesOne r t i b e → DoesSpan r first (t + 1) i a e
   more posting l h o =
       record {
-        only = o.only ∙ ap (λ (k : Columns). withStanding k e.owed e.due) h.only;
+        only = o.only ∙ ap (λ (k : Columns). with_standing k e.owed e.due) h.only;
         owed = grown-more posting i first t l a.owed b.owed e.owed draws h.owed o.owed;
         due = grown-more posting i first t l a.due b.due e.due fills h.due o.due;
       }
   more finding l h o =
       record {
-        only = o.only ∙ ap (λ (k : Columns). withCandidates k e.drawn e.filled e.candidates) h.only;
+        only = o.only ∙ ap (λ (k : Columns). with_candidates k e.drawn e.filled e.candidates) h.only;
         drawn = grown-more finding i first t l a.drawn b.drawn e.drawn draws h.drawn o.drawn;
         filled = grown-more finding i first t l a.filled b.filled e.filled fills h.filled o.filled;
         long = ap length o.candidates ∙ length-set b.candidates t _ ∙ h.long;
-        own = λ u p k n. ap (λ (xs : List Bool). noted xs u) o.candidates ∙ set_own _ (λ v. candidateOn (flatten c) i.standing i.state i.row v) first t a.candidates b.candidates l h.long h.own u p k n;
-        others = λ u n. ap (λ (xs : List Bool). noted xs u) o.candidates ∙ set-others _ (λ v. candidateOn (flatten c) i.standing i.state i.row v) first t a.candidates b.candidates l h.long h.others _ u n;
+        own = λ u p k n. ap (λ (xs : List Bool). noted xs u) o.candidates ∙ set_own _ (λ v. candidate_on (flatten c) i.standing i.state i.row v) first t a.candidates b.candidates l h.long h.own u p k n;
+        others = λ u n. ap (λ (xs : List Bool). noted xs u) o.candidates ∙ set-others _ (λ v. candidate_on (flatten c) i.standing i.state i.row v) first t a.candidates b.candidates l h.long h.others _ u n;
       }
   more moving l h o =
       record {
-        only = o.only ∙ ap (λ (k : Columns). withState k e.markings e.transfers) h.only;
+        only = o.only ∙ ap (λ (k : Columns). with_state k e.markings e.transfers) h.only;
         markings = moved_more moving i first t l a.markings b.markings e.markings h.markings o.markings;
         long = ap length o.transfers ∙ length-set b.transfers t _ ∙ h.long;
-        own = λ u p k n. ap (λ (xs : List ℕ). code_at xs u) o.transfers ∙ set_own idleCode (λ v. code_of (arrivesOn (flatten c) i.found i.state i.row v)) first t a.transfers b.transfers l h.long h.own u p k n;
-        others = λ u n. ap (λ (xs : List ℕ). code_at xs u) o.transfers ∙ set-others idleCode (λ v. code_of (arrivesOn (flatten c) i.found i.state i.row v)) first t a.transfers b.transfers l h.long h.others _ u n;
+        own = λ u p k n. ap (λ (xs : List ℕ). code_at xs u) o.transfers ∙ set_own idle_code (λ v. code_of (arrives_on (flatten c) i.found i.state i.row v)) first t a.transfers b.transfers l h.long h.own u p k n;
+        others = λ u n. ap (λ (xs : List ℕ). code_at xs u) o.transfers ∙ set-others idle_code (λ v. code_of (arrives_on (flatten c) i.found i.state i.row v)) first t a.transfers b.transfers l h.long h.others _ u n;
       }
 
-pub span_more : (r : Round) (c : Card) (first t : ℕ) (a b e : Columns) → first ≤ t → DoesSpan r first t (turnIn c a) a b → DoesOne r t (turnIn c b) b e → DoesSpan r first (t + 1) (turnIn c a) a e
+pub span_more : (r : Round) (c : Card) (first t : ℕ) (a b e : Columns) → first ≤ t → DoesSpan r first t (turn_in c a) a b → DoesOne r t (turn_in c b) b e → DoesSpan r first (t + 1) (turn_in c a) a e
 span_more r c first t a b e l h o = more c a b e first t r l h (again c a b e first t r h o)
 
 -- A subnet's own transitions are all that its visit does.
 module _ (r : Round) (s : ℕ) (i : Turn) where
-  span-all : (direction p : ℕ) → spanSum r i (firstTransition i.card s) (firstTransition i.card (suc s)) direction p ≡ effect r s i direction p
+  span-all : (direction p : ℕ) → span_sum r i (first_transition i.card s) (first_transition i.card (suc s)) direction p ≡ effect r s i direction p
   unfolding effect
   span-all direction p =
-      let z : firstTransition i.card (suc s) - firstTransition i.card s ≡ (subnetAt i.card s).transitions = omega (arith, next-first i.card s) in
+      let z : first_transition i.card (suc s) - first_transition i.card s ≡ (subnet_at i.card s).transitions = omega (arith, next-first i.card s) in
       rw z refl
 
-  moved_all : (a b : List ℕ) → Moved a b (spanSum r i (firstTransition i.card s) (firstTransition i.card (suc s)) draws) (spanSum r i (firstTransition i.card s) (firstTransition i.card (suc s)) fills)
+  moved_all : (a b : List ℕ) → Moved a b (span_sum r i (first_transition i.card s) (first_transition i.card (suc s)) draws) (span_sum r i (first_transition i.card s) (first_transition i.card (suc s)) fills)
       → Moved a b (effect r s i draws) (effect r s i fills)
   moved_all a b h = moved_same a b _ _ (effect r s i draws) (effect r s i fills) (span-all draws) (span-all fills) h
 
-  grown-all : (way : ℕ) (a b : List ℕ) → Grown a b (spanSum r i (firstTransition i.card s) (firstTransition i.card (suc s)) way) → Grown a b (effect r s i way)
+  grown-all : (way : ℕ) (a b : List ℕ) → Grown a b (span_sum r i (first_transition i.card s) (first_transition i.card (suc s)) way) → Grown a b (effect r s i way)
   grown-all way a b h = moved_same a b nothing _ nothing (effect r s i way) (λ p. refl) (span-all way) h
 
 module _ (c : Card) (s : ℕ) (a a' : Columns) where
   abbrev here : Turn
-  here = turnIn c a
+  here = turn_in c a
 
-  pub span-does : (r : Round) → DoesSpan r (firstTransition c s) (firstTransition c (suc s)) here a a' → Does r s here a a'
+  pub span-does : (r : Round) → DoesSpan r (first_transition c s) (first_transition c (suc s)) here a a' → Does r s here a a'
   span-does posting h = record { only = h.only; owed = grown-all posting s here draws a.owed a'.owed h.owed; due = grown-all posting s here fills a.due a'.due h.due }
   span-does finding h =
       record {
@@ -181,7 +181,7 @@ module _ (c : Card) (s : ℕ) (a a' : Columns) where
       record { only = h.only; markings = moved_all moving s here a.markings a'.markings h.markings; long = h.long; own = λ t o l. h.own t o.low o.high l }
 
   module _ (m : Meets c) (below : s < length c.subnets) where
-    pub span-elsewhere : (r : Round) → DoesSpan r (firstTransition c s) (firstTransition c (suc s)) here a a' → SameElsewhere c s a a'
+    pub span-elsewhere : (r : Round) → DoesSpan r (first_transition c s) (first_transition c (suc s)) here a a' → SameElsewhere c s a a'
     span-elsewhere posting h =
         let d = span-does posting h in
         record {
@@ -218,14 +218,14 @@ module _ (c : Card) (s : ℕ) (a a' : Columns) where
 
 -- WHAT A VISIT IS MADE OF: the transitions from its first up to the next subnet's
 pub visit-made : (r : Round) (s first end : ℕ) (numbers starts : List ℕ) (a a' : Columns)
-    → ((c : Card) → InTables c numbers starts → s < length c.subnets → (first ≡ firstTransition c s) × (end ≡ firstTransition c (suc s)))
+    → ((c : Card) → InTables c numbers starts → s < length c.subnets → (first ≡ first_transition c s) × (end ≡ first_transition c (suc s)))
     → IsSpan r first end numbers starts a a' → IsVisit r s numbers starts a a'
 visit-made r s first end numbers starts a a' e h c t below =
     let f = e c t below in
-    let d : DoesSpan r (firstTransition c s) (firstTransition c (suc s)) (turnIn c a) a a' =
-    subst₂ (λ (x y : ℕ). DoesSpan r x y (turnIn c a) a a') f.0 f.1 (h c t (omega (arith, f.0, f.1, next-first c s)) (omega (arith, f.1, firsts-below c t.meets (suc s) below))) in
+    let d : DoesSpan r (first_transition c s) (first_transition c (suc s)) (turn_in c a) a a' =
+    subst₂ (λ (x y : ℕ). DoesSpan r x y (turn_in c a) a a') f.0 f.1 (h c t (omega (arith, f.0, f.1, next-first c s)) (omega (arith, f.1, firsts-below c t.meets (suc s) below))) in
     facts r s c a a' t.meets below (span-does c s a a' r d) (span-elsewhere c s a a' t.meets below r d)
 
 -- up to the end
-pub span-end : (r : Round) (c : Card) (first t end : ℕ) (a a' : Columns) → t ≡ end → DoesSpan r first t (turnIn c a) a a' → DoesSpan r first end (turnIn c a) a a'
-span-end r c first t end a a' e h = subst (λ (n : ℕ). DoesSpan r first n (turnIn c a) a a') e h
+pub span-end : (r : Round) (c : Card) (first t end : ℕ) (a a' : Columns) → t ≡ end → DoesSpan r first t (turn_in c a) a a' → DoesSpan r first end (turn_in c a) a a'
+span-end r c first t end a a' e h = subst (λ (n : ℕ). DoesSpan r first n (turn_in c a) a a') e h

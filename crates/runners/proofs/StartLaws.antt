@@ -2,26 +2,26 @@
 -- row hangs on the version. Assumes nothing.
 use Rattle.std.proofs.Common.{◌≡◌, ℕ, ◌+◌, ◌<◌, ◌≤◌, min, Bool, true, false, not, ◌&&◌, ltb, List, length, refl, ap, ◌∙◌, arith, eq-eqb, le-leb}
 use borrow.Author.Tests.{lt-leb}
-use Rattle.card.specs.Finite.{someIf}
-use Rattle.card.specs.Card.{Arc, Card, draws, fills, firstArc, transitionAt, withVersion}
+use Rattle.card.specs.Finite.{some_if}
+use Rattle.card.specs.Card.{Arc, Card, draws, fills, first_arc, transition_at, with_version}
 use Rattle.card.proofs.LongInput.{first-same}
 use Rattle.card.proofs.Sums.{sum_same, table_at}
 use Rattle.card.proofs.Prefix.{table_same}
 use Rattle.runners.specs.State.{NetState, scale, fresh, transfer, remaining, incidence, flow, owed, due, claims, covered}
-use Rattle.runners.specs.Step.{idle, allows, candidateOn, candidate, startedOn, startedBy, degree, rise, startMove, advanced, arrivesBy, nextBy, conflict, moves, next}
-use Rattle.runners.specs.Rows.{rowFault}
+use Rattle.runners.specs.Step.{idle, allows, candidate_on, candidate, started_on, started_by, degree, rise, start_move, advanced, arrives_by, next_by, conflict, moves, next}
+use Rattle.runners.specs.Rows.{row_fault}
 use Rattle.runners.specs.Calls.{in_range, consistent}
 use Rattle.runners.specs.declared.Transfer.{Transfer}
 use Rattle.runners.specs.declared.Transfer.TheVariants.{Idle, Carrying}
 use Rattle.runners.proofs.VisitLaws.{every-same, remaining-same}
 
 -- what a starting transition moves: on version 1, and from version 2 on
-pub start-one : (f : Card) (last new : ℕ) → f.version < 2 → startMove f last new ≡ rise last new
-unfolding startMove
+pub start-one : (f : Card) (last new : ℕ) → f.version < 2 → start_move f last new ≡ rise last new
+unfolding start_move
 start-one f last new v = rw (lt-leb 2 f.version v) refl
 
-pub start-two : (f : Card) (last new : ℕ) → 2 ≤ f.version → startMove f last new ≡ new
-unfolding startMove
+pub start-two : (f : Card) (last new : ℕ) → 2 ≤ f.version → start_move f last new ≡ new
+unfolding start_move
 start-two f last new v = rw (le-leb 2 f.version v) refl
 
 module _ (f : Card) (s : NetState) (row : List ℕ) (t : ℕ) where
@@ -45,17 +45,17 @@ module _ (f : Card) (s : NetState) (row : List ℕ) (t : ℕ) where
   pub start-ends : candidate f s row t ≡ true → 2 ≤ f.version → degree f row t ≡ scale f → t < length f.transitions → transfer (next f s row).transfers t ≡ Idle
   unfolding next
   start-ends e v d l =
-      table_at (length f.transitions) (arrivesBy f (candidate f s row) (moves f s row) s.transfers) Idle t l
+      table_at (length f.transitions) (arrives_by f (candidate f s row) (moves f s row) s.transfers) Idle t l
       ∙ rw (e, start-whole e (omega (arith, d)) v, eq-eqb (0 + degree f row t) (scale f) (omega (arith, d))) refl
 
 -- NOTHING ELSE HANGS ON THE VERSION: the fresh state; tests 20 and 21; what a state must be (25); candidates and conflicts, which are judged on the
 -- claims of c = 0 and before any move; and what comes of given starts and amounts. (What does not start moves alike by `later-rise`.)
 module _ (v : ℕ) (f : Card) where
   abbrev g : Card
-  g = withVersion v f
+  g = with_version v f
 
   claimed-version : (xs : List Transfer) (way p : ℕ) → flow g (λ t. remaining g (transfer xs t)) way p ≡ flow f (λ t. remaining f (transfer xs t)) way p
-  unfolding flow incidence firstArc
+  unfolding flow incidence first_arc
   claimed-version xs way p = sum_same (length f.transitions) _ _ (λ t l. rw (remaining-same g f (transfer xs t)))
 
   allows-version : (xs : List Transfer) (ms : List ℕ) (a : Arc) → allows g (claims g xs) ms a ≡ allows f (claims f xs) ms a
@@ -70,8 +70,8 @@ module _ (v : ℕ) (f : Card) where
   unfolding fresh scale
   fresh-version = refl
 
-  pub fault-version : (row : List ℕ) → rowFault g row ≡ rowFault f row
-  unfolding rowFault scale
+  pub fault-version : (row : List ℕ) → row_fault g row ≡ row_fault f row
+  unfolding row_fault scale
   fault-version row = refl
 
   range-version : (x : Transfer) → in_range g x ≡ in_range f x
@@ -93,24 +93,24 @@ module _ (v : ℕ) (f : Card) where
   advanced-version Idle d = refl
   advanced-version (Carrying c) d = refl
 
-  pub next-version : (start : ℕ → Bool) (amount : ℕ → ℕ) (s : NetState) (row : List ℕ) → nextBy g start amount s row ≡ nextBy f start amount s row
-  unfolding flow incidence firstArc
+  pub next-version : (start : ℕ → Bool) (amount : ℕ → ℕ) (s : NetState) (row : List ℕ) → next_by g start amount s row ≡ next_by f start amount s row
+  unfolding flow incidence first_arc
   next-version start amount s row =
-      rw (table_same 0 (length f.transitions) (arrivesBy g start amount s.transfers) (arrivesBy f start amount s.transfers) (λ t. advanced-version (startedOn start s.transfers t) (amount t)))
+      rw (table_same 0 (length f.transitions) (arrives_by g start amount s.transfers) (arrives_by f start amount s.transfers) (λ t. advanced-version (started_on start s.transfers t) (amount t)))
       refl
 
   module _ (s : NetState) (row : List ℕ) where
     pub candidate-version : (t : ℕ) → candidate g s row t ≡ candidate f s row t
-    unfolding candidate candidateOn firstArc
+    unfolding candidate candidate_on first_arc
     candidate-version t =
         ap (λ (b : Bool). idle (transfer s.transfers t) && ltb 0 (degree f row t) && b)
-        (every-same (transitionAt f t).arcs _ _ (λ j l. allows-version s.transfers s.markings _))
+        (every-same (transition_at f t).arcs _ _ (λ j l. allows-version s.transfers s.markings _))
 
-    started-version : startedBy g (candidate g s row) s.transfers ≡ startedBy f (candidate f s row) s.transfers
+    started-version : started_by g (candidate g s row) s.transfers ≡ started_by f (candidate f s row) s.transfers
     started-version =
-        table_same 0 (length f.transitions) (startedOn (candidate g s row) s.transfers) (startedOn (candidate f s row) s.transfers) (λ t. rw (candidate-version t))
+        table_same 0 (length f.transitions) (started_on (candidate g s row) s.transfers) (started_on (candidate f s row) s.transfers) (λ t. rw (candidate-version t))
 
     pub conflict-version : conflict g s row ≡ conflict f s row
     unfolding conflict
     conflict-version =
-        rw started-version (first-same 0 (length f.places) _ _ (λ p l k. ap (λ (b : Bool). someIf (not b) p) (covered-version s.markings (startedBy f (candidate f s row) s.transfers) p)))
+        rw started-version (first-same 0 (length f.places) _ _ (λ p l k. ap (λ (b : Bool). some_if (not b) p) (covered-version s.markings (started_by f (candidate f s row) s.transfers) p)))

@@ -5,12 +5,12 @@ use mathlib.Core.Logic.Iff
 use mathlib.Core.Option.{none, map-eq-none_iff}
 use borrow.Author.Tests.{eqb-false}
 use Rattle.card.specs.Finite.{lowest}
-use Rattle.card.specs.Card.{Card, draws, fills, placeAt}
+use Rattle.card.specs.Card.{Card, draws, fills, place_at}
 use Rattle.card.proofs.Sums.{sum-zero, table_at, table-length}
-use Rattle.card.proofs.Decides.{Decides, Clears, lt-is, le_is, eq_is, and_is, or_is, every-is, someUnless-is, otherwise-is, someIf-is, firstOf-is}
+use Rattle.card.proofs.Decides.{Decides, Clears, lt-is, le_is, eq_is, and_is, or_is, every-is, some_unless-is, otherwise-is, some_if-is, first_of-is}
 use Rattle.runners.specs.State.{NetState, scale, entry, transfer, fresh, remaining, flow, owed, due}
-use Rattle.runners.specs.Step.{candidate, startedOn, advanced, arrivesBy, nextBy, started, conflict, askedOn, movesOn, arrivesOn, moves, next}
-use Rattle.runners.specs.Rows.{rowFault, rowConflict, rowRefusal}
+use Rattle.runners.specs.Step.{candidate, started_on, advanced, arrives_by, next_by, started, conflict, asked_on, moves_on, arrives_on, moves, next}
+use Rattle.runners.specs.Rows.{row_fault, row_conflict, row_refusal}
 use Rattle.runners.specs.Calls.{in_range, consistent}
 use Rattle.runners.specs.declared.Transfer.{Transfer}
 use Rattle.runners.specs.declared.Transfer.TheVariants.{Idle, Carrying}
@@ -49,7 +49,7 @@ pub fresh-sized : (f : Card) → Sized f (fresh f)
 unfolding fresh
 fresh-sized f = record { markings = table-length _ _ _; transfers = table-length _ _ _; degrees = table-length _ _ _ }
 
-pub sized-by : (f : Card) (start : ℕ → Bool) (amount : ℕ → ℕ) (s : NetState) (row : List ℕ) → length row ≡ f.signals → Sized f (nextBy f start amount s row)
+pub sized-by : (f : Card) (start : ℕ → Bool) (amount : ℕ → ℕ) (s : NetState) (row : List ℕ) → length row ≡ f.signals → Sized f (next_by f start amount s row)
 sized-by f start amount s row e = record { markings = table-length _ _ _; transfers = table-length _ _ _; degrees = e }
 
 pub next-sized : (f : Card) (s : NetState) (row : List ℕ) → length row ≡ f.signals → Sized f (next f s row)
@@ -61,14 +61,14 @@ pub no_flow : (f : Card) (xs : List Transfer) (way p : ℕ) → ((t : ℕ) → t
 unfolding flow
 no_flow f xs way p h = sum-zero (length f.transitions) _ (λ t l. rw (h t l) (omega arith))
 
-module _ (f : Card) (tokens : (p : ℕ) → p < length f.places → (placeAt f p).tokens ≤ (placeAt f p).capacity) where
+module _ (f : Card) (tokens : (p : ℕ) → p < length f.places → (place_at f p).tokens ≤ (place_at f p).capacity) where
   fresh-idle : (t : ℕ) → t < length f.transitions → transfer (fresh f).transfers t ≡ Idle
   unfolding fresh
   fresh-idle t l = table_at (length f.transitions) (λ u. Idle) Idle t l
 
-  fresh-marking : (p : ℕ) → p < length f.places → entry (fresh f).markings p ≡ scale f * (placeAt f p).tokens
+  fresh-marking : (p : ℕ) → p < length f.places → entry (fresh f).markings p ≡ scale f * (place_at f p).tokens
   unfolding fresh
-  fresh-marking p l = table_at (length f.places) (λ q. scale f * (placeAt f q).tokens) 0 p l
+  fresh-marking p l = table_at (length f.places) (λ q. scale f * (place_at f q).tokens) 0 p l
 
   fresh-degree : (g : ℕ) → g < f.signals → entry (fresh f).degrees g ≡ 0
   unfolding fresh
@@ -96,21 +96,21 @@ module _ (f : Card) (tokens : (p : ℕ) → p < length f.places → (placeAt f p
 pub record Fits (f : Card) (s : NetState) (row : List ℕ) : Type 0 where
   pub long : (length row ≡ 0) ⊎ (length row ≡ f.signals)
   pub degrees : (g : ℕ) → g < f.signals → entry row g ≤ scale f
-  pub free : rowConflict f s row ≡ none
+  pub free : row_conflict f s row ≡ none
 
 low-degrees : (f : Card) (row : List ℕ) → Clears (lowest 0 f.signals (λ g. ltb (scale f) (entry row g))) ((g : ℕ) → g < f.signals → entry row g ≤ scale f)
 low-degrees f row =
-    Iff.trans (firstOf-is 0 f.signals _ _ (λ g. someIf-is _ _ _ (lt-is (scale f) (entry row g))))
+    Iff.trans (first_of-is 0 f.signals _ _ (λ g. some_if-is _ _ _ (lt-is (scale f) (entry row g))))
     (λ h g l. omega (arith, h g (omega arith) (omega arith)), λ h g a b. omega (arith, h g (omega arith)))
 
-pub fault-is : (f : Card) (row : List ℕ) → Clears (rowFault f row) (((length row ≡ 0) ⊎ (length row ≡ f.signals)) × ((g : ℕ) → g < f.signals → entry row g ≤ scale f))
-unfolding rowFault
+pub fault-is : (f : Card) (row : List ℕ) → Clears (row_fault f row) (((length row ≡ 0) ⊎ (length row ≡ f.signals)) × ((g : ℕ) → g < f.signals → entry row g ≤ scale f))
+unfolding row_fault
 fault-is f row =
-    otherwise-is _ _ _ _ (someUnless-is _ _ _ (or_is _ _ _ _ (eq_is (length row) 0) (eq_is (length row) f.signals)))
+    otherwise-is _ _ _ _ (some_unless-is _ _ _ (or_is _ _ _ _ (eq_is (length row) 0) (eq_is (length row) f.signals)))
     (Iff.trans (map-eq-none_iff BadDegree _) (low-degrees f row))
 
-pub fits-is : (f : Card) (s : NetState) (row : List ℕ) → Clears (rowRefusal f s row) (Fits f s row)
-unfolding rowRefusal
+pub fits-is : (f : Card) (s : NetState) (row : List ℕ) → Clears (row_refusal f s row) (Fits f s row)
+unfolding row_refusal
 fits-is f s row =
     Iff.trans (otherwise-is _ _ _ _ (fault-is f row) (map-eq-none_iff Conflict _))
     (λ h. record { long = h.0.0; degrees = h.0.1; free = h.1 }, λ h. ((h.long, h.degrees), h.free))
@@ -125,30 +125,30 @@ advanced-range f (Carrying c) d h l = go (eqb (c + d) (scale f)) refl
     go false e = omega (arith, eqb-false (c + d) (scale f) e)
 
 module _ (f : Card) (start : ℕ → Bool) (amount : ℕ → ℕ) (s : NetState) (h : Consistent f s) where
-  started-range : (t : ℕ) → t < length f.transitions → InRange f (startedOn start s.transfers t)
+  started-range : (t : ℕ) → t < length f.transitions → InRange f (started_on start s.transfers t)
   started-range t l = go (start t)
     where
       go : (b : Bool) → InRange f (cond b (Carrying 0) (transfer s.transfers t))
       go true = scale-some f
       go false = h.transfers t l
 
-  range-by : Within f start amount s → (t : ℕ) → t < length f.transitions → InRange f (arrivesBy f start amount s.transfers t)
-  range-by within t l = advanced-range f (startedOn start s.transfers t) (amount t) (started-range t l) (within t l)
+  range-by : Within f start amount s → (t : ℕ) → t < length f.transitions → InRange f (arrives_by f start amount s.transfers t)
+  range-by within t l = advanced-range f (started_on start s.transfers t) (amount t) (started-range t l) (within t l)
 
   -- A CONSISTENT STATE STAYS CONSISTENT, whichever transitions start and however far each moves, where every place is covered with the claims
   -- of those that start and none moves more than what remains
   pub consistent-by : (row : List ℕ) → Within f start amount s → Covers f start s → ((g : ℕ) → g < f.signals → entry row g ≤ scale f)
-      → Consistent f (nextBy f start amount s row)
+      → Consistent f (next_by f start amount s row)
   consistent-by row within covers low =
       record {
         places = λ p l. safe-by f start amount s row within p l (covers p l);
-        transfers = λ t l. rw (table_at (length f.transitions) (arrivesBy f start amount s.transfers) Idle t l) (range-by within t l);
+        transfers = λ t l. rw (table_at (length f.transitions) (arrives_by f start amount s.transfers) Idle t l) (range-by within t l);
         degrees = low;
       }
 
 module _ (f : Card) (s : NetState) (row : List ℕ) (h : Consistent f s) where
-  pub arrived-range : (t : ℕ) → t < length f.transitions → InRange f (arrivesOn f (candidate f s row) s row t)
-  arrived-range t l = range-by f (candidate f s row) (movesOn f (candidate f s row) s row) s h (within_by f (candidate f s row) (askedOn f (candidate f s row) s.degrees row) s) t l
+  pub arrived-range : (t : ℕ) → t < length f.transitions → InRange f (arrives_on f (candidate f s row) s row t)
+  arrived-range t l = range-by f (candidate f s row) (moves_on f (candidate f s row) s row) s h (within_by f (candidate f s row) (asked_on f (candidate f s row) s.degrees row) s) t l
 
   -- A ROW WITHOUT A CONFLICT KEEPS A CONSISTENT STATE CONSISTENT
   pub next-consistent : conflict f s row ≡ none → ((g : ℕ) → g < f.signals → entry row g ≤ scale f) → Consistent f (next f s row)

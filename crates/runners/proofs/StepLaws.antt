@@ -4,36 +4,36 @@ use Rattle.std.proofs.Common.{◌≡◌, ℕ, ◌+◌, ◌-◌, ◌*◌, ◌<◌
 use mathlib.Core.Logic.Iff
 use mathlib.Core.Option.{none}
 use Rattle.card.proofs.Sums.{sum_same, sum-plus, table_at}
-use Rattle.card.proofs.Decides.{Decides, le_is, and_is, someIf-not-is, firstOf-is}
+use Rattle.card.proofs.Decides.{Decides, le_is, and_is, some_if-not-is, first_of-is}
 use Rattle.card.specs.Card.{Card, draws, fills}
-use Rattle.runners.specs.State.{NetState, scale, entry, transfer, remaining, incidence, flow, owed, due, fullMarking, covered}
-use Rattle.runners.specs.Step.{candidate, startedOn, startedBy, conflictBy, movesBy, advanced, arrivesBy, nextBy, started, conflict, moves, next}
+use Rattle.runners.specs.State.{NetState, scale, entry, transfer, remaining, incidence, flow, owed, due, full_marking, covered}
+use Rattle.runners.specs.Step.{candidate, started_on, started_by, conflict_by, moves_by, advanced, arrives_by, next_by, started, conflict, moves, next}
 use Rattle.runners.specs.declared.Transfer.{Transfer}
 use Rattle.runners.specs.declared.Transfer.TheVariants.{Idle, Carrying}
 
 -- the place has all that is owed, and room for all that is due
 pub record Covered (f : Card) (ms : List ℕ) (xs : List Transfer) (p : ℕ) : Type 0 where
   pub has : owed f xs p ≤ entry ms p
-  pub space : entry ms p + due f xs p ≤ fullMarking f p
+  pub space : entry ms p + due f xs p ≤ full_marking f p
 
 pub covered-is : (f : Card) (ms : List ℕ) (xs : List Transfer) (p : ℕ) → Decides (covered f ms xs p) (Covered f ms xs p)
 unfolding covered
 covered-is f ms xs p =
-    Iff.trans (and_is _ _ _ _ (le_is (owed f xs p) (entry ms p)) (le_is (entry ms p + due f xs p) (fullMarking f p)))
+    Iff.trans (and_is _ _ _ _ (le_is (owed f xs p) (entry ms p)) (le_is (entry ms p + due f xs p) (full_marking f p)))
     (λ h. record { has = h.0; space = h.1 }, λ h. (h.has, h.space))
 
 -- every place is covered with the claims of those that start
 abbrev pub Covers : Card → (start : ℕ → Bool) → NetState → Type 0
-Covers f start s = (p : ℕ) → p < length f.places → Covered f s.markings (startedBy f start s.transfers) p
+Covers f start s = (p : ℕ) → p < length f.places → Covered f s.markings (started_by f start s.transfers) p
 
 -- none moves more than what remains
 abbrev pub Within : Card → (start : ℕ → Bool) → (amount : ℕ → ℕ) → NetState → Type 0
-Within f start amount s = (t : ℕ) → t < length f.transitions → amount t ≤ remaining f (startedOn start s.transfers t)
+Within f start amount s = (t : ℕ) → t < length f.transitions → amount t ≤ remaining f (started_on start s.transfers t)
 
 -- there is no conflict just where every place is covered
-pub conflict-by : (f : Card) (start : ℕ → Bool) (s : NetState) → (conflictBy f start s ≡ none) ↔ Covers f start s
+pub conflict-by : (f : Card) (start : ℕ → Bool) (s : NetState) → (conflict_by f start s ≡ none) ↔ Covers f start s
 conflict-by f start s =
-    Iff.trans (firstOf-is 0 (length f.places) _ _ (λ p. someIf-not-is _ _ _ (covered-is f s.markings (startedBy f start s.transfers) p)))
+    Iff.trans (first_of-is 0 (length f.places) _ _ (λ p. some_if-not-is _ _ _ (covered-is f s.markings (started_by f start s.transfers) p)))
     (λ h p l. h p (omega arith) (omega arith), λ h p a b. h p (omega arith))
 
 -- a flow of amounts that are two each is the two flows
@@ -52,21 +52,21 @@ remaining-advanced f (Carrying c) d h = go (eqb (c + d) (scale f)) refl
     go true e = omega (arith, eqb-true (c + d) (scale f) e)
     go false e = omega arith
 
-pub within_by : (f : Card) (start : ℕ → Bool) (asked : ℕ → ℕ) (s : NetState) → Within f start (movesBy f start asked s.transfers) s
+pub within_by : (f : Card) (start : ℕ → Bool) (asked : ℕ → ℕ) (s : NetState) → Within f start (moves_by f start asked s.transfers) s
 within_by f start asked s t l = omega arith
 
 -- A STEP OF ANY STARTS AND ANY AMOUNTS
 module _ (f : Card) (start : ℕ → Bool) (amount : ℕ → ℕ) (s : NetState) (row : List ℕ) (within : Within f start amount s) where
   abbrev carried : List Transfer
-  carried = startedBy f start s.transfers
+  carried = started_by f start s.transfers
 
   abbrev after : NetState
-  after = nextBy f start amount s row
+  after = next_by f start amount s row
 
   rest-by : (t : ℕ) → t < length f.transitions → remaining f (transfer carried t) ≡ remaining f (transfer after.transfers t) + amount t
   rest-by t l =
-      rw (table_at (length f.transitions) (startedOn start s.transfers) Idle t l, table_at (length f.transitions) (arrivesBy f start amount s.transfers) Idle t l)
-      (remaining-advanced f (startedOn start s.transfers t) (amount t) (within t l))
+      rw (table_at (length f.transitions) (started_on start s.transfers) Idle t l, table_at (length f.transitions) (arrives_by f start amount s.transfers) Idle t l)
+      (remaining-advanced f (started_on start s.transfers t) (amount t) (within t l))
 
   -- what was owed is what is still owed and what was lost, and what was due is what is still due and what was gained
   pub owed-by : (p : ℕ) → owed f carried p ≡ owed f after.transfers p + flow f amount draws p
@@ -101,11 +101,11 @@ conflict-is f s row = conflict-by f (candidate f s row) s
 
 module _ (f : Card) (s : NetState) (row : List ℕ) where
   -- the transfers with the candidates among them
-  pub started-at : (t : ℕ) → t < length f.transitions → transfer (started f s row) t ≡ startedOn (candidate f s row) s.transfers t
+  pub started-at : (t : ℕ) → t < length f.transitions → transfer (started f s row) t ≡ started_on (candidate f s row) s.transfers t
   unfolding started
-  started-at t l = table_at (length f.transitions) (startedOn (candidate f s row) s.transfers) Idle t l
+  started-at t l = table_at (length f.transitions) (started_on (candidate f s row) s.transfers) Idle t l
 
-  pub moves-few : (t : ℕ) → moves f s row t ≤ remaining f (startedOn (candidate f s row) s.transfers t)
+  pub moves-few : (t : ℕ) → moves f s row t ≤ remaining f (started_on (candidate f s row) s.transfers t)
   unfolding moves
   moves-few t = omega arith
 

@@ -4,29 +4,29 @@ use mathlib.Core.Bool.{false≢true}
 use mathlib.Core.Option
 use mathlib.Core.Option.{Option, none, some}
 use lib.ListN.{get_or-append}
-use Rattle.card.specs.Finite.{table, someIf, first_of, lowest, ◌otherwise◌}
-use Rattle.card.specs.Card.{Card, draws, fills, placeAt, firstPlace}
+use Rattle.card.specs.Finite.{table, some_if, first_of, lowest, ◌otherwise◌}
+use Rattle.card.specs.Card.{Card, draws, fills, place_at, first_place}
 use Rattle.card.proofs.Sums.{sum-zero, table_at, table-length, map-length}
 use Rattle.card.proofs.BitLaws.{lt-or-ge}
 use Rattle.card.proofs.Copy.{Copying, copy_start, copy_more, copy_done}
-use Rattle.card.specs.Spelling.{putInto}
+use Rattle.card.specs.Spelling.{put_into}
 use Rattle.hierarchy.specs.Conditions.{Meets}
-use Rattle.flattening.specs.Flattening.{flatPlaceRow, flatten}
+use Rattle.flattening.specs.Flattening.{flat_place_row, flatten}
 use Rattle.flattening.proofs.FlatLaws.{flat-below, flat-place}
-use Rattle.runners.specs.Numbers.{rowOutcome}
-use Rattle.runners.specs.State.{NetState, scale, entry, transfer, remaining, flow, owed, due, fullMarking, covered}
-use Rattle.runners.specs.Step.{idle, candidateOn, candidate, started, conflict, moves, arrivesOn, next}
+use Rattle.runners.specs.Numbers.{row_outcome}
+use Rattle.runners.specs.State.{NetState, scale, entry, transfer, remaining, flow, owed, due, full_marking, covered}
+use Rattle.runners.specs.Step.{idle, candidate_on, candidate, started, conflict, moves, arrives_on, next}
 use Rattle.runners.specs.Rows.{settle}
 use Rattle.runners.specs.Calls.{view, slot, store, valid}
 use Rattle.runners.specs.Answers.{IsRow}
-use Rattle.runners.specs.Columns.{transferOf, noted, Columns, columns}
-use Rattle.runners.specs.Visits.{posting, finding, moving, amount, stepTurn, InTurn, turnIn}
+use Rattle.runners.specs.Columns.{transfer_of, noted, Columns, columns}
+use Rattle.runners.specs.Visits.{posting, finding, moving, amount, step_turn, InTurn, turn_in}
 use Rattle.runners.specs.inner.Rounds.{AllPost, AllFind, AllMove}
-use Rattle.runners.specs.inner.Verdict.{coveredBy, orPast}
+use Rattle.runners.specs.inner.Verdict.{covered_by, or_past}
 use Rattle.runners.specs.inner.Markings.{Filled}
 use Rattle.runners.specs.inner.Storing.{slot_at, CodesOf, Stored, Counts}
 use Rattle.runners.specs.inner.Finding.{Begin, Found}
-use Rattle.runners.specs.inner.Steps.{withDegrees}
+use Rattle.runners.specs.inner.Steps.{with_degrees}
 use Rattle.runners.specs.declared.Transfer.{Transfer}
 use Rattle.runners.specs.declared.Transfer.TheVariants.{Idle, Carrying}
 use Rattle.runners.specs.declared.Slot.{Slot}
@@ -67,7 +67,7 @@ lowest-same : (from n : ℕ) (a b : ℕ → Bool) → ((p : ℕ) → from ≤ p 
 unfolding first_of
 lowest-same from zero a b h = refl
 lowest-same from (suc n) a b h =
-    ap₂ (λ (x : Bool) (y : Option ℕ). someIf x from otherwise y) (h from (omega arith) (omega arith)) (lowest-same (suc from) n a b (λ p l m. h p (omega arith) (omega arith)))
+    ap₂ (λ (x : Bool) (y : Option ℕ). some_if x from otherwise y) (h from (omega arith) (omega arith)) (lowest-same (suc from) n a b (λ p l m. h p (omega arith) (omega arith)))
 
 idle-rest : (f : Card) (x : Transfer) → idle x ≡ true → remaining f x ≡ 0
 idle-rest f Idle e = refl
@@ -78,7 +78,7 @@ first-of true b d e = refl
 first-of false b d e = e
 
 candidate-idle : (f : Card) (s : NetState) (row : List ℕ) (t : ℕ) → candidate f s row t ≡ true → idle (transfer s.transfers t) ≡ true
-unfolding candidate candidateOn
+unfolding candidate candidate_on
 candidate-idle f s row t e = first-of _ _ _ e
 
 -- a valid state has the card's counts
@@ -86,11 +86,11 @@ pub valid-counts : (c : Card) (l : Lent) → valid (flatten c) l ≡ true → Co
 unfolding flatten
 valid-counts c l e =
     let v = (valid-is (flatten c) l).0 e in
-    record { places = v.counts.places ∙ map-length flatPlaceRow c.places; transitions = v.counts.transitions; signals = v.counts.signals }
+    record { places = v.counts.places ∙ map-length flat_place_row c.places; transitions = v.counts.transitions; signals = v.counts.signals }
 
 same-places : (c : Card) → length (flatten c).places ≡ length c.places
 unfolding flatten
-same-places c = map-length flatPlaceRow c.places
+same-places c = map-length flat_place_row c.places
 
 same-transitions : (c : Card) → length (flatten c).transitions ≡ length c.transitions
 unfolding flatten
@@ -117,7 +117,7 @@ module _ (c : Card) (m : Meets c) (before : NetState) (row ms xs : List ℕ) (h 
 
   same-P : length f.places ≡ P
   unfolding flatten
-  same-P = map-length flatPlaceRow c.places
+  same-P = map-length flat_place_row c.places
 
   abbrev k₀ : Columns
   k₀ = columns ms xs before.degrees row z z z z cs
@@ -129,7 +129,7 @@ module _ (c : Card) (m : Meets c) (before : NetState) (row ms xs : List ℕ) (h 
   k₂ = columns ms xs before.degrees row o d x y cs'
 
   -- EACH FIRST VISIT IS IN ITS TURN
-  pub turn-post : (s : ℕ) → s < length c.subnets → InTurn posting s (turnIn c k₀) before
+  pub turn-post : (s : ℕ) → s < length c.subnets → InTurn posting s (turn_in c k₀) before
   turn-post s b =
       record {
         transfers = λ t w. h.transfers t (owned_below c m s t b w);
@@ -138,100 +138,100 @@ module _ (c : Card) (m : Meets c) (before : NetState) (row ms xs : List ℕ) (h 
         found = λ e t w. absurd (let i : ◌≡◌ {A = ℕ} 0 1 = cc in omega arith);
       }
 
-  module _ (p1 : AllPost (stepTurn c before row) k₀ k₁) where
+  module _ (p1 : AllPost (step_turn c before row) k₀ k₁) where
     owed-o : (p : ℕ) → p < P → entry o p ≡ owed f before.transfers p
     unfolding owed
-    owed-o = board-exact c m (amount posting (stepTurn c before row)) (λ t b. remaining-few f (transfer before.transfers t)) draws z o zl zeros p1.owed
+    owed-o = board-exact c m (amount posting (step_turn c before row)) (λ t b. remaining-few f (transfer before.transfers t)) draws z o zl zeros p1.owed
 
     due-d : (p : ℕ) → p < P → entry d p ≡ due f before.transfers p
     unfolding due
-    due-d = board-exact c m (amount posting (stepTurn c before row)) (λ t b. remaining-few f (transfer before.transfers t)) fills z d zl zeros p1.due
+    due-d = board-exact c m (amount posting (step_turn c before row)) (λ t b. remaining-few f (transfer before.transfers t)) fills z d zl zeros p1.due
 
     -- EACH SECOND VISIT IS IN ITS TURN
-    pub turn-find : (s : ℕ) → s < length c.subnets → InTurn finding s (turnIn c k₁) before
+    pub turn-find : (s : ℕ) → s < length c.subnets → InTurn finding s (turn_in c k₁) before
     turn-find s b =
         record {
           transfers = λ t w. h.transfers t (owned_below c m s t b w);
           degrees = λ g w. refl;
           places = λ e q n w. record {
             capacities = refl;
-            markings = h.markings (firstPlace c q + n) (flat-below c m s q n b w);
-            owed = owed-o (firstPlace c q + n) (flat-below c m s q n b w);
-            due = due-d (firstPlace c q + n) (flat-below c m s q n b w);
+            markings = h.markings (first_place c q + n) (flat-below c m s q n b w);
+            owed = owed-o (first_place c q + n) (flat-below c m s q n b w);
+            due = due-d (first_place c q + n) (flat-below c m s q n b w);
           };
           found = λ e t w. absurd (let i : ◌≡◌ {A = ℕ} 0 1 = cc in omega arith);
         }
 
-    module _ (p2 : AllFind (stepTurn c before row) k₁ k₂) (full : List ℕ) (fu : Filled Capacity c full) where
+    module _ (p2 : AllFind (step_turn c before row) k₁ k₂) (full : List ℕ) (fu : Filled Capacity c full) where
       found-is : length cs ≡ 255 → (t : ℕ) → t < T → noted cs' t ≡ candidate f before row t
       unfolding candidate
-      found-is long t b = p2.noted t b (omega (arith, long, m.wellformed.rows.fewTransitions))
+      found-is long t b = p2.noted t b (omega (arith, long, m.wellformed.rows.few_transitions))
 
       -- what remains of a transfer with the candidates started
-      rest-is : (t : ℕ) → t < T → remaining f (transfer (started f before row) t) ≡ remaining f (transfer before.transfers t) + amount finding (stepTurn c before row) t
+      rest-is : (t : ℕ) → t < T → remaining f (transfer (started f before row) t) ≡ remaining f (transfer before.transfers t) + amount finding (step_turn c before row) t
       rest-is t b = rw (started-at f before row t (omega (arith, same-T))) (go (candidate f before row t) refl)
         where
-          go : (e : Bool) → candidate f before row t ≡ e → remaining f (cond e (Carrying 0) (transfer before.transfers t)) ≡ remaining f (transfer before.transfers t) + amount finding (stepTurn c before row) t
+          go : (e : Bool) → candidate f before row t ≡ e → remaining f (cond e (Carrying 0) (transfer before.transfers t)) ≡ remaining f (transfer before.transfers t) + amount finding (step_turn c before row) t
           go true e = omega (arith, idle-rest f (transfer before.transfers t) (candidate-idle f before row t e), claimed e)
             where
-              claimed : candidate f before row t ≡ true → amount finding (stepTurn c before row) t ≡ scale f
+              claimed : candidate f before row t ≡ true → amount finding (step_turn c before row) t ≡ scale f
               claimed q = (unfold candidate in rw q refl)
           go false e = omega (arith, unclaimed e)
             where
-              unclaimed : candidate f before row t ≡ false → amount finding (stepTurn c before row) t ≡ 0
+              unclaimed : candidate f before row t ≡ false → amount finding (step_turn c before row) t ≡ 0
               unclaimed q = (unfold candidate in rw q refl)
 
-      few-2 : (t : ℕ) → t < T → amount finding (stepTurn c before row) t ≤ scale f
-      few-2 t b = small (candidateOn f (stepTurn c before row).standing before row t)
+      few-2 : (t : ℕ) → t < T → amount finding (step_turn c before row) t ≤ scale f
+      few-2 t b = small (candidate_on f (step_turn c before row).standing before row t)
         where
           small : (e : Bool) → cond e (scale f) 0 ≤ scale f
           small true = omega arith
           small false = omega arith
 
       flow-started : (way p : ℕ) → flow f (λ t. remaining f (transfer (started f before row) t)) way p
-          ≡ flow f (λ t. remaining f (transfer before.transfers t)) way p + flow f (amount finding (stepTurn c before row)) way p
-      flow-started way p = flow-split f _ _ (amount finding (stepTurn c before row)) way p (λ t b. rest-is t (omega (arith, same-T)))
+          ≡ flow f (λ t. remaining f (transfer before.transfers t)) way p + flow f (amount finding (step_turn c before row)) way p
+      flow-started way p = flow-split f _ _ (amount finding (step_turn c before row)) way p (λ t b. rest-is t (omega (arith, same-T)))
 
       owed-x : (p : ℕ) → p < P → entry o p + entry x p ≡ owed f (started f before row) p
       unfolding owed
-      owed-x p b = omega (arith, owed-o p b, flow-started draws p, board-exact c m (amount finding (stepTurn c before row)) few-2 draws z x zl zeros p2.drawn p b)
+      owed-x p b = omega (arith, owed-o p b, flow-started draws p, board-exact c m (amount finding (step_turn c before row)) few-2 draws z x zl zeros p2.drawn p b)
 
       due-y : (p : ℕ) → p < P → entry d p + entry y p ≡ due f (started f before row) p
       unfolding due
-      due-y p b = omega (arith, due-d p b, flow-started fills p, board-exact c m (amount finding (stepTurn c before row)) few-2 fills z y zl zeros p2.filled p b)
+      due-y p b = omega (arith, due-d p b, flow-started fills p, board-exact c m (amount finding (step_turn c before row)) few-2 fills z y zl zeros p2.filled p b)
 
-      covered-is : (p : ℕ) → p < P → coveredBy full ms o d x y p ≡ covered f before.markings (started f before row) p
+      covered-is : (p : ℕ) → p < P → covered_by full ms o d x y p ≡ covered f before.markings (started f before row) p
       covered-is p b = covered-seen c full ms before.markings (started f before row) o d x y p b fu (sym (h.markings p b)) (owed-x p b) (due-y p b)
 
       -- the verdict is the step's, and the candidates are
-      pub found : (n r : ℕ) → n ≡ P → r ≡ orPast n (lowest 0 n (λ p. not (coveredBy full ms o d x y p))) → length cs ≡ 255 → Found c before row r cs'
+      pub found : (n r : ℕ) → n ≡ P → r ≡ or_past n (lowest 0 n (λ p. not (covered_by full ms o d x y p))) → length cs ≡ 255 → Found c before row r cs'
       unfolding conflict started flatten
       found n r e q long =
           record {
             conflicts =
                 rw e at q
-                ∙ ap (orPast P) (lowest-same 0 P (λ p. not (coveredBy full ms o d x y p)) (λ p. not (covered (flatten c) before.markings (started (flatten c) before row) p)) (λ p a b. ap not (covered-is p (omega arith)))
-                ∙ ap (λ (k : ℕ). lowest 0 k (λ p. not (covered (flatten c) before.markings (started (flatten c) before row) p))) (sym (map-length flatPlaceRow c.places)));
+                ∙ ap (or_past P) (lowest-same 0 P (λ p. not (covered_by full ms o d x y p)) (λ p. not (covered (flatten c) before.markings (started (flatten c) before row) p)) (λ p a b. ap not (covered-is p (omega arith)))
+                ∙ ap (λ (k : ℕ). lowest 0 k (λ p. not (covered (flatten c) before.markings (started (flatten c) before row) p))) (sym (map-length flat_place_row c.places)));
             candidates = found-is long;
           }
 
 -- what the verdict tells
-module _ (c : Card) (before : NetState) (row : List ℕ) (r n : ℕ) (e : n ≡ length c.places) (q : r ≡ orPast (length c.places) (conflict (flatten c) before row)) where
+module _ (c : Card) (before : NetState) (row : List ℕ) (r n : ℕ) (e : n ≡ length c.places) (q : r ≡ or_past (length c.places) (conflict (flatten c) before row)) where
   pub row-conflict : (l after : Lent) (x : RowAnswer) → x ≡ record { reply = No (Conflict r); state = l } → (r ≡ n → ⊥) → IsRow (settle (Option.map Conflict (conflict (flatten c) before row)) l after) x
   row-conflict l after x ex u = rw ex (go (conflict (flatten c) before row) q)
     where
-      go : (k : Option ℕ) → r ≡ orPast (length c.places) k → IsRow (settle (Option.map Conflict k) l after) (record { reply = No (Conflict r); state = l })
+      go : (k : Option ℕ) → r ≡ or_past (length c.places) k → IsRow (settle (Option.map Conflict k) l after) (record { reply = No (Conflict r); state = l })
       go none w = absurd (u (w ∙ sym e))
-      go (some p) w = record { reply = ap (λ (a : ℕ). rowOutcome (No (Conflict a))) w; state = refl }
+      go (some p) w = record { reply = ap (λ (a : ℕ). row_outcome (No (Conflict a))) w; state = refl }
 
   below : (p : ℕ) → conflict (flatten c) before row ≡ some p → p < length c.places
   unfolding conflict started flatten
-  below p w = omega (arith, lowest-below 0 _ (λ a. not (covered (flatten c) before.markings (started (flatten c) before row) a)) p w, map-length flatPlaceRow c.places)
+  below p w = omega (arith, lowest-below 0 _ (λ a. not (covered (flatten c) before.markings (started (flatten c) before row) a)) p w, map-length flat_place_row c.places)
 
   pub free_of : r ≡ n → conflict (flatten c) before row ≡ none
   free_of u = go (conflict (flatten c) before row) refl q
     where
-      go : (k : Option ℕ) → conflict (flatten c) before row ≡ k → r ≡ orPast (length c.places) k → k ≡ none
+      go : (k : Option ℕ) → conflict (flatten c) before row ≡ k → r ≡ or_past (length c.places) k → k ≡ none
       go none w v = refl
       go (some p) w v = absurd (omega (arith, below p w))
 
@@ -257,13 +257,13 @@ module _ (c : Card) (m : Meets c) (l : Lent) (v : valid (flatten c) l ≡ true) 
       record {
         markings = λ p b. sym (marking-seen c l counts p b);
         transfers = λ t b.
-            transfer-code xs t ∙ ap transferOf (code-seen c l counts xs k m.wellformed.rows.fewTransitions t b)
+            transfer-code xs t ∙ ap transfer_of (code-seen c l counts xs k m.wellformed.rows.few_transitions t b)
             ∙ coded (transfer was.transfers t) (uncoded (transfer was.transfers t) (ranged t b));
       }
 
   module _ (o d x y : List ℕ) (cs : List Bool) (found : (t : ℕ) → t < length c.transitions → noted cs t ≡ candidate (flatten c) was row t) where
     -- EACH THIRD VISIT IS IN ITS TURN
-    pub turn-move : (s : ℕ) → s < length c.subnets → InTurn moving s (turnIn c (columns l.markings xs l.degrees row o d x y cs)) was
+    pub turn-move : (s : ℕ) → s < length c.subnets → InTurn moving s (turn_in c (columns l.markings xs l.degrees row o d x y cs)) was
     turn-move s b =
         record {
           transfers = λ t w. begins.transfers t (owned_below c m s t b w);
@@ -272,21 +272,21 @@ module _ (c : Card) (m : Meets c) (l : Lent) (v : valid (flatten c) l ≡ true) 
           found = λ e t w. found t (owned_below c m s t b w);
         }
 
-    module _ (ms' xs' : List ℕ) (after r : Lent) (p3 : AllMove (stepTurn c was row) (columns l.markings xs l.degrees row o d x y cs) (columns ms' xs' l.degrees row o d x y cs))
-        (st : Stored after ms' xs' r) (ea : after ≡ withDegrees l row) (rl : length row ≡ c.signals) (free : conflict (flatten c) was row ≡ none)
+    module _ (ms' xs' : List ℕ) (after r : Lent) (p3 : AllMove (step_turn c was row) (columns l.markings xs l.degrees row o d x y cs) (columns ms' xs' l.degrees row o d x y cs))
+        (st : Stored after ms' xs' r) (ea : after ≡ with_degrees l row) (rl : length row ≡ c.signals) (free : conflict (flatten c) was row ≡ none)
         (ml : length l.markings ≡ 255) (sl : length l.slots ≡ 255) where
       few-p : (p : ℕ) → p < length c.places → p < 255
-      few-p p b = omega (arith, m.wellformed.rows.fewPlaces)
+      few-p p b = omega (arith, m.wellformed.rows.few_places)
 
-      room : (p : ℕ) → p < length c.places → fullMarking (flatten c) p ≤ 2550000
-      room p b = let k : (placeAt (flatten c) p).capacity ≤ 255 = (flat-place c m p b).capacity in mul-le-mul (scale-few (flatten c)) k
+      room : (p : ℕ) → p < length c.places → full_marking (flatten c) p ≤ 2550000
+      room p b = let k : (place_at (flatten c) p).capacity ≤ 255 = (flat-place c m p b).capacity in mul-le-mul (scale-few (flatten c)) k
 
-      flow-past : (way p : ℕ) → length c.places ≤ p → flow (flatten c) (amount moving (stepTurn c was row)) way p ≡ 0
+      flow-past : (way p : ℕ) → length c.places ≤ p → flow (flatten c) (amount moving (step_turn c was row)) way p ≡ 0
       flow-past way p b =
-          effects-sum moving (stepTurn c was row) m way p
-          ∙ sum-zero (length c.subnets) _ (λ s a. no-effect moving s (stepTurn c was row) m a way p (λ u n w e. omega (arith, flat-below c m s u n a w)))
+          effects-sum moving (step_turn c was row) m way p
+          ∙ sum-zero (length c.subnets) _ (λ s a. no-effect moving s (step_turn c was row) m a way p (λ u n w e. omega (arith, flat-below c m s u n a w)))
 
-      flow-moves : (way p : ℕ) → flow (flatten c) (amount moving (stepTurn c was row)) way p ≡ flow (flatten c) (moves (flatten c) was row) way p
+      flow-moves : (way p : ℕ) → flow (flatten c) (amount moving (step_turn c was row)) way p ≡ flow (flatten c) (moves (flatten c) was row) way p
       unfolding moves
       flow-moves way p = refl
 
@@ -303,16 +303,16 @@ module _ (c : Card) (m : Meets c) (l : Lent) (v : valid (flatten c) l ≡ true) 
       markings-is =
           let n : length (flatten c).places ≡ l.places = same-places c ∙ sym counts.places in
           joined 0 ms' l.markings (length (flatten c).places) (λ p. entry was.markings p + flow (flatten c) (moves (flatten c) was row) fills p - flow (flatten c) (moves (flatten c) was row) draws p)
-          (omega (arith, same-places c, ml, m.wellformed.rows.fewPlaces)) p3.markings.long (λ p b. marking-r p (omega (arith, same-places c)))
+          (omega (arith, same-places c, ml, m.wellformed.rows.few_places)) p3.markings.long (λ p b. marking-r p (omega (arith, same-places c)))
           (λ p b. p3.markings.kept p (flow-past draws p (omega (arith, same-places c))) (flow-past fills p (omega (arith, same-places c))))
           ∙ ap (λ (q : ℕ). table 0 (length (flatten c).places) (λ p. entry was.markings p + flow (flatten c) (moves (flatten c) was row) fills p - flow (flatten c) (moves (flatten c) was row) draws p) ++ drop q l.markings) n
 
-      slot-r : (t : ℕ) → t < length c.transitions → get_or r.slots t (slot Idle) ≡ slot (arrivesOn (flatten c) (candidate (flatten c) was row) was row t)
+      slot-r : (t : ℕ) → t < length c.transitions → get_or r.slots t (slot Idle) ≡ slot (arrives_on (flatten c) (candidate (flatten c) was row) was row t)
       slot-r t b =
-          let few = m.wellformed.rows.fewTransitions in
+          let few = m.wellformed.rows.few_transitions in
           ap slot (sym (slot-at r.slots t) ∙ st.own t (omega (arith, ap (λ (q : Lent). q.transitions) ea, counts.transitions)) (omega arith)
-          ∙ ap transferOf (p3.transfers t b (omega (arith, k.long, few)))
-          ∙ coded (arrivesOn (flatten c) (candidate (flatten c) was row) was row t) (uncoded _ (arrived-range (flatten c) was row ((valid-is (flatten c) l).0 v).consistent t (omega (arith, same-transitions c)))))
+          ∙ ap transfer_of (p3.transfers t b (omega (arith, k.long, few)))
+          ∙ coded (arrives_on (flatten c) (candidate (flatten c) was row) was row t) (uncoded _ (arrived-range (flatten c) was row ((valid-is (flatten c) l).0 v).consistent t (omega (arith, same-transitions c)))))
 
       slot-past : (t : ℕ) → length c.transitions ≤ t → get_or r.slots t (slot Idle) ≡ get_or l.slots t (slot Idle)
       slot-past t b =
@@ -322,9 +322,9 @@ module _ (c : Card) (m : Meets c) (l : Lent) (v : valid (flatten c) l ≡ true) 
       unfolding next moves
       slots-is =
           let n : length (flatten c).transitions ≡ l.transitions = same-transitions c ∙ sym counts.transitions in
-          joined (slot Idle) r.slots l.slots (length (flatten c).transitions) (λ t. slot (arrivesOn (flatten c) (candidate (flatten c) was row) was row t))
-          (omega (arith, same-transitions c, sl, m.wellformed.rows.fewTransitions)) (st.long ∙ ap (λ (q : Lent). length q.slots) ea) (λ t b. slot-r t (omega (arith, same-transitions c))) (λ t b. slot-past t (omega (arith, same-transitions c)))
-          ∙ ap₂ (λ (zs : List Slot) (q : ℕ). zs ++ drop q l.slots) (sym (map-table slot 0 (length (flatten c).transitions) (arrivesOn (flatten c) (candidate (flatten c) was row) was row))) n
+          joined (slot Idle) r.slots l.slots (length (flatten c).transitions) (λ t. slot (arrives_on (flatten c) (candidate (flatten c) was row) was row t))
+          (omega (arith, same-transitions c, sl, m.wellformed.rows.few_transitions)) (st.long ∙ ap (λ (q : Lent). length q.slots) ea) (λ t b. slot-r t (omega (arith, same-transitions c))) (λ t b. slot-past t (omega (arith, same-transitions c)))
+          ∙ ap₂ (λ (zs : List Slot) (q : ℕ). zs ++ drop q l.slots) (sym (map-table slot 0 (length (flatten c).transitions) (arrives_on (flatten c) (candidate (flatten c) was row) was row))) n
 
       stored_is : r ≡ store l (next (flatten c) was row)
       unfolding next
@@ -360,10 +360,10 @@ recorded_more row l r g x b =
       degrees = copy_more row l.degrees r.degrees g x.degrees b;
     }
 
-row_put : (row degrees : List ℕ) → length row ≤ length degrees → putInto row degrees ≡ row ++ drop (length row) degrees
-unfolding putInto
+row_put : (row degrees : List ℕ) → length row ≤ length degrees → put_into row degrees ≡ row ++ drop (length row) degrees
+unfolding put_into
 row_put row degrees h = rw (le-leb (length row) (length degrees) h)
 
-pub recorded-all : (row : List ℕ) (l r : Lent) (g : ℕ) → Recorded row l r g → length row ≤ g → r ≡ withDegrees l row
+pub recorded-all : (row : List ℕ) (l r : Lent) (g : ℕ) → Recorded row l r g → length row ≤ g → r ≡ with_degrees l row
 recorded-all row l r g x b =
     rw (x.markings, x.slots, x.places, x.transitions, x.signals, copy_done row l.degrees r.degrees g x.degrees b ∙ row_put row l.degrees x.degrees.room)

@@ -4,13 +4,13 @@ use Rattle.std.proofs.Common.{◌≡◌, ℕ, ◌<◌, Bool, true, false, ◌||�
 use mathlib.Core.Logic.Iff
 use mathlib.Core.Option
 use mathlib.Core.Option.{Option, none, some, some-ne-none}
-use Rattle.card.specs.Finite.{All, someUnless, lowest, ◌otherwise◌}
+use Rattle.card.specs.Finite.{All, some_unless, lowest, ◌otherwise◌}
 use Rattle.card.specs.Card.{Card}
 use Rattle.card.proofs.Decides.{Decides, eq_is, and_is}
 use Rattle.runners.specs.Numbers.{RowOutcome, refusal}
 use Rattle.runners.specs.State.{NetState, scale, entry}
-use Rattle.runners.specs.Rows.{settle, rowFault, rowConflict, rowNext, rowRefusal, degrees, noRow, Ask, row, Act, actOf, perform}
-use Rattle.runners.specs.Calls.{view, slot, store, validIn, inState, valid, lentCall}
+use Rattle.runners.specs.Rows.{settle, row_fault, row_conflict, row_next, row_refusal, degrees, no_row, Ask, row, Act, act_of, perform}
+use Rattle.runners.specs.Calls.{view, slot, store, valid_in, in_state, valid, lent_call}
 use Rattle.runners.specs.inner.Storing.{Counts}
 use Rattle.runners.specs.Traces.{trace, observed, Bounded}
 use Rattle.runners.specs.declared.Transfer.{Transfer}
@@ -46,7 +46,7 @@ pub record Valid (f : Card) (l : Lent) : Type 0 where
   pub consistent : Consistent f (view l)
 
 pub valid-is : (f : Card) (l : Lent) → Decides (valid f l) (Valid f l)
-unfolding validIn
+unfolding valid_in
 valid-is f l =
     Iff.trans (and_is _ _ _ _ (and_is _ _ _ _ (and_is _ _ _ _ (eq_is l.places (length f.places)) (eq_is l.transitions (length f.transitions)))
     (eq_is l.signals f.signals)) (consistent-is f (view l))) (
@@ -84,7 +84,7 @@ unfolding Clear
 clear-otherwise none b h k = k
 clear-otherwise (some why) b h k = h
 
-clear-unless : (b : Bool) (why : Refusal) → NotState why → Clear (someUnless b why)
+clear-unless : (b : Bool) (why : Refusal) → NotState why → Clear (some_unless b why)
 unfolding Clear
 clear-unless true why h = tt
 clear-unless false why h = h
@@ -119,12 +119,12 @@ module _ (f : Card) (C : Type 0) (act : C → Act) (keeps : (k : C) → Keeps f 
 
   -- of a sound state a call is the rest of its tests and then the act,
   call-is : (ordered : Bool) (k : C) (l : Lent) → Sound f l
-      → lentCall inState f ordered (act k) l ≡ settle (someUnless ordered BadOrder otherwise (act k).refusal (view l)) l (store l ((act k).next (view l)))
+      → lent_call in_state f ordered (act k) l ≡ settle (some_unless ordered BadOrder otherwise (act k).refusal (view l)) l (store l ((act k).next (view l)))
   call-is ordered k l v = rw (tested l v)
 
   -- and leaves a sound one
   settled-sound : (ordered : Bool) (k : C) (l : Lent) → Sound f l
-      → Sound f (settle (someUnless ordered BadOrder otherwise (act k).refusal (view l)) l (store l ((act k).next (view l)))).1
+      → Sound f (settle (some_unless ordered BadOrder otherwise (act k).refusal (view l)) l (store l ((act k).next (view l)))).1
   settled-sound false k l v = v
   settled-sound true k l v = go ((act k).refusal (view l)) refl
     where
@@ -137,11 +137,11 @@ module _ (f : Card) (C : Type 0) (act : C → Act) (keeps : (k : C) → Keeps f 
             good = rw (view-store f l ((act k).next (view l)) v.counts n.sized) n;
           }
 
-  pub call-sound : (ordered : Bool) (k : C) (l : Lent) → Sound f l → Sound f (lentCall inState f ordered (act k) l).1
+  pub call-sound : (ordered : Bool) (k : C) (l : Lent) → Sound f l → Sound f (lent_call in_state f ordered (act k) l).1
   call-sound ordered k l v = rw (call-is ordered k l v) (settled-sound ordered k l v)
 
   -- a call on a lent state is the act on what it holds
-  pub call-observed : (k : C) (l : Lent) → Sound f l → observed (lentCall inState f true (act k) l) ≡ perform (act k) (view l)
+  pub call-observed : (k : C) (l : Lent) → Sound f l → observed (lent_call in_state f true (act k) l) ≡ perform (act k) (view l)
   call-observed k l v = rw (call-is true k l v) (go ((act k).refusal (view l)) refl)
     where
       go : (x : Option Refusal) → (act k).refusal (view l) ≡ x
@@ -151,30 +151,30 @@ module _ (f : Card) (C : Type 0) (act : C → Act) (keeps : (k : C) → Keeps f 
 
   -- THE TWO RUNNERS' TRACES ARE ONE, where the orders are valid,
   pub runners-trace : (ordered : C → Bool) (l : Lent) → Sound f l → (calls : List C) → All (λ k. ordered k ≡ true) calls
-      → trace (λ m k. lentCall inState f (ordered k) (act k) m) l calls ≡ trace (λ m k. lentCall inState f true (act k) m) l calls
+      → trace (λ m k. lent_call in_state f (ordered k) (act k) m) l calls ≡ trace (λ m k. lent_call in_state f true (act k) m) l calls
   unfolding trace
   runners-trace ordered l v [] o = refl
   runners-trace ordered l v (k ∷ calls) o =
-      rw (o.0, runners-trace ordered (lentCall inState f true (act k) l).1 (call-sound true k l v) calls o.1)
+      rw (o.0, runners-trace ordered (lent_call in_state f true (act k) l).1 (call-sound true k l v) calls o.1)
 
   -- THAT OF THE NET'S OWN RUN;
   pub net-trace : (l : Lent) → Sound f l → (calls : List C)
-      → map observed (trace (λ m k. lentCall inState f true (act k) m) l calls) ≡ trace (λ s k. perform (act k) s) (view l) calls
+      → map observed (trace (λ m k. lent_call in_state f true (act k) m) l calls) ≡ trace (λ s k. perform (act k) s) (view l) calls
   unfolding trace
   net-trace l v [] = refl
   net-trace l v (k ∷ calls) =
       let q = call-observed k l v in
-      let r : view (lentCall inState f true (act k) l).1 ≡ (perform (act k) (view l)).1 = ap (λ (x : RowOutcome × NetState). x.1) q in
-      rw (q, net-trace (lentCall inState f true (act k) l).1 (call-sound true k l v) calls, r)
+      let r : view (lent_call in_state f true (act k) l).1 ≡ (perform (act k) (view l)).1 = ap (λ (x : RowOutcome × NetState). x.1) q in
+      rw (q, net-trace (lent_call in_state f true (act k) l).1 (call-sound true k l v) calls, r)
 
   -- NO STATE THAT IS REACHED EARNS 25, whatever the orders;
   pub trace-clear : ((k : C) → Mild (act k)) → (ordered : C → Bool) (l : Lent) → Sound f l → (calls : List C)
-      → All (λ x. x.0 ≢ 25·alone) (trace (λ m k. lentCall inState f (ordered k) (act k) m) l calls)
+      → All (λ x. x.0 ≢ 25·alone) (trace (λ m k. lent_call in_state f (ordered k) (act k) m) l calls)
   unfolding trace
   trace-clear mild ordered l v [] = tt
   trace-clear mild ordered l v (k ∷ calls) = (
-    rw (call-is (ordered k) k l v) (not-25 (someUnless (ordered k) BadOrder otherwise (act k).refusal (view l)) l _ (clear-otherwise _ _ (clear-unless (ordered k) BadOrder tt) (mild k (view l)))),
-    trace-clear mild ordered (lentCall inState f (ordered k) (act k) l).1 (call-sound (ordered k) k l v) calls,
+    rw (call-is (ordered k) k l v) (not-25 (some_unless (ordered k) BadOrder otherwise (act k).refusal (view l)) l _ (clear-otherwise _ _ (clear-unless (ordered k) BadOrder tt) (mild k (view l)))),
+    trace-clear mild ordered (lent_call in_state f (ordered k) (act k) l).1 (call-sound (ordered k) k l v) calls,
   )
 
   -- AND EVERY STATE THAT IS REACHED IS GOOD
@@ -197,38 +197,38 @@ module _ (f : Card) (C : Type 0) (act : C → Act) (keeps : (k : C) → Keeps f 
 none-some : {A : Type 0} {why : Refusal} → some why ≡ none → A
 none-some e = absurd (some-ne-none _ e)
 
-pub ask-keeps : (f : Card) (k : Ask) → Keeps f (actOf f k)
+pub ask-keeps : (f : Card) (k : Ask) → Keeps f (act_of f k)
 ask-keeps f (row (degrees r)) s h e =
     let k = (fits-is f s r).0 e in
     record { consistent = row-consistent f s r h.consistent k; sized = row_sized f s r h.consistent k (inr h.sized.degrees) }
-ask-keeps f (row noRow) s h e = none-some e
+ask-keeps f (row no_row) s h e = none-some e
 
-row-clear : (f : Card) (s : NetState) (r : List ℕ) → Clear (rowRefusal f s r)
-unfolding rowRefusal rowFault
+row-clear : (f : Card) (s : NetState) (r : List ℕ) → Clear (row_refusal f s r)
+unfolding row_refusal row_fault
 row-clear f s r =
     clear-otherwise _ _ (clear-otherwise _ _ (clear-unless (eqb (length r) 0 || eqb (length r) f.signals) BadRow tt)
     (clear-map BadDegree (λ n. tt) (lowest 0 f.signals (λ g. ltb (scale f) (entry r g)))))
-    (clear-map Conflict (λ n. tt) (rowConflict f s r))
+    (clear-map Conflict (λ n. tt) (row_conflict f s r))
 
-pub ask-mild : (f : Card) (k : Ask) → Mild (actOf f k)
+pub ask-mild : (f : Card) (k : Ask) → Mild (act_of f k)
 unfolding Clear
 ask-mild f (row (degrees r)) s = row-clear f s r
-ask-mild f (row noRow) s = tt
+ask-mild f (row no_row) s = tt
 
 -- What a row that is not empty leaves of a valid lent state is valid, whatever the lengths of its arrays.
 pub kept : (f : Card) (l : Lent) (r : List ℕ) (ordered : Bool) → 0 < length r → Valid f l
-    → Valid f (settle (someUnless ordered BadOrder otherwise rowRefusal f (view l) r) l (store l (rowNext f (view l) r))).1
+    → Valid f (settle (some_unless ordered BadOrder otherwise row_refusal f (view l) r) l (store l (row_next f (view l) r))).1
 kept f l r false b v = v
-kept f l r true b v = go (rowRefusal f (view l) r) refl
+kept f l r true b v = go (row_refusal f (view l) r) refl
   where
-    go : (x : Option Refusal) → rowRefusal f (view l) r ≡ x → Valid f (settle x l (store l (rowNext f (view l) r))).1
+    go : (x : Option Refusal) → row_refusal f (view l) r ≡ x → Valid f (settle x l (store l (row_next f (view l) r))).1
     go (some why) e = v
     go none e =
         let k = (fits-is f (view l) r).0 e in
         record {
           counts = record { places = v.counts.places; transitions = v.counts.transitions; signals = v.counts.signals };
           consistent =
-              rw (view-store f l (rowNext f (view l) r) v.counts (row_sized f (view l) r v.consistent k (inl b)))
+              rw (view-store f l (row_next f (view l) r) v.counts (row_sized f (view l) r v.consistent k (inl b)))
               (row-consistent f (view l) r v.consistent k);
         }
 

@@ -7,7 +7,7 @@ use Rattle.card.proofs.Sums.{map-length}
 use Rattle.runners.specs.State.{scale, transfer, remaining}
 use Rattle.runners.specs.Step.{advanced}
 use Rattle.runners.specs.Calls.{slot}
-use Rattle.runners.specs.Columns.{idleCode, code_of, transferOf, code_at}
+use Rattle.runners.specs.Columns.{idle_code, code_of, transfer_of, code_at}
 use Rattle.runners.specs.inner.Storing.{slot_at, CodesOf, Stored}
 use Rattle.runners.specs.declared.Transfer.{Transfer}
 use Rattle.runners.specs.declared.Transfer.TheVariants.{Idle, Carrying}
@@ -22,25 +22,25 @@ default_free d e (x ∷ xs) zero l = refl
 default_free d e (x ∷ xs) (suc t) l = default_free d e xs t (omega arith)
 
 -- a number, and its transfer
-pub of-idle : (n : ℕ) → n ≡ idleCode → Idle ≡ transferOf n
-of-idle n e = rw (eq-eqb n idleCode e)
+pub of-idle : (n : ℕ) → n ≡ idle_code → Idle ≡ transfer_of n
+of-idle n e = rw (eq-eqb n idle_code e)
 
-pub of-progress : (n : ℕ) → (n ≡ idleCode → ⊥) → Carrying n ≡ transferOf n
-of-progress n d = rw (ne_eqb n idleCode d)
+pub of-progress : (n : ℕ) → (n ≡ idle_code → ⊥) → Carrying n ≡ transfer_of n
+of-progress n d = rw (ne_eqb n idle_code d)
 
-pub coded : (x : Transfer) → (x ≡ Carrying idleCode → ⊥) → transferOf (code_of x) ≡ x
+pub coded : (x : Transfer) → (x ≡ Carrying idle_code → ⊥) → transfer_of (code_of x) ≡ x
 coded Idle d = refl
 coded (Carrying c) d = sym (of-progress c (λ e. d (ap Carrying e)))
 
 -- the transfer of a transition, by its number
-pub transfer-code : (xs : List ℕ) (t : ℕ) → transfer (map transferOf xs) t ≡ transferOf (code_at xs t)
-transfer-code xs t = get_or-map transferOf xs t idleCode
+pub transfer-code : (xs : List ℕ) (t : ℕ) → transfer (map transfer_of xs) t ≡ transfer_of (code_at xs t)
+transfer-code xs t = get_or-map transfer_of xs t idle_code
 
-pub code-there : (xs : List ℕ) (t : ℕ) (x : Transfer) → t < length xs → x ≡ transferOf (get_or xs t 0) → x ≡ transfer (map transferOf xs) t
-code-there xs t x l e = e ∙ ap transferOf (default_free 0 idleCode xs t l) ∙ sym (transfer-code xs t)
+pub code-there : (xs : List ℕ) (t : ℕ) (x : Transfer) → t < length xs → x ≡ transfer_of (get_or xs t 0) → x ≡ transfer (map transfer_of xs) t
+code-there xs t x l e = e ∙ ap transfer_of (default_free 0 idle_code xs t l) ∙ sym (transfer-code xs t)
 
-pub code-past : (xs : List ℕ) (t : ℕ) → length xs ≤ t → Idle ≡ transfer (map transferOf xs) t
-code-past xs t l = sym (transfer-code xs t ∙ ap transferOf (get_or-eq_default xs idleCode l))
+pub code-past : (xs : List ℕ) (t : ℕ) → length xs ≤ t → Idle ≡ transfer (map transfer_of xs) t
+code-past xs t l = sym (transfer-code xs t ∙ ap transfer_of (get_or-eq_default xs idle_code l))
 
 -- what remains
 pub rest-idle : (f : Card) (x : Transfer) → x ≡ Idle → 0 ≡ remaining f x
@@ -53,12 +53,12 @@ pub rest-none : (f : Card) (x : Transfer) (c u : ℕ) → u ≡ scale f → x �
 rest-none f x c u h e l = let z : 0 ≡ u - c = omega arith in z ∙ rest-carrying f x c u h e
 
 -- nothing remains of the one progress that is told as idle
-pub remaining-coded : (f : Card) (x : Transfer) → remaining f (transferOf (code_of x)) ≡ remaining f x
+pub remaining-coded : (f : Card) (x : Transfer) → remaining f (transfer_of (code_of x)) ≡ remaining f x
 remaining-coded f Idle = refl
-remaining-coded f (Carrying c) = go (eqb c idleCode) refl
+remaining-coded f (Carrying c) = go (eqb c idle_code) refl
   where
-    go : (b : Bool) → eqb c idleCode ≡ b → remaining f (cond b Idle (Carrying c)) ≡ remaining f (Carrying c)
-    go true e = rest-none f (Carrying c) c (scale f) refl refl (omega (arith, eqb-true c idleCode e, scale-few f))
+    go : (b : Bool) → eqb c idle_code ≡ b → remaining f (cond b Idle (Carrying c)) ≡ remaining f (Carrying c)
+    go true e = rest-none f (Carrying c) c (scale f) refl refl (omega (arith, eqb-true c idle_code e, scale-few f))
     go false e = refl
 
 -- a transfer that advances
@@ -94,22 +94,22 @@ pub codes-more : (l : Lent) (k n : ℕ) (a : List ℕ) → k < length a → n �
 codes-more l k n a b e h t d = go (lt-or-ge t k)
   where
     go : (t < k) ⊎ (k ≤ t) → code_at (set a k n) t ≡ code_of (get_or l.slots t (slot Idle)).transfer
-    go (inl q) = get_or-set_other a k t n idleCode (λ z. omega arith) ∙ h t q
-    go (inr q) = let z : t ≡ k = omega arith in rw z (get_or-set_same a k n idleCode b ∙ e)
+    go (inl q) = get_or-set_other a k t n idle_code (λ z. omega arith) ∙ h t q
+    go (inr q) = let z : t ≡ k = omega arith in rw z (get_or-set_same a k n idle_code b ∙ e)
 
 pub codes_all : (l : Lent) (k : ℕ) (codes : List ℕ) → length codes ≡ 255 → CodesTo l k codes → ((t : ℕ) → t < l.transitions → t < 255 → t < k) → CodesOf l codes
 codes_all l k codes long h b = record { long = long; own = λ t d q. h t (b t d q) ∙ ap code_of (sym (slot-at l.slots t)) }
 
 -- the first k transfers stored
 pub record StoredTo (was : List Slot) (codes : List ℕ) (k : ℕ) (slots : List Slot) : Type 0 where
-  pub own : (t : ℕ) → t < k → slot_at slots t ≡ transferOf (code_at codes t)
+  pub own : (t : ℕ) → t < k → slot_at slots t ≡ transfer_of (code_at codes t)
   pub others : (t : ℕ) → k ≤ t → slot_at slots t ≡ slot_at was t
   pub long : length slots ≡ length was
 
 pub stored-start : (was : List Slot) (codes : List ℕ) → StoredTo was codes 0 was
 stored-start was codes = record { own = λ t b. absurd (omega arith); others = λ t b. refl; long = refl }
 
-pub stored_more : (was : List Slot) (codes : List ℕ) (k : ℕ) (y : Transfer) (a : List Slot) → k < length a → k < length codes → y ≡ transferOf (get_or codes k 0) → StoredTo was codes k a
+pub stored_more : (was : List Slot) (codes : List ℕ) (k : ℕ) (y : Transfer) (a : List Slot) → k < length a → k < length codes → y ≡ transfer_of (get_or codes k 0) → StoredTo was codes k a
     → StoredTo was codes (k + 1) (set a k (slot y))
 stored_more was codes k y a b l e h =
     record { own = λ t d. at t d (lt-or-ge t k); others = λ t d. other t (λ z. omega arith) ∙ h.others t (omega arith); long = length-set a k (slot y) ∙ h.long }
@@ -117,11 +117,11 @@ stored_more was codes k y a b l e h =
     other : (t : ℕ) → (t ≡ k → ⊥) → slot_at (set a k (slot y)) t ≡ slot_at a t
     other t n = slot-at (set a k (slot y)) t ∙ ap (λ (x : Slot). x.transfer) (get_or-set_other a k t (slot y) (slot Idle) n) ∙ sym (slot-at a t)
 
-    at : (t : ℕ) → t < k + 1 → (t < k) ⊎ (k ≤ t) → slot_at (set a k (slot y)) t ≡ transferOf (code_at codes t)
+    at : (t : ℕ) → t < k + 1 → (t < k) ⊎ (k ≤ t) → slot_at (set a k (slot y)) t ≡ transfer_of (code_at codes t)
     at t d (inl q) = other t (λ z. omega arith) ∙ h.own t q
     at t d (inr q) =
         let z : t ≡ k = omega arith in
-        rw z (slot-at (set a k (slot y)) k ∙ ap (λ (x : Slot). x.transfer) (get_or-set_same a k (slot y) (slot Idle) b) ∙ e ∙ ap transferOf (default_free 0 idleCode codes k l))
+        rw z (slot-at (set a k (slot y)) k ∙ ap (λ (x : Slot). x.transfer) (get_or-set_same a k (slot y) (slot Idle) b) ∙ e ∙ ap transfer_of (default_free 0 idle_code codes k l))
 
 pub stored-all : (l : Lent) (ms codes : List ℕ) (k : ℕ) (l' : Lent) → StoredTo l.slots codes k l'.slots → k ≤ l.transitions → ((t : ℕ) → t < l.transitions → t < 255 → t < k)
     → l'.markings ≡ ms → l'.degrees ≡ l.degrees → l'.places ≡ l.places → l'.transitions ≡ l.transitions → l'.signals ≡ l.signals → Stored l ms codes l'

@@ -2,16 +2,16 @@
 -- own turn gives; and the visits of all subnets together are the whole step. Assumes nothing.
 use Rattle.std.proofs.Common.{◌≡◌, ℕ, zero, suc, ◌+◌, ◌*◌, ◌<◌, Bool, true, false, cond, ◌&&◌, eqb, ltb, ◌≢◌, List, length, refl, ap, ◌∙◌, ap₂, arith, ne_eqb}
 use Rattle.card.specs.Finite.{sum_to, every}
-use Rattle.card.specs.Card.{Arc, Card, draws, fills, subnetAt, placeAt, transitionAt, arcAt, firstTransition, flatPlace, noTransition}
+use Rattle.card.specs.Card.{Arc, Card, draws, fills, subnet_at, place_at, transition_at, arc_at, first_transition, flat_place, no_transition}
 use Rattle.card.specs.Wellformed.{TransitionRow}
 use Rattle.card.proofs.Sums.{sum_same, sum-zero, sum-append, all-at}
 use Rattle.hierarchy.specs.Conditions.{Sees, Meets}
-use Rattle.flattening.specs.Flattening.{flatArc, flatten}
+use Rattle.flattening.specs.Flattening.{flat_arc, flatten}
 use Rattle.flattening.proofs.FlatLaws.{place-flat, arc-flat}
-use Rattle.runners.specs.State.{NetState, entry, transfer, remaining, weightAt, incidence, flow}
-use Rattle.runners.specs.Step.{idle, allows, candidateOn, startedOn, startMove, askedOn, movesOn, advanced, arrivesOn}
+use Rattle.runners.specs.State.{NetState, entry, transfer, remaining, weight_at, incidence, flow}
+use Rattle.runners.specs.Step.{idle, allows, candidate_on, started_on, start_move, asked_on, moves_on, advanced, arrives_on}
 use Rattle.runners.specs.Columns.{Moved, Grown, nothing, code_of, Columns}
-use Rattle.runners.specs.Visits.{OwnsTransition, Round, posting, finding, moving, Turn, amount, effect, SameView, stepTurn, InTurn, Unseen, Does, SameElsewhere, turnIn, Facts}
+use Rattle.runners.specs.Visits.{OwnsTransition, Round, posting, finding, moving, Turn, amount, effect, SameView, step_turn, InTurn, Unseen, Does, SameElsewhere, turn_in, Facts}
 use Rattle.runners.specs.declared.Transfer.{Transfer}
 use Rattle.runners.specs.declared.Transfer.TheVariants.{Idle, Carrying}
 use Rattle.runners.proofs.ScaleLaws.{scale_same}
@@ -32,7 +32,7 @@ advanced-same c d Idle k = refl
 advanced-same c d (Carrying n) k = rw (scale_same c d)
 
 started-same : (i j : Turn) (t : ℕ) → i.found t ≡ j.found t → transfer i.state.transfers t ≡ transfer j.state.transfers t
-    → startedOn i.found i.state.transfers t ≡ startedOn j.found j.state.transfers t
+    → started_on i.found i.state.transfers t ≡ started_on j.found j.state.transfers t
 started-same i j t a b = rw (a, b)
 
 module _ (r : Round) (s : ℕ) (i j : Turn) (m : Meets i.card) (below : s < length i.card.subnets) (v : SameView r s i j) where
@@ -42,50 +42,50 @@ module _ (r : Round) (s : ℕ) (i j : Turn) (m : Meets i.card) (below : s < leng
   abbrev g : Card
   g = flatten j.card
 
-  seen-arc : (t n : ℕ) → OwnsTransition i.card s t → n < (transitionAt i.card t).arcs
-      → Sees i.card s (arcAt i.card t n).subnet (arcAt i.card t n).place
+  seen-arc : (t n : ℕ) → OwnsTransition i.card s t → n < (transition_at i.card t).arcs
+      → Sees i.card s (arc_at i.card t n).subnet (arc_at i.card t n).place
   seen-arc t n o l = (m.conditions.transitions s t below o.low o.high).sees n l
 
   -- an own arc is the same on the flat cards
-  arc-same : (t n : ℕ) → OwnsTransition i.card s t → n < (transitionAt i.card t).arcs → arcAt f t n ≡ arcAt g t n
+  arc-same : (t n : ℕ) → OwnsTransition i.card s t → n < (transition_at i.card t).arcs → arc_at f t n ≡ arc_at g t n
   arc-same t n o l =
       let a = (v.transitions t o).arcs n l in
       let p = v.numbers _ _ (seen-arc t n o l) in
-      rw (arc-flat i.card t n, arc-flat j.card t n, ← a) (ap (λ (k : ℕ). record { direction = (arcAt i.card t n).direction; subnet = 0; place = k; weight = (arcAt i.card t n).weight }) p)
+      rw (arc-flat i.card t n, arc-flat j.card t n, ← a) (ap (λ (k : ℕ). record { direction = (arc_at i.card t n).direction; subnet = 0; place = k; weight = (arc_at i.card t n).weight }) p)
 
   incidence-same : (direction t p : ℕ) → OwnsTransition i.card s t → incidence f direction t p ≡ incidence g direction t p
   unfolding incidence flatten
   incidence-same direction t p o =
-      rw (← (v.transitions t o).row) (sum_same (transitionAt i.card t).arcs _ _ (λ n l. ap (weightAt direction p) (arc-same t n o l)))
+      rw (← (v.transitions t o).row) (sum_same (transition_at i.card t).arcs _ _ (λ n l. ap (weight_at direction p) (arc-same t n o l)))
 
-  signal-below : (t : ℕ) → OwnsTransition i.card s t → (transitionAt i.card t).signal < i.card.signals
+  signal-below : (t : ℕ) → OwnsTransition i.card s t → (transition_at i.card t).signal < i.card.signals
   signal-below t o =
-      (all-at (TransitionRow i.card.version i.card.signals) i.card.transitions noTransition m.wellformed.rows.transitions t
+      (all-at (TransitionRow i.card.version i.card.signals) i.card.transitions no_transition m.wellformed.rows.transitions t
       (owned_below i.card m s t below o)).signal
 
-  degree-same : (t : ℕ) → OwnsTransition i.card s t → entry i.row (transitionAt i.card t).signal ≡ entry j.row (transitionAt j.card t).signal
-  degree-same t o = rw (← (v.transitions t o).row) (v.row (transitionAt i.card t).signal (signal-below t o))
+  degree-same : (t : ℕ) → OwnsTransition i.card s t → entry i.row (transition_at i.card t).signal ≡ entry j.row (transition_at j.card t).signal
+  degree-same t o = rw (← (v.transitions t o).row) (v.row (transition_at i.card t).signal (signal-below t o))
 
-  last-same : (t : ℕ) → OwnsTransition i.card s t → entry i.state.degrees (transitionAt i.card t).signal ≡ entry j.state.degrees (transitionAt j.card t).signal
-  last-same t o = rw (← (v.transitions t o).row) (v.degrees (transitionAt i.card t).signal (signal-below t o))
+  last-same : (t : ℕ) → OwnsTransition i.card s t → entry i.state.degrees (transition_at i.card t).signal ≡ entry j.state.degrees (transition_at j.card t).signal
+  last-same t o = rw (← (v.transitions t o).row) (v.degrees (transition_at i.card t).signal (signal-below t o))
 
   -- the second visit
-  capacity-flat : (c : Card) (p : ℕ) → (placeAt (flatten c) p).capacity ≡ (placeAt c p).capacity
+  capacity-flat : (c : Card) (p : ℕ) → (place_at (flatten c) p).capacity ≡ (place_at c p).capacity
   capacity-flat c p = rw (place-flat c p)
 
-  allows-same : r ≡ finding → (t n : ℕ) → OwnsTransition i.card s t → n < (transitionAt i.card t).arcs
-      → allows f i.standing i.state.markings (arcAt f t n) ≡ allows g j.standing j.state.markings (arcAt g t n)
+  allows-same : r ≡ finding → (t n : ℕ) → OwnsTransition i.card s t → n < (transition_at i.card t).arcs
+      → allows f i.standing i.state.markings (arc_at f t n) ≡ allows g j.standing j.state.markings (arc_at g t n)
   unfolding allows
   allows-same e t n o l =
       let a = (v.transitions t o).arcs n l in
       let k = v.places e _ _ (seen-arc t n o l) in
-      let q : flatPlace i.card (arcAt i.card t n) ≡ flatPlace j.card (arcAt i.card t n) = v.numbers _ _ (seen-arc t n o l) in
+      let q : flat_place i.card (arc_at i.card t n) ≡ flat_place j.card (arc_at i.card t n) = v.numbers _ _ (seen-arc t n o l) in
       rw (
         arc-flat i.card t n,
         arc-flat j.card t n,
         ← a,
-        capacity-flat i.card (flatPlace i.card (arcAt i.card t n)),
-        capacity-flat j.card (flatPlace j.card (arcAt i.card t n)),
+        capacity-flat i.card (flat_place i.card (arc_at i.card t n)),
+        capacity-flat j.card (flat_place j.card (arc_at i.card t n)),
         k.capacities,
         k.markings,
         k.owed,
@@ -94,26 +94,26 @@ module _ (r : Round) (s : ℕ) (i j : Turn) (m : Meets i.card) (below : s < leng
       )
 
   candidate-same : r ≡ finding → (t : ℕ) → OwnsTransition i.card s t
-      → candidateOn f i.standing i.state i.row t ≡ candidateOn g j.standing j.state j.row t
-  unfolding candidateOn flatten
+      → candidate_on f i.standing i.state i.row t ≡ candidate_on g j.standing j.state j.row t
+  unfolding candidate_on flatten
   candidate-same e t o =
       let k = v.transitions t o in
-      rw (degree-same t o, k.transfers, ← k.row) (ap (λ (b : Bool). idle (transfer j.state.transfers t) && ltb 0 (entry j.row (transitionAt i.card t).signal) && b)
-      (every-same (transitionAt i.card t).arcs _ _ (λ n l. allows-same e t n o l)))
+      rw (degree-same t o, k.transfers, ← k.row) (ap (λ (b : Bool). idle (transfer j.state.transfers t) && ltb 0 (entry j.row (transition_at i.card t).signal) && b)
+      (every-same (transition_at i.card t).arcs _ _ (λ n l. allows-same e t n o l)))
 
   -- the third visit
-  asked-same : r ≡ moving → (t : ℕ) → OwnsTransition i.card s t → askedOn f i.found i.state.degrees i.row t ≡ askedOn g j.found j.state.degrees j.row t
-  unfolding flatten startMove
+  asked-same : r ≡ moving → (t : ℕ) → OwnsTransition i.card s t → asked_on f i.found i.state.degrees i.row t ≡ asked_on g j.found j.state.degrees j.row t
+  unfolding flatten start_move
   asked-same e t o = rw (v.found e t o, v.version, degree-same t o, last-same t o)
 
-  moves-same : r ≡ moving → (t : ℕ) → OwnsTransition i.card s t → movesOn f i.found i.state i.row t ≡ movesOn g j.found j.state j.row t
+  moves-same : r ≡ moving → (t : ℕ) → OwnsTransition i.card s t → moves_on f i.found i.state i.row t ≡ moves_on g j.found j.state j.row t
   moves-same e t o =
-      rw (asked-same e t o, started-same i j t (v.found e t o) (v.transitions t o).transfers, remaining-same f g (startedOn j.found j.state.transfers t))
+      rw (asked-same e t o, started-same i j t (v.found e t o) (v.transitions t o).transfers, remaining-same f g (started_on j.found j.state.transfers t))
 
-  arrives-same : r ≡ moving → (t : ℕ) → OwnsTransition i.card s t → arrivesOn f i.found i.state i.row t ≡ arrivesOn g j.found j.state j.row t
+  arrives-same : r ≡ moving → (t : ℕ) → OwnsTransition i.card s t → arrives_on f i.found i.state i.row t ≡ arrives_on g j.found j.state j.row t
   arrives-same e t o =
       ap₂ (advanced f) (started-same i j t (v.found e t o) (v.transitions t o).transfers) (moves-same e t o)
-      ∙ advanced-same f g (startedOn j.found j.state.transfers t) (movesOn g j.found j.state j.row t)
+      ∙ advanced-same f g (started_on j.found j.state.transfers t) (moves_on g j.found j.state j.row t)
 
   -- an own transition of one card is one of the other
   own_back : (t : ℕ) → OwnsTransition j.card s t → OwnsTransition i.card s t
@@ -132,9 +132,9 @@ module _ (s : ℕ) (i j : Turn) (m : Meets i.card) (below : s < length i.card.su
   effect-same : (r : Round) → SameView r s i j → (direction p : ℕ) → effect r s i direction p ≡ effect r s j direction p
   unfolding effect
   effect-same r v direction p =
-      rw (← v.count, ← v.first) (sum_same (subnetAt i.card s).transitions _ _ (λ k l. ap₂ (λ (a b : ℕ). a * b)
-      (amount-same r v (firstTransition i.card s + k) (own i.card s k l))
-      (incidence-same r s i j m below v direction (firstTransition i.card s + k) p (own i.card s k l))))
+      rw (← v.count, ← v.first) (sum_same (subnet_at i.card s).transitions _ _ (λ k l. ap₂ (λ (a b : ℕ). a * b)
+      (amount-same r v (first_transition i.card s + k) (own i.card s k l))
+      (incidence-same r s i j m below v direction (first_transition i.card s + k) p (own i.card s k l))))
 
   effects-moved : (r : Round) → SameView r s i j → (a b : List ℕ) → Moved a b (effect r s i draws) (effect r s i fills) → Moved a b (effect r s j draws) (effect r s j fills)
   effects-moved r v a b h =
@@ -164,7 +164,7 @@ module _ (s : ℕ) (i j : Turn) (m : Meets i.card) (below : s < length i.card.su
       }
 
 -- the turn of a subnet is, in all that its visit may read, the step's
-pub turn-view : (r : Round) (s : ℕ) (i : Turn) (before : NetState) → InTurn r s i before → SameView r s i (stepTurn i.card before i.row)
+pub turn-view : (r : Round) (s : ℕ) (i : Turn) (before : NetState) → InTurn r s i before → SameView r s i (step_turn i.card before i.row)
 turn-view r s i before h =
     record {
       version = refl;
@@ -179,7 +179,7 @@ turn-view r s i before h =
     }
 
 -- at a place that is not seen no own arc has a weight
-no-weight : (direction p : ℕ) (a : Arc) → a.place ≢ p → weightAt direction p a ≡ 0
+no-weight : (direction p : ℕ) (a : Arc) → a.place ≢ p → weight_at direction p a ≡ 0
 no-weight direction p a n = rw (ne_eqb a.place p n) (go (eqb a.direction direction))
   where
     go : (b : Bool) → cond (b && false) a.weight 0 ≡ 0
@@ -189,19 +189,19 @@ no-weight direction p a n = rw (ne_eqb a.place p n) (go (eqb a.direction directi
 pub no-effect : (r : Round) (s : ℕ) (i : Turn) → Meets i.card → s < length i.card.subnets → (direction p : ℕ) → Unseen i.card s p
     → effect r s i direction p ≡ 0
 unfolding effect incidence flatten
-no-effect r s i m below direction p u = sum-zero (subnetAt i.card s).transitions _ (λ k l. rw (nothing-there (firstTransition i.card s + k) (own i.card s k l)) (omega arith))
+no-effect r s i m below direction p u = sum-zero (subnet_at i.card s).transitions _ (λ k l. rw (nothing-there (first_transition i.card s + k) (own i.card s k l)) (omega arith))
   where
     nothing-there : (t : ℕ) → OwnsTransition i.card s t → incidence (flatten i.card) direction t p ≡ 0
     nothing-there t o =
-        sum-zero (transitionAt i.card t).arcs _ (λ n l. rw (arc-flat i.card t n) (no-weight direction p (flatArc i.card (arcAt i.card t n))
+        sum-zero (transition_at i.card t).arcs _ (λ n l. rw (arc-flat i.card t n) (no-weight direction p (flat_arc i.card (arc_at i.card t n))
         (u _ _ ((m.conditions.transitions s t below o.low o.high).sees n l))))
 
 -- THE THREE FACTS HOLD OF A VISIT THAT DOES WHAT ITS OWN TURN GIVES, and leaves other transitions as they were
-pub facts : (r : Round) (s : ℕ) (c : Card) (a a' : Columns) → Meets c → s < length c.subnets → Does r s (turnIn c a) a a' → SameElsewhere c s a a' → Facts r s c a a'
+pub facts : (r : Round) (s : ℕ) (c : Card) (a a' : Columns) → Meets c → s < length c.subnets → Does r s (turn_in c a) a a' → SameElsewhere c s a a' → Facts r s c a a'
 facts r s c a a' m below d e =
     record {
-      right = λ before h. does-same s (turnIn c a) (stepTurn c before a.row) m below r (turn-view r s (turnIn c a) before h) a a' d;
-      local = λ j v. does-same s (turnIn c a) j m below r v a a' d;
+      right = λ before h. does-same s (turn_in c a) (step_turn c before a.row) m below r (turn-view r s (turn_in c a) before h) a a' d;
+      local = λ j v. does-same s (turn_in c a) j m below r v a a' d;
       elsewhere = e;
     }
 
@@ -213,7 +213,7 @@ sum-ranges (suc S) count a = omega (arith, sum-append (sum_to S count) (count S)
 
 pub effects-sum : (r : Round) (i : Turn) → Meets i.card → (direction p : ℕ)
     → flow (flatten i.card) (amount r i) direction p ≡ sum_to (length i.card.subnets) (λ s. effect r s i direction p)
-unfolding flow flatten firstTransition effect
+unfolding flow flatten first_transition effect
 effects-sum r i m direction p =
-    ap (λ (n : ℕ). sum_to n (λ t. amount r i t * incidence (flatten i.card) direction t p)) m.wellformed.rows.transitionCount
-    ∙ sum-ranges (length i.card.subnets) (λ s. (subnetAt i.card s).transitions) (λ t. amount r i t * incidence (flatten i.card) direction t p)
+    ap (λ (n : ℕ). sum_to n (λ t. amount r i t * incidence (flatten i.card) direction t p)) m.wellformed.rows.transition_count
+    ∙ sum-ranges (length i.card.subnets) (λ s. (subnet_at i.card s).transitions) (λ t. amount r i t * incidence (flatten i.card) direction t p)

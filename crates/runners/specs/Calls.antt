@@ -1,15 +1,15 @@
 -- The calls: a call for the fresh state, and a row call with the state that it is lent ('The two runners', 'Why a call is turned back').
 use Rattle.std.specs.Prelude.{ℕ, Bool, true, ◌&&◌, List, ◌++◌, map, length, take, drop, replicate, ◌==◌, nat_eq, nat_le, nat_lt, slice_index}
 use Rattle.std.proofs.Math.Option.{some}
-use Rattle.card.specs.Finite.{every, any, someUnless, ◌otherwise◌}
+use Rattle.card.specs.Finite.{every, any, some_unless, ◌otherwise◌}
 use Rattle.card.specs.Card.{Card}
 use Rattle.hierarchy.specs.Numbers.{CheckOutcome}
-use Rattle.hierarchy.specs.Judgement.{Judgement, accepted, refused, judge, outcomeOf}
+use Rattle.hierarchy.specs.Judgement.{Judgement, accepted, refused, judge, outcome_of}
 use Rattle.flattening.specs.Flattening.{flatten}
 use Rattle.runners.specs.Numbers.{RowOutcome}
 use Rattle.runners.specs.Numbers
 use Rattle.runners.specs.State.{NetState, scale, entry, transfer, fresh, covered}
-use Rattle.runners.specs.Rows.{settle, degrees, Ask, row, Act, actOf}
+use Rattle.runners.specs.Rows.{settle, degrees, Ask, row, Act, act_of}
 use Rattle.runners.specs.declared.Transfer.{Transfer}
 use Rattle.runners.specs.declared.Transfer.TheVariants.{Idle, Carrying}
 use Rattle.runners.specs.declared.Slot.{Slot}
@@ -53,16 +53,16 @@ blank places transitions signals =
     }
 
 -- the fresh state of a net
-abbrev pub freshLent : Card → Lent
-freshLent f = store (blank (length f.places) (length f.transitions) f.signals) (fresh f)
+abbrev pub fresh_lent : Card → Lent
+fresh_lent f = store (blank (length f.places) (length f.transitions) f.signals) (fresh f)
 
 -- a call for the fresh state of a card: the check's answer, and a state; of a refused card, the blank state of no net
 abbrev pub fresh_of : Judgement → CheckOutcome × Lent
-fresh_of (accepted c) = (outcomeOf (accepted c), freshLent (flatten c))
-fresh_of (refused n at) = (outcomeOf (refused n at), blank 0 0 0)
+fresh_of (accepted c) = (outcome_of (accepted c), fresh_lent (flatten c))
+fresh_of (refused n at) = (outcome_of (refused n at), blank 0 0 0)
 
-unfoldable pub freshCall : (card : List ℕ) → CheckOutcome × Lent
-freshCall card = fresh_of (judge card)
+unfoldable pub fresh_call : (card : List ℕ) → CheckOutcome × Lent
+fresh_call card = fresh_of (judge card)
 
 -- 25: a lent state that breaks a range or length above, or has owed > m or m + due > 1000 × K somewhere. (Where every place is covered, each
 -- marking is 0 to 1000 × K.)
@@ -82,12 +82,12 @@ pub record Lending (S : Type 0) : Type 0 where
   pub store : S → NetState → S
   pub fits : Card → S → Bool
 
-unfoldable pub validIn : {S : Type 0} → Lending S → Card → S → Bool
-validIn way f l = way.fits f l && consistent f (way.view l)
+unfoldable pub valid_in : {S : Type 0} → Lending S → Card → S → Bool
+valid_in way f l = way.fits f l && consistent f (way.view l)
 
 -- in the runners' struct
-abbrev pub inState : Lending Lent
-inState =
+abbrev pub in_state : Lending Lent
+in_state =
     record {
       view = view;
       store = store;
@@ -95,15 +95,15 @@ inState =
     }
 
 abbrev pub valid : Card → Lent → Bool
-valid = validIn inState
+valid = valid_in in_state
 
 -- 23: a visiting order is a list of S numbers naming each subnet once. (S entries that name each of S subnets name none twice, and nothing
 -- else: the number of distinct subnets named equals S.)
 abbrev pub names : (order : List ℕ) → (s : ℕ) → Bool
 names order s = any (length order) (λ i. nat_eq (slice_index order i) s)
 
-unfoldable pub eachOnce : (S : ℕ) → (order : List ℕ) → Bool
-eachOnce S order = length order == S && every S (names order)
+unfoldable pub each_once : (S : ℕ) → (order : List ℕ) → Bool
+each_once S order = length order == S && every S (names order)
 
 -- What a call is lent beside card and state: what it asks, and whether its visiting order is one (true where none is lent).
 pub record Given : Type 0 where
@@ -111,34 +111,34 @@ pub record Given : Type 0 where
   pub ordered : Bool
 
 -- 25, 23, and then the call's own tests
-abbrev pub lentCall : {S : Type 0} → Lending S → Card → (ordered : Bool) → Act → S → RowOutcome × S
-lentCall way f ordered act l =
+abbrev pub lent_call : {S : Type 0} → Lending S → Card → (ordered : Bool) → Act → S → RowOutcome × S
+lent_call way f ordered act l =
     let s = way.view l in
-    settle (someUnless (validIn way f l) BadState otherwise someUnless ordered BadOrder otherwise act.refusal s) l (way.store l (act.next s))
+    settle (some_unless (valid_in way f l) BadState otherwise some_unless ordered BadOrder otherwise act.refusal s) l (way.store l (act.next s))
 
 -- A CALL, on a state that is lent in any way. A row call tests the card (1 to 16, and 26), 25, 23, 20, 21, 22.
-abbrev pub callOn : {S : Type 0} → Lending S → Judgement → (Card → Given) → S → RowOutcome × S
-callOn way (refused n at) given l = (Numbers.RowOutcome.refused n (some at), l)
-callOn way (accepted c) given l = lentCall way (flatten c) (given c).ordered (actOf (flatten c) (given c).ask) l
+abbrev pub call_on : {S : Type 0} → Lending S → Judgement → (Card → Given) → S → RowOutcome × S
+call_on way (refused n at) given l = (Numbers.RowOutcome.refused n (some at), l)
+call_on way (accepted c) given l = lent_call way (flatten c) (given c).ordered (act_of (flatten c) (given c).ask) l
 
 -- the flat runner
-abbrev pub flatAsk : {S : Type 0} → Lending S → (card : List ℕ) → S → Ask → RowOutcome × S
-flatAsk way card l ask = callOn way (judge card) (λ c. record { ask = ask; ordered = true }) l
+abbrev pub flat_ask : {S : Type 0} → Lending S → (card : List ℕ) → S → Ask → RowOutcome × S
+flat_ask way card l ask = call_on way (judge card) (λ c. record { ask = ask; ordered = true }) l
 
 -- the subnet runner, which is lent a visiting order
-abbrev pub inOrder : (order : List ℕ) → Card → Bool
-inOrder order c = eachOnce (length c.subnets) order
+abbrev pub in_order : (order : List ℕ) → Card → Bool
+in_order order c = each_once (length c.subnets) order
 
-abbrev pub subnetAsk : {S : Type 0} → Lending S → (card order : List ℕ) → S → Ask → RowOutcome × S
-subnetAsk way card order l ask = callOn way (judge card) (λ c. record { ask = ask; ordered = inOrder order c }) l
+abbrev pub subnet_ask : {S : Type 0} → Lending S → (card order : List ℕ) → S → Ask → RowOutcome × S
+subnet_ask way card order l ask = call_on way (judge card) (λ c. record { ask = ask; ordered = in_order order c }) l
 
 -- their row calls, in the runners' struct
-unfoldable pub flatCall : (card : List ℕ) → Lent → (row : List ℕ) → RowOutcome × Lent
-flatCall card l r = flatAsk inState card l (row (degrees r))
+unfoldable pub flat_call : (card : List ℕ) → Lent → (row : List ℕ) → RowOutcome × Lent
+flat_call card l r = flat_ask in_state card l (row (degrees r))
 
-unfoldable pub subnetCall : (card order : List ℕ) → Lent → (row : List ℕ) → RowOutcome × Lent
-subnetCall card order l r = subnetAsk inState card order l (row (degrees r))
+unfoldable pub subnet_call : (card order : List ℕ) → Lent → (row : List ℕ) → RowOutcome × Lent
+subnet_call card order l r = subnet_ask in_state card order l (row (degrees r))
 
 -- a row call on what a card was judged to be
 abbrev pub called : (ordered : Card → Bool) → Judgement → Lent → (row : List ℕ) → RowOutcome × Lent
-called ordered j l r = callOn inState j (λ c. record { ask = row (degrees r); ordered = ordered c }) l
+called ordered j l r = call_on in_state j (λ c. record { ask = row (degrees r); ordered = ordered c }) l

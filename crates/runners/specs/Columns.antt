@@ -25,18 +25,18 @@ abbrev pub Grown : (before after : List ℕ) → (up : ℕ → ℕ) → Type 0
 Grown before after up = Moved before after nothing up
 
 -- a transfer as a number: its progress, and one that no progress is for idle. (A progress of 0 is not idle.)
-abbrev pub idleCode : ℕ
-idleCode = 65535
+abbrev pub idle_code : ℕ
+idle_code = 65535
 
 abbrev pub code_of : Transfer → ℕ
-code_of Idle = idleCode
+code_of Idle = idle_code
 code_of (Carrying c) = c
 
-abbrev pub transferOf : (code : ℕ) → Transfer
-transferOf code = cond (code == idleCode) Idle (Carrying code)
+abbrev pub transfer_of : (code : ℕ) → Transfer
+transfer_of code = cond (code == idle_code) Idle (Carrying code)
 
 abbrev pub code_at : (codes : List ℕ) → (t : ℕ) → ℕ
-code_at codes t = slice_index_or codes t idleCode
+code_at codes t = slice_index_or codes t idle_code
 
 -- what a row works on: the state's markings, transfers as numbers and last degrees, the row, the board, and which transitions are candidates
 pub record Columns : Type 0 where
@@ -55,8 +55,8 @@ columns ms xs last row o d dr fl cs =
     record { markings = ms; transfers = xs; degrees = last; row = row; owed = o; due = d; drawn = dr; filled = fl; candidates = cs }
 
 -- the state that they hold
-abbrev pub stateIn : Columns → NetState
-stateIn k = record { markings = k.markings; transfers = map transferOf k.transfers; degrees = k.degrees }
+abbrev pub state_in : Columns → NetState
+state_in k = record { markings = k.markings; transfers = map transfer_of k.transfers; degrees = k.degrees }
 
 -- the claims that two of them hold
 abbrev pub posted : (owed due : List ℕ) → Claims
@@ -67,14 +67,14 @@ abbrev pub noted : List Bool → (t : ℕ) → Bool
 noted cs t = slice_index_or cs t false
 
 -- the same but for the columns that a round changes
-abbrev pub withStanding : Columns → (owed due : List ℕ) → Columns
-withStanding k o d = columns k.markings k.transfers k.degrees k.row o d k.drawn k.filled k.candidates
+abbrev pub with_standing : Columns → (owed due : List ℕ) → Columns
+with_standing k o d = columns k.markings k.transfers k.degrees k.row o d k.drawn k.filled k.candidates
 
-abbrev pub withCandidates : Columns → (drawn filled : List ℕ) → List Bool → Columns
-withCandidates k dr fl cs = columns k.markings k.transfers k.degrees k.row k.owed k.due dr fl cs
+abbrev pub with_candidates : Columns → (drawn filled : List ℕ) → List Bool → Columns
+with_candidates k dr fl cs = columns k.markings k.transfers k.degrees k.row k.owed k.due dr fl cs
 
-abbrev pub withState : Columns → (markings transfers : List ℕ) → Columns
-withState k ms xs = columns ms xs k.degrees k.row k.owed k.due k.drawn k.filled k.candidates
+abbrev pub with_state : Columns → (markings transfers : List ℕ) → Columns
+with_state k ms xs = columns ms xs k.degrees k.row k.owed k.due k.drawn k.filled k.candidates
 
 -- What is said of the columns before and after, where a function is lent only some of them: it holds whatever the others are.
 -- In the first round standing claims change,

@@ -1,7 +1,7 @@
 -- A card that was loaded once, for many rows. Only this crate makes such a net or looks into it.
 use Rattle.std.specs.Prelude.{◌≡◌, ℕ, List, [], ◌∷◌}
-use Rattle.hierarchy.specs.Numbers.{checkOutcome}
-use Rattle.hierarchy.specs.Judgement.{Judgement, accepted, refused, outcomeOf}
+use Rattle.hierarchy.specs.Numbers.{check_outcome}
+use Rattle.hierarchy.specs.Judgement.{Judgement, accepted, refused, outcome_of}
 use Rattle.flattening.specs.Flattening.{flatten}
 use Rattle.runners.specs.Numbers.{RowOutcome}
 use Rattle.runners.specs.Rows.{pieces}
@@ -11,14 +11,14 @@ use Rattle.runners.specs.declared.Sizes.{Sizes}
 use Rattle.runners.specs.declared.Net.{Net}
 
 -- the flat card of an accepted card is accepted (proofs/FlatLaws.antt); of a refused one there is none
-abbrev pub flatJudged : Judgement → Judgement
-flatJudged (accepted c) = accepted (flatten c)
-flatJudged (refused n at) = refused n at
+abbrev pub flat_judged : Judgement → Judgement
+flat_judged (accepted c) = accepted (flatten c)
+flat_judged (refused n at) = refused n at
 
 -- how many signals its rows give degrees of
-abbrev pub signalsIn : Judgement → ℕ
-signalsIn (accepted c) = c.signals
-signalsIn (refused n at) = 0
+abbrev pub signals_in : Judgement → ℕ
+signals_in (accepted c) = c.signals
+signals_in (refused n at) = 0
 
 abbrev pub HoldsJudged : Judgement → (numbers starts full : List ℕ) → Sizes → Type 0
 HoldsJudged (accepted c) numbers starts full n = HoldsNet c numbers starts full n
@@ -26,8 +26,8 @@ HoldsJudged (refused why at) numbers starts full n = Unit {0}
 
 -- the net of what a card was judged to be: the check's answer, and tables, full markings and sizes
 pub record IsNetIn (j : Judgement) (a : Answer) (numbers starts fulls : List ℕ) (n : Sizes) : Type 0 where
-  pub answer : checkOutcome a ≡ outcomeOf j
-  pub signals : n.signals ≡ signalsIn j
+  pub answer : check_outcome a ≡ outcome_of j
+  pub signals : n.signals ≡ signals_in j
   pub tables : HoldsJudged j numbers starts fulls n
 
 abbrev pub IsNet : Judgement → Net → Type 0
@@ -39,6 +39,6 @@ leaves call s [] = s
 leaves call s (c ∷ cs) = leaves call (call s c).1 cs
 
 -- rows in one list, a degree for each signal; a last one that is cut short is a row too
-abbrev pub rowsIn : Judgement → (degrees : List ℕ) → List (List ℕ)
-rowsIn (accepted c) degrees = pieces c.signals degrees
-rowsIn (refused n at) degrees = []
+abbrev pub rows_in : Judgement → (degrees : List ℕ) → List (List ℕ)
+rows_in (accepted c) degrees = pieces c.signals degrees
+rows_in (refused n at) degrees = []

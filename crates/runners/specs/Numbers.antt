@@ -24,15 +24,15 @@ refusal (Conflict p) = refused 22 (some p)
 refusal BadOrder = refused 23 none
 refusal BadState = refused 25 none
 
-abbrev pub rowOutcome : Reply → RowOutcome
-rowOutcome Ok = ok
-rowOutcome (No why) = refusal why
+abbrev pub row_outcome : Reply → RowOutcome
+row_outcome Ok = ok
+row_outcome (No why) = refusal why
 
 -- as the code hands it out: its kind (ok, a number only, a number with a value), its number and its value
-abbrev pub replyCode : RowOutcome → Code
-replyCode ok = record { kind = 0; number = 0; value = 0 }
-replyCode (refused n none) = record { kind = 1; number = n; value = 0 }
-replyCode (refused n (some v)) = record { kind = 2; number = n; value = v }
+abbrev pub reply_code : RowOutcome → Code
+reply_code ok = record { kind = 0; number = 0; value = 0 }
+reply_code (refused n none) = record { kind = 1; number = n; value = 0 }
+reply_code (refused n (some v)) = record { kind = 2; number = n; value = v }
 
 -- a carrying transition has a progress c, an idle one has none; a progress of 0 is not idle
 abbrev pub progress : Transfer → Option ℕ

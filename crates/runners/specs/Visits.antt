@@ -2,19 +2,19 @@
 -- is one as it was read, with its subnets.
 use Rattle.std.specs.Prelude.{◌≡◌, ℕ, suc, ◌+◌, ◌*◌, ◌%◌, ◌<◌, ◌≤◌, Bool, cond, ◌≢◌, List, length}
 use Rattle.card.specs.Finite.{sum_to}
-use Rattle.card.specs.Card.{Card, draws, fills, subnetAt, placeAt, transitionAt, arcAt, firstPlace, firstTransition}
+use Rattle.card.specs.Card.{Card, draws, fills, subnet_at, place_at, transition_at, arc_at, first_place, first_transition}
 use Rattle.card.specs.Index.{Loaded}
 use Rattle.hierarchy.specs.Conditions.{Meets, Sees}
 use Rattle.flattening.specs.Flattening.{flatten}
 use Rattle.runners.specs.State.{NetState, scale, entry, transfer, remaining, incidence, Claims, claims}
-use Rattle.runners.specs.Step.{candidateOn, candidate, movesOn, arrivesOn}
-use Rattle.runners.specs.Columns.{word, Moved, Grown, code_of, code_at, noted, posted, Columns, stateIn, withStanding, withCandidates, withState}
+use Rattle.runners.specs.Step.{candidate_on, candidate, moves_on, arrives_on}
+use Rattle.runners.specs.Columns.{word, Moved, Grown, code_of, code_at, noted, posted, Columns, state_in, with_standing, with_candidates, with_state}
 
 -- The subnet runner keeps, for each subnet, the markings it owns and its transitions: the places and transitions from its first flat number
 -- up to the next subnet's.
 pub record OwnsTransition (c : Card) (s t : ℕ) : Type 0 where
-  pub low : firstTransition c s ≤ t
-  pub high : t < firstTransition c (suc s)
+  pub low : first_transition c s ≤ t
+  pub high : t < first_transition c (suc s)
 
 -- It visits the subnets three times: to post standing claims, to find candidates and post theirs, and, if the board shows no conflict, to move.
 pub data Round : Type 0 where
@@ -33,45 +33,45 @@ pub record Turn : Type 0 where
 -- moves in the step.
 abbrev pub amount : Round → Turn → (t : ℕ) → ℕ
 amount posting i t = remaining (flatten i.card) (transfer i.state.transfers t)
-amount finding i t = cond (candidateOn (flatten i.card) i.standing i.state i.row t) (scale (flatten i.card)) 0
-amount moving i t = movesOn (flatten i.card) i.found i.state i.row t
+amount finding i t = cond (candidate_on (flatten i.card) i.standing i.state i.row t) (scale (flatten i.card)) 0
+amount moving i t = moves_on (flatten i.card) i.found i.state i.row t
 
 -- what the visit of subnet s posts or moves at flat place p: the sum over its own transitions
 unfoldable pub effect : Round → (s : ℕ) → Turn → (direction p : ℕ) → ℕ
 effect r s i direction p =
-    sum_to (subnetAt i.card s).transitions
-    (λ k. amount r i (firstTransition i.card s + k) * incidence (flatten i.card) direction (firstTransition i.card s + k) p)
+    sum_to (subnet_at i.card s).transitions
+    (λ k. amount r i (first_transition i.card s + k) * incidence (flatten i.card) direction (first_transition i.card s + k) p)
 
 -- Two turns that are equal in all that a visit may read.
 -- A transition of the subnet, with its flat number t: its signal and arcs (the subnet's part of the card), and its transfer.
 pub record SameTransition (i j : Turn) (t : ℕ) : Type 0 where
-  pub row : transitionAt i.card t ≡ transitionAt j.card t
-  pub arcs : (n : ℕ) → n < (transitionAt i.card t).arcs → arcAt i.card t n ≡ arcAt j.card t n
+  pub row : transition_at i.card t ≡ transition_at j.card t
+  pub arcs : (n : ℕ) → n < (transition_at i.card t).arcs → arc_at i.card t n ≡ arc_at j.card t n
   pub transfers : transfer i.state.transfers t ≡ transfer j.state.transfers t
 
 -- a place that it sees: its flat number, capacity, marking and standing claims
 pub record SamePlace (i j : Turn) (q n : ℕ) : Type 0 where
-  pub capacities : (placeAt i.card (firstPlace i.card q + n)).capacity ≡ (placeAt j.card (firstPlace j.card q + n)).capacity
-  pub markings : entry i.state.markings (firstPlace i.card q + n) ≡ entry j.state.markings (firstPlace j.card q + n)
-  pub owed : i.standing.owed (firstPlace i.card q + n) ≡ j.standing.owed (firstPlace j.card q + n)
-  pub due : i.standing.due (firstPlace i.card q + n) ≡ j.standing.due (firstPlace j.card q + n)
+  pub capacities : (place_at i.card (first_place i.card q + n)).capacity ≡ (place_at j.card (first_place j.card q + n)).capacity
+  pub markings : entry i.state.markings (first_place i.card q + n) ≡ entry j.state.markings (first_place j.card q + n)
+  pub owed : i.standing.owed (first_place i.card q + n) ≡ j.standing.owed (first_place j.card q + n)
+  pub due : i.standing.due (first_place i.card q + n) ≡ j.standing.due (first_place j.card q + n)
 
 -- the version (CR 3: which a visit may read), its transitions with their flat numbers, the places it sees (their contents in the second visit only,
 -- the only one that reads them), the row with the last degrees, and in the third visit also the candidates that its second one found
 pub record SameView (r : Round) (s : ℕ) (i j : Turn) : Type 0 where
   pub version : i.card.version ≡ j.card.version
-  pub first : firstTransition i.card s ≡ firstTransition j.card s
-  pub count : (subnetAt i.card s).transitions ≡ (subnetAt j.card s).transitions
+  pub first : first_transition i.card s ≡ first_transition j.card s
+  pub count : (subnet_at i.card s).transitions ≡ (subnet_at j.card s).transitions
   pub transitions : (t : ℕ) → OwnsTransition i.card s t → SameTransition i j t
-  pub numbers : (q n : ℕ) → Sees i.card s q n → firstPlace i.card q + n ≡ firstPlace j.card q + n
+  pub numbers : (q n : ℕ) → Sees i.card s q n → first_place i.card q + n ≡ first_place j.card q + n
   pub places : r ≡ finding → (q n : ℕ) → Sees i.card s q n → SamePlace i j q n
   pub row : (g : ℕ) → g < i.card.signals → entry i.row g ≡ entry j.row g
   pub degrees : (g : ℕ) → g < i.card.signals → entry i.state.degrees g ≡ entry j.state.degrees g
   pub found : r ≡ moving → (t : ℕ) → OwnsTransition i.card s t → i.found t ≡ j.found t
 
 -- The step, judged on the state before the row: its own claims and candidates.
-abbrev pub stepTurn : Card → (before : NetState) → (row : List ℕ) → Turn
-stepTurn c before row =
+abbrev pub step_turn : Card → (before : NetState) → (row : List ℕ) → Turn
+step_turn c before row =
     record {
       card = c;
       state = before;
@@ -86,36 +86,36 @@ stepTurn c before row =
 pub record InTurn (r : Round) (s : ℕ) (i : Turn) (before : NetState) : Type 0 where
   pub transfers : (t : ℕ) → OwnsTransition i.card s t → transfer i.state.transfers t ≡ transfer before.transfers t
   pub degrees : (g : ℕ) → g < i.card.signals → entry i.state.degrees g ≡ entry before.degrees g
-  pub places : r ≡ finding → (q n : ℕ) → Sees i.card s q n → SamePlace i (stepTurn i.card before i.row) q n
+  pub places : r ≡ finding → (q n : ℕ) → Sees i.card s q n → SamePlace i (step_turn i.card before i.row) q n
   pub found : r ≡ moving → (t : ℕ) → OwnsTransition i.card s t → i.found t ≡ candidate (flatten i.card) before i.row t
 
 -- flat place p is none that subnet s sees
 abbrev pub Unseen : Card → (s p : ℕ) → Type 0
-Unseen c s p = (q n : ℕ) → Sees c s q n → firstPlace c q + n ≢ p
+Unseen c s p = (q n : ℕ) → Sees c s q n → first_place c q + n ≢ p
 
 -- What a visit does with the columns that a row works on: just what turn i gives the subnet's own transitions.
 -- The first posts standing claims in two columns;
 pub record Posts (s : ℕ) (i : Turn) (a a' : Columns) : Type 0 where
-  pub only : a' ≡ withStanding a a'.owed a'.due
+  pub only : a' ≡ with_standing a a'.owed a'.due
   pub owed : Grown a.owed a'.owed (effect posting s i draws)
   pub due : Grown a.due a'.due (effect posting s i fills)
 
 -- the second posts its candidates' claims in two others, and notes its candidates;
 pub record Finds (s : ℕ) (i : Turn) (a a' : Columns) : Type 0 where
-  pub only : a' ≡ withCandidates a a'.drawn a'.filled a'.candidates
+  pub only : a' ≡ with_candidates a a'.drawn a'.filled a'.candidates
   pub drawn : Grown a.drawn a'.drawn (effect finding s i draws)
   pub filled : Grown a.filled a'.filled (effect finding s i fills)
   pub long : length a'.candidates ≡ length a.candidates
   pub own : (t : ℕ) → OwnsTransition i.card s t → t < length a.candidates
-      → noted a'.candidates t ≡ candidateOn (flatten i.card) i.standing i.state i.row t
+      → noted a'.candidates t ≡ candidate_on (flatten i.card) i.standing i.state i.row t
 
 -- the third moves: markings and its own transfers.
 pub record Moves (s : ℕ) (i : Turn) (a a' : Columns) : Type 0 where
-  pub only : a' ≡ withState a a'.markings a'.transfers
+  pub only : a' ≡ with_state a a'.markings a'.transfers
   pub markings : Moved a.markings a'.markings (effect moving s i draws) (effect moving s i fills)
   pub long : length a'.transfers ≡ length a.transfers
   pub own : (t : ℕ) → OwnsTransition i.card s t → t < length a.transfers
-      → code_at a'.transfers t ≡ code_of (arrivesOn (flatten i.card) i.found i.state i.row t)
+      → code_at a'.transfers t ≡ code_of (arrives_on (flatten i.card) i.found i.state i.row t)
 
 abbrev pub Does : Round → (s : ℕ) → Turn → (a a' : Columns) → Type 0
 Does posting s i a a' = Posts s i a a'
@@ -138,14 +138,14 @@ pub record InTables (c : Card) (numbers starts : List ℕ) : Type 0 where
   pub loaded : Loaded c numbers starts
 
 -- the turn that the columns hold on a card
-abbrev pub turnIn : Card → Columns → Turn
-turnIn c k = record { card = c; state = stateIn k; row = k.row; standing = posted k.owed k.due; found = noted k.candidates }
+abbrev pub turn_in : Card → Columns → Turn
+turn_in c k = record { card = c; state = state_in k; row = k.row; standing = posted k.owed k.due; found = noted k.candidates }
 
 -- The three facts of a visit's contract, about what it does from columns a to columns a': in its turn of a row, what the step gives its own
 -- subnet's transitions; the same as in every turn that is equal in all it may read; and nothing at other places or transitions.
 pub record Facts (r : Round) (s : ℕ) (c : Card) (a a' : Columns) : Type 0 where
-  pub right : (before : NetState) → InTurn r s (turnIn c a) before → Does r s (stepTurn c before a.row) a a'
-  pub local : (j : Turn) → SameView r s (turnIn c a) j → Does r s j a a'
+  pub right : (before : NetState) → InTurn r s (turn_in c a) before → Does r s (step_turn c before a.row) a a'
+  pub local : (j : Turn) → SameView r s (turn_in c a) j → Does r s j a a'
   pub elsewhere : SameElsewhere c s a a'
 
 -- A visit's contract: it holds the three facts on every card that the tables hold.
@@ -173,4 +173,4 @@ VisitsAlike =
     (r : Round) (s : ℕ) (numbers starts numbers₂ starts₂ : List ℕ) (a a' b b' : Columns)
     → IsVisit r s numbers starts a a' → IsVisit r s numbers₂ starts₂ b b'
     → (c d : Card) → InTables c numbers starts → InTables d numbers₂ starts₂ → s < length c.subnets → s < length d.subnets
-    → SameView r s (turnIn c a) (turnIn d b) → SameOutcome r s c a a' b b'
+    → SameView r s (turn_in c a) (turn_in d b) → SameOutcome r s c a a' b b'

@@ -1,10 +1,10 @@
 // What a transition's arcs post on the claims board, what they move, and whether they let it start. Each arc is resolved to a flat place as
 // it is met. Every function takes any slices; what it does is the card's where they hold an accepted one.
 ghost use Rattle.std.specs.Prelude.{◌≡◌, ℕ, ◌+◌, ◌*◌, ◌<◌, length, slice_index};
-ghost use Rattle.card.specs.Card.{Card, draws, fills, transitionAt, arcAt};
+ghost use Rattle.card.specs.Card.{Card, draws, fills, transition_at, arc_at};
 ghost use Rattle.card.specs.Finite.{every};
-ghost use Rattle.card.specs.Index.{Lists, firstPlaceStart};
-ghost use Rattle.card.specs.Index.{arcOf, Begins};
+ghost use Rattle.card.specs.Index.{Lists, first_place_start};
+ghost use Rattle.card.specs.Index.{arc_of, Begins};
 ghost use Rattle.flattening.specs.Flattening.{flatten};
 ghost use Rattle.runners.specs.State.{scale as scale_of, entry, incidence};
 ghost use Rattle.runners.specs.Step.{allows as allowsIt};
@@ -45,8 +45,8 @@ fn take_at(column: &mut [u32], p: usize, v: u32)
 
 // An arc of this direction posts v at flat place p.
 fn post_at(direction: u16, p: usize, v: u32, owed: &mut [u32], due: &mut [u32])
-    ensures grown { Grown owed.old owed.new (share draws direction p v) }
-    ensures grown_2 { Grown due.old due.new (share fills direction p v) }
+    ensures owed_grown { Grown owed.old owed.new (share draws direction p v) }
+    ensures due_grown { Grown due.old due.new (share fills direction p v) }
 {
     if direction == 0 {
         add_at(owed, p, v);
@@ -72,7 +72,7 @@ fn move_at(direction: u16, p: usize, v: u32, markings: &mut [u32])
 
 // The flat number of the place that an arc names.
 fn place_of(starts: &[u32], a: Arc) -> usize
-    ensures { result ≡ slice_index starts.now (firstPlaceStart a.subnet) + a.place }
+    ensures { result ≡ slice_index starts.now (first_place_start a.subnet) + a.place }
 {
     first_place(starts, a.subnet) as usize + a.place as usize
 }
@@ -88,8 +88,8 @@ fn post_arcs(
 )
     ensures owed_len_unchanged { length owed.new ≡ length owed.old }
     ensures due_len_unchanged { length due.new ≡ length due.old }
-    ensures grown { (c : Card) (i t : ℕ) → InTables c numbers.now starts.now → Begins c row i t → Grown owed.old owed.new (λ p. part * incidence (flatten c) draws t p) }
-    ensures grown_2 { (c : Card) (i t : ℕ) → InTables c numbers.now starts.now → Begins c row i t → Grown due.old due.new (λ p. part * incidence (flatten c) fills t p) }
+    ensures owed_grown { (c : Card) (i t : ℕ) → InTables c numbers.now starts.now → Begins c row i t → Grown owed.old owed.new (λ p. part * incidence (flatten c) draws t p) }
+    ensures due_grown { (c : Card) (i t : ℕ) → InTables c numbers.now starts.now → Begins c row i t → Grown due.old due.new (λ p. part * incidence (flatten c) fills t p) }
 {
     let count = arc_count(numbers, row);
     let mut j = 0;
@@ -112,8 +112,8 @@ pub fn post_transition(
 )
     ensures owed_len_unchanged { length owed.new ≡ length owed.old }
     ensures due_len_unchanged { length due.new ≡ length due.old }
-    ensures grown { (c : Card) → InTables c numbers.now starts.now → t < length c.transitions → Grown owed.old owed.new (λ p. part * incidence (flatten c) draws t p) }
-    ensures grown_2 { (c : Card) → InTables c numbers.now starts.now → t < length c.transitions → Grown due.old due.new (λ p. part * incidence (flatten c) fills t p) }
+    ensures owed_grown { (c : Card) → InTables c numbers.now starts.now → t < length c.transitions → Grown owed.old owed.new (λ p. part * incidence (flatten c) draws t p) }
+    ensures due_grown { (c : Card) → InTables c numbers.now starts.now → t < length c.transitions → Grown due.old due.new (λ p. part * incidence (flatten c) fills t p) }
 {
     if part == 0 {
         return;
@@ -159,7 +159,7 @@ fn allows(
     due: &[u32],
     scale: u16,
 ) -> bool
-    ensures { (c : Card) (i t j : ℕ) → InTables c numbers.now starts.now → scale ≡ scale_of (flatten c) → Lists c i t → j < (transitionAt c t).arcs → arcOf a ≡ arcAt c t j → result ≡ allowsIt (flatten c) (posted owed.now due.now) markings.now (arcAt (flatten c) t j) }
+    ensures { (c : Card) (i t j : ℕ) → InTables c numbers.now starts.now → scale ≡ scale_of (flatten c) → Lists c i t → j < (transition_at c t).arcs → arc_of a ≡ arc_at c t j → result ≡ allowsIt (flatten c) (posted owed.now due.now) markings.now (arc_at (flatten c) t j) }
 {
     let p = place_of(starts, a);
     let m = entry_at(markings, p);
@@ -180,7 +180,7 @@ pub fn all_allow(
     owed: &[u32],
     due: &[u32],
 ) -> bool
-    ensures { (c : Card) (i t : ℕ) → InTables c numbers.now starts.now → Begins c row i t → result ≡ every (transitionAt c t).arcs (λ j. allowsIt (flatten c) (posted owed.now due.now) markings.now (arcAt (flatten c) t j)) }
+    ensures { (c : Card) (i t : ℕ) → InTables c numbers.now starts.now → Begins c row i t → result ≡ every (transition_at c t).arcs (λ j. allowsIt (flatten c) (posted owed.now due.now) markings.now (arc_at (flatten c) t j)) }
 {
     let scale = rules::scale(numbers);
     let count = arc_count(numbers, row);

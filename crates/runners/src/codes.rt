@@ -1,6 +1,6 @@
 // A transfer as a number that can be lent: its progress, or one that no progress is.
 ghost use Rattle.std.specs.Prelude.{◌≡◌};
-ghost use Rattle.runners.specs.Columns.{code_of, transferOf};
+ghost use Rattle.runners.specs.Columns.{code_of, transfer_of};
 
 use crate::Transfer;
 
@@ -17,7 +17,7 @@ pub fn code_of(transfer: Transfer) -> u16
 }
 
 pub fn transfer_of(code: u16) -> Transfer
-    ensures { result ≡ transferOf code }
+    ensures { result ≡ transfer_of code }
 {
     if code == IDLE {
         return Transfer::Idle;

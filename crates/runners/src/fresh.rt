@@ -1,7 +1,7 @@
 // The fresh state of a card.
 ghost use Rattle.std.specs.Prelude.{◌≡◌, true, length};
-ghost use Rattle.card.specs.Tables.{hasRoom};
-ghost use Rattle.runners.specs.Calls.{blank as blankOf, freshCall};
+ghost use Rattle.card.specs.Tables.{has_room};
+ghost use Rattle.runners.specs.Calls.{blank as blankOf, fresh_call};
 ghost use Rattle.runners.specs.Answers.{IsFresh};
 
 use crate::places::{PlaceNumber, by_place};
@@ -36,9 +36,9 @@ fn blank(places: usize, transitions: usize, signals: usize) -> State
 
 // The fresh state, with the card's numbers in a lent table that has room for them.
 fn fresh_in(card: &[u8], numbers: &mut [u16]) -> FreshState
-    requires { hasRoom (length card.now) (length numbers.old) ≡ true }
+    requires { has_room (length card.now) (length numbers.old) ≡ true }
     ensures numbers_len_unchanged { length numbers.new ≡ length numbers.old }
-    ensures fresh { IsFresh (freshCall card.now) result }
+    ensures fresh { IsFresh (fresh_call card.now) result }
 {
     let k = load(card, numbers);
     let a = k.answer;
@@ -60,7 +60,7 @@ fn fresh_in(card: &[u8], numbers: &mut [u16]) -> FreshState
 // The fresh state of a card. Two wrong ones that this rules out: one that counts first tokens as thousandths, and one that hands a net's
 // counts on where the card is refused.
 pub fn fresh(card: &[u8]) -> FreshState
-    ensures { IsFresh (freshCall card.now) result }
+    ensures { IsFresh (fresh_call card.now) result }
 {
     if card.len() <= SMALL_CARD {
         let mut numbers = [0; SMALL_TABLE];

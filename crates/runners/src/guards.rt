@@ -5,12 +5,12 @@ ghost use Rattle.card.specs.Finite.{every, lowest};
 ghost use Rattle.flattening.specs.Flattening.{flatten};
 ghost use Rattle.runners.specs.State.{scale as scale_of, entry, transfer, covered};
 ghost use Rattle.runners.specs.Calls.{view, in_range as inRangeOf, valid};
-ghost use Rattle.runners.specs.Rows.{rowFault};
+ghost use Rattle.runners.specs.Rows.{row_fault};
 ghost use Rattle.runners.specs.Visits.{InTables};
-ghost use Rattle.runners.specs.inner.Verdict.{orPast};
+ghost use Rattle.runners.specs.inner.Verdict.{or_past};
 ghost use Rattle.runners.specs.inner.Storing.{Counts};
 ghost use Rattle.runners.specs.inner.Markings.{Filled};
-ghost use Rattle.runners.specs.inner.Steps.{replyOf, HoldsNet};
+ghost use Rattle.runners.specs.inner.Steps.{reply_of, HoldsNet};
 ghost use Rattle.runners.specs.declared.places.PlaceNumber.TheVariants.{Capacity};
 
 use crate::transfers::codes;
@@ -21,7 +21,7 @@ use card::{MOST_PLACES, MOST_SIGNALS, MOST_TRANSITIONS};
 
 // The lowest of the first signals with a degree above 1000; where there is none, their number.
 fn high_degree(row: &[u16], signals: u16, scale: u16) -> u16
-    ensures { result ≡ orPast signals (lowest 0 signals (λ g. nat_lt scale (entry row.now g))) }
+    ensures { result ≡ or_past signals (lowest 0 signals (λ g. nat_lt scale (entry row.now g))) }
 {
     let mut g = 0;
     while g < signals {
@@ -40,7 +40,7 @@ fn high_degree(row: &[u16], signals: u16, scale: u16) -> u16
 // 20 and 21: no degrees, or one for each signal and none above 1000. Two wrong tests that this rules out: one that names the highest such
 // signal, and one that refuses the empty row.
 pub fn row_test(row: &[u16], signals: u16, scale: u16) -> Reply
-    ensures { (c : Card) → signals ≡ c.signals → scale ≡ scale_of c → result ≡ replyOf (rowFault c row.now) }
+    ensures { (c : Card) → signals ≡ c.signals → scale ≡ scale_of c → result ≡ reply_of (row_fault c row.now) }
 {
     if row.len() == 0 {
         return Reply::Ok;

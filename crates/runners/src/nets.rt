@@ -2,11 +2,11 @@
 ghost use Rattle.std.specs.Prelude.{◌≡◌, ◌+◌, ◌-◌, ◌≤◌, min};
 ghost use Rattle.card.specs.Card.{Card};
 ghost use Rattle.hierarchy.specs.Judgement.{Judgement, accepted, judge};
-ghost use Rattle.runners.specs.Calls.{called, inOrder};
+ghost use Rattle.runners.specs.Calls.{called, in_order};
 ghost use Rattle.runners.specs.Rows.{pieces};
 ghost use Rattle.runners.specs.Answers.{IsRow};
 ghost use Rattle.runners.specs.inner.Steps.{HoldsNet};
-ghost use Rattle.runners.specs.Nets.{signalsIn, IsNet, leaves, rowsIn};
+ghost use Rattle.runners.specs.Nets.{signals_in, IsNet, leaves, rows_in};
 
 use crate::guards::state_test;
 use crate::loader::net_of;
@@ -40,7 +40,7 @@ pub fn card_net(card: &[u8]) -> Net
 
 // How many signals the net's card has; none, of a refused card.
 pub fn net_signals(net: Net) -> u16
-    ensures { (j : Judgement) → IsNet j net → result ≡ signalsIn j }
+    ensures { (j : Judgement) → IsNet j net → result ≡ signals_in j }
 {
     net.sizes.signals
 }
@@ -48,7 +48,7 @@ pub fn net_signals(net: Net) -> u16
 // A row call on a net: the card's own refusal, 25, 23, 20, 21, 22. Two wrong ones that this rules out: one that takes the state for valid, and
 // one that takes the order for valid.
 pub fn net_row(net: Net, order: &[u16], state: State, row: &[u16]) -> RowAnswer
-    ensures { (j : Judgement) → IsNet j net → IsRow (called (inOrder order.now) j state row.now) result }
+    ensures { (j : Judgement) → IsNet j net → IsRow (called (in_order order.now) j state row.now) result }
 {
     let a = net.answer;
     row_on(
@@ -84,7 +84,7 @@ fn rows_on<'a>(
     state: State,
     rows: &[u16],
 ) -> State
-    ensures { (c : Card) → HoldsNet c numbers.now starts.now full.now sizes → result ≡ leaves (called (inOrder order.now) (accepted c)) state (pieces c.signals rows.now) }
+    ensures { (c : Card) → HoldsNet c numbers.now starts.now full.now sizes → result ≡ leaves (called (in_order order.now) (accepted c)) state (pieces c.signals rows.now) }
 {
     if !state_test(numbers, starts, full, sizes, state) {
         return state;
@@ -110,7 +110,7 @@ fn rows_on<'a>(
 // Many rows in one list, and the state that they leave; the net is handed over once. Two wrong ones that this rules out: one that stops at a
 // refused row, and one that drops a last row that is cut short before it is tested.
 pub fn net_rows(net: Net, order: &[u16], state: State, rows: &[u16]) -> State
-    ensures { (j : Judgement) → IsNet j net → result ≡ leaves (called (inOrder order.now) j) state (rowsIn j rows.now) }
+    ensures { (j : Judgement) → IsNet j net → result ≡ leaves (called (in_order order.now) j) state (rows_in j rows.now) }
 {
     let a = net.answer;
     match a {

@@ -1,7 +1,7 @@
 // Columns by flat place, out of a card's tables: 1000 for each token of a place's capacity, or of its first tokens.
 ghost use Rattle.std.specs.Prelude.{◌≡◌, ℕ, suc, ◌+◌, ◌<◌, List, length};
-ghost use Rattle.card.specs.Card.{Card, placeAt, firstPlace, subnetAt};
-ghost use Rattle.card.specs.Index.{subnetRow, Loaded};
+ghost use Rattle.card.specs.Card.{Card, place_at, first_place, subnet_at};
+ghost use Rattle.card.specs.Index.{subnet_row, Loaded};
 ghost use Rattle.flattening.specs.Flattening.{flatten};
 ghost use Rattle.runners.specs.State.{scale as scale_of};
 ghost use Rattle.runners.specs.Visits.{InTables};
@@ -19,7 +19,7 @@ pub enum PlaceNumber {
 }
 
 fn number_of(numbers: &[u16], row: u32, n: u16, which: PlaceNumber) -> u16
-    ensures { (c : Card) (starts : List ℕ) (s : ℕ) → Loaded c numbers.now starts → s < length c.subnets → row ≡ subnetRow c s → n < (subnetAt c s).places → result ≡ number_in which (placeAt c (firstPlace c s + n)) }
+    ensures { (c : Card) (starts : List ℕ) (s : ℕ) → Loaded c numbers.now starts → s < length c.subnets → row ≡ subnet_row c s → n < (subnet_at c s).places → result ≡ number_in which (place_at c (first_place c s + n)) }
 {
     match which {
         PlaceNumber::Capacity => capacity(numbers, row, n),
@@ -37,7 +37,7 @@ fn fill_subnet(
     column: &mut [u32],
 )
     ensures column_len_unchanged { length column.new ≡ length column.old }
-    ensures filled_to { (c : Card) (starts : List ℕ) (s : ℕ) → InTables c numbers.now starts → scale ≡ scale_of (flatten c) → s < length c.subnets → row ≡ subnetRow c s → first ≡ firstPlace c s → FilledTo which c (firstPlace c s) column.old → FilledTo which c (firstPlace c (suc s)) column.new }
+    ensures filled_to { (c : Card) (starts : List ℕ) (s : ℕ) → InTables c numbers.now starts → scale ≡ scale_of (flatten c) → s < length c.subnets → row ≡ subnet_row c s → first ≡ first_place c s → FilledTo which c (first_place c s) column.old → FilledTo which c (first_place c (suc s)) column.new }
 {
     let count = place_count(numbers, row);
     let mut n = 0;

@@ -1,7 +1,7 @@
 // The paper's number and value of each reply.
 ghost use Rattle.std.specs.Prelude.{◌≡◌};
 ghost use Rattle.std.proofs.Math.Option.{none, some};
-ghost use Rattle.runners.specs.Numbers.{refused, refusal, rowOutcome, replyCode};
+ghost use Rattle.runners.specs.Numbers.{refused, refusal, row_outcome, reply_code};
 
 use crate::{Refusal, Reply};
 use hierarchy::fault_number;
@@ -15,7 +15,7 @@ pub struct Code {
 }
 
 fn plain(number: u64) -> Code
-    ensures { result ≡ replyCode (refused number none) }
+    ensures { result ≡ reply_code (refused number none) }
 {
     Code {
         kind: 1,
@@ -25,7 +25,7 @@ fn plain(number: u64) -> Code
 }
 
 fn valued(number: u64, value: usize) -> Code
-    ensures { result ≡ replyCode (refused number (some value)) }
+    ensures { result ≡ reply_code (refused number (some value)) }
 {
     Code {
         kind: 2,
@@ -37,7 +37,7 @@ fn valued(number: u64, value: usize) -> Code
 // The refusals of a call. Two wrong tables that this rules out: one that gives a conflict the number of a degree, and one that leaves out the
 // bit of a refused card.
 pub fn refusal_code(why: Refusal) -> Code
-    ensures { result ≡ replyCode (refusal why) }
+    ensures { result ≡ reply_code (refusal why) }
 {
     match why {
         Refusal::BadCard(f, at) => valued(fault_number(f), at),
@@ -50,7 +50,7 @@ pub fn refusal_code(why: Refusal) -> Code
 }
 
 pub fn reply_code(reply: Reply) -> Code
-    ensures { result ≡ replyCode (rowOutcome reply) }
+    ensures { result ≡ reply_code (row_outcome reply) }
 {
     match reply {
         Reply::Ok => Code {

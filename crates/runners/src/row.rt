@@ -3,11 +3,11 @@
 // point.
 ghost use Rattle.std.specs.Prelude.{◌≡◌, ◌≤◌, length};
 ghost use Rattle.hierarchy.specs.Judgement.{Judgement};
-ghost use Rattle.runners.specs.Calls.{called, inOrder};
+ghost use Rattle.runners.specs.Calls.{called, in_order};
 ghost use Rattle.runners.specs.Answers.{IsRow};
 ghost use Rattle.runners.specs.Nets.{IsNetIn};
 ghost use Rattle.runners.specs.inner.Finding.{IsFound};
-ghost use Rattle.runners.specs.inner.Steps.{withDegrees, IsStep, IsRowStep, IsLoadedRow, IsTestedRow};
+ghost use Rattle.runners.specs.inner.Steps.{with_degrees, IsStep, IsRowStep, IsLoadedRow, IsTestedRow};
 ghost use Rattle.runners.specs.declared.Reply.TheVariants.{No};
 
 use crate::guards::{row_test, state_test};
@@ -30,7 +30,7 @@ pub fn refuse(why: Refusal, state: State) -> RowAnswer
 
 // The new degrees become the last ones.
 fn record_degrees(state: State, row: &[u16]) -> State
-    ensures { length row.now ≤ 63 → result ≡ withDegrees state row.now }
+    ensures { length row.now ≤ 63 → result ≡ with_degrees state row.now }
 {
     let mut next = state;
     let mut g: usize = 0;
@@ -200,7 +200,7 @@ pub fn row_on<'a>(
     state: State,
     row: &[u16],
 ) -> RowAnswer
-    ensures { (j : Judgement) → IsNetIn j answer numbers.now starts.now full.now sizes → IsRow (called (inOrder order.now) j state row.now) result }
+    ensures { (j : Judgement) → IsNetIn j answer numbers.now starts.now full.now sizes → IsRow (called (in_order order.now) j state row.now) result }
 {
     match answer {
         Answer::Refused(f, at) => refuse(Refusal::BadCard(f, at), state),

@@ -3,7 +3,7 @@ ghost use Rattle.std.specs.Prelude.{◌≡◌, ℕ, ◌-◌, List};
 ghost use Rattle.card.specs.Card.{Card};
 ghost use Rattle.flattening.specs.Flattening.{flatten};
 ghost use Rattle.runners.specs.State.{scale as scale_of};
-ghost use Rattle.runners.specs.Step.{startMove, asked as asked_of};
+ghost use Rattle.runners.specs.Step.{start_move, asked as asked_of};
 ghost use Rattle.runners.specs.Visits.{InTables};
 
 use card::tables::version;
@@ -31,7 +31,7 @@ fn rise(last: u16, new: u16) -> u16
 // What a starting transition moves: on version 1 the rise, from version 2 on the whole new degree of its signal. Two wrong ones that this rules
 // out: one that completes a transfer of version 1 in its starting row, and one that moves version 2 by the rise.
 fn start_move(numbers: &[u16], last: u16, new: u16) -> u16
-    ensures { (c : Card) (starts : List ℕ) → InTables c numbers.now starts → result ≡ startMove (flatten c) last new }
+    ensures { (c : Card) (starts : List ℕ) → InTables c numbers.now starts → result ≡ start_move (flatten c) last new }
 {
     if version(numbers) < 2 {
         return rise(last, new);

@@ -1,8 +1,8 @@
 // The subnet runner: it visits the card's own subnets, in the order that is lent. Neither this module nor what it calls makes
 // or reads a flat card.
 ghost use Rattle.std.specs.Prelude.{◌≡◌, true, length};
-ghost use Rattle.card.specs.Tables.{hasRoom};
-ghost use Rattle.runners.specs.Calls.{subnetCall};
+ghost use Rattle.card.specs.Tables.{has_room};
+ghost use Rattle.runners.specs.Calls.{subnet_call};
 ghost use Rattle.runners.specs.Answers.{IsRow};
 
 use crate::loader::net_of;
@@ -19,9 +19,9 @@ fn subnet_row_in(
     order: &[u16],
     row: &[u16],
 ) -> RowAnswer
-    requires { hasRoom (length card.now) (length numbers.old) ≡ true }
+    requires { has_room (length card.now) (length numbers.old) ≡ true }
     ensures numbers_len_unchanged { length numbers.new ≡ length numbers.old }
-    ensures row { IsRow (subnetCall card.now order.now state row.now) result }
+    ensures row { IsRow (subnet_call card.now order.now state row.now) result }
 {
     let k = load(card, numbers);
     let a = k.answer;
@@ -33,7 +33,7 @@ fn subnet_row_in(
 // The subnet runner's row call. Two wrong ones that this rules out: one that tests the order in front of the state, and one that stores the
 // degrees of a refused row.
 pub fn subnet_row(card: &[u8], state: State, order: &[u16], row: &[u16]) -> RowAnswer
-    ensures { IsRow (subnetCall card.now order.now state row.now) result }
+    ensures { IsRow (subnet_call card.now order.now state row.now) result }
 {
     if card.len() <= SMALL_CARD {
         let mut numbers = [0; SMALL_TABLE];

@@ -4,7 +4,7 @@ ghost use Rattle.std.specs.Prelude.{◌≡◌, ◌≤◌, map, if◌then◌else�
 ghost use Rattle.card.specs.Card.{Card};
 ghost use Rattle.runners.specs.State.{scale as scale_of, transfer as transferAt, remaining as remainingOf};
 ghost use Rattle.runners.specs.Step.{advanced as advancedOf};
-ghost use Rattle.runners.specs.Columns.{code_of, transferOf};
+ghost use Rattle.runners.specs.Columns.{code_of, transfer_of};
 ghost use Rattle.runners.specs.inner.Storing.{CodesOf, Stored};
 ghost use Rattle.runners.specs.declared.Transfer.TheVariants.{Carrying};
 
@@ -14,7 +14,7 @@ use card::{MOST_PLACES, MOST_TRANSITIONS};
 
 // The transfer of transition t; past the last one it is idle.
 pub fn transfer_at(codes: &[u16], t: usize) -> Transfer
-    ensures { result ≡ transferAt (map transferOf codes.now) t }
+    ensures { result ≡ transferAt (map transfer_of codes.now) t }
 {
     if t < codes.len() {
         return transfer_of(codes[t]);

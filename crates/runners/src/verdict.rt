@@ -1,7 +1,7 @@
 // The board's verdict.
 ghost use Rattle.std.specs.Prelude.{◌≡◌, not};
 ghost use Rattle.card.specs.Finite.{lowest};
-ghost use Rattle.runners.specs.inner.Verdict.{coveredBy, orPast};
+ghost use Rattle.runners.specs.inner.Verdict.{covered_by, or_past};
 
 use crate::claims::entry_at;
 
@@ -15,7 +15,7 @@ fn covers(
     drawn: &[u32],
     filled: &[u32],
 ) -> bool
-    ensures { result ≡ coveredBy full.now markings.now owed.now due.now drawn.now filled.now p }
+    ensures { result ≡ covered_by full.now markings.now owed.now due.now drawn.now filled.now p }
 {
     let at = p as usize;
     let m = entry_at(markings, at);
@@ -35,7 +35,7 @@ pub fn uncovered(
     drawn: &[u32],
     filled: &[u32],
 ) -> u16
-    ensures { result ≡ orPast places (lowest 0 places (λ p. not (coveredBy full.now markings.now owed.now due.now drawn.now filled.now p))) }
+    ensures { result ≡ or_past places (lowest 0 places (λ p. not (covered_by full.now markings.now owed.now due.now drawn.now filled.now p))) }
 {
     let mut p = 0;
     while p < places {

@@ -2,11 +2,11 @@
 // card's tables and from the columns that it is lent; each is made of what one transition does, over the subnet's own transitions. None is an
 // entry point; each contract holds the three facts of specs/Visits.antt.
 ghost use Rattle.std.specs.Prelude.{◌≡◌, ℕ, suc, ◌<◌, Bool, ◌&&◌, List, length, if◌then◌else◌, nat_lt, slice_set};
-ghost use Rattle.card.specs.Card.{Card, transitionAt, arcAt, firstTransition};
+ghost use Rattle.card.specs.Card.{Card, transition_at, arc_at, first_transition};
 ghost use Rattle.card.specs.Finite.{every};
 ghost use Rattle.flattening.specs.Flattening.{flatten};
 ghost use Rattle.runners.specs.State.{NetState, scale as scale_of, entry, transfer as transferIn};
-ghost use Rattle.runners.specs.Step.{allows, candidateOn, startedOn, movesOn};
+ghost use Rattle.runners.specs.Step.{allows, candidate_on, started_on, moves_on};
 ghost use Rattle.runners.specs.Columns.{noted, posted, OnStanding, OnCandidates, OnState};
 ghost use Rattle.runners.specs.Visits.{posting, finding, moving, InTables, IsVisit};
 ghost use Rattle.runners.specs.inner.Transitions.{IsOne, IsSpan};
@@ -18,7 +18,7 @@ use card::tables::{first_transition, narrow, number_at, signal, transition_row};
 
 // The entry of a list of degrees for the signal of transition t.
 fn degree_of(numbers: &[u16], starts: &[u32], t: u16, degrees: &[u16]) -> u16
-    ensures { (c : Card) → InTables c numbers.now starts.now → t < length c.transitions → result ≡ entry degrees.now (transitionAt c t).signal }
+    ensures { (c : Card) → InTables c numbers.now starts.now → t < length c.transitions → result ≡ entry degrees.now (transition_at c t).signal }
 {
     let row = transition_row(starts, t as u32);
     number_at(degrees, signal(numbers, row) as usize)
@@ -90,7 +90,7 @@ struct Span {
 }
 
 fn own_transitions(starts: &[u32], s: u16) -> Span
-    ensures { (c : Card) (numbers : List ℕ) → InTables c numbers starts.now → s < length c.subnets → (result.first ≡ firstTransition c s) × (result.end ≡ firstTransition c (suc s)) }
+    ensures { (c : Card) (numbers : List ℕ) → InTables c numbers starts.now → s < length c.subnets → (result.first ≡ first_transition c s) × (result.end ≡ first_transition c (suc s)) }
 {
     if s == u16::MAX {
         return Span { first: 0, end: 0 };
@@ -129,7 +129,7 @@ fn may_start(
     owed: &[u32],
     due: &[u32],
 ) -> bool
-    ensures { (c : Card) → InTables c numbers.now starts.now → t < length c.transitions → result ≡ (nat_lt 0 (entry row.now (transitionAt c t).signal) && every (transitionAt c t).arcs (λ j. allows (flatten c) (posted owed.now due.now) markings.now (arcAt (flatten c) t j))) }
+    ensures { (c : Card) → InTables c numbers.now starts.now → t < length c.transitions → result ≡ (nat_lt 0 (entry row.now (transition_at c t).signal) && every (transition_at c t).arcs (λ j. allows (flatten c) (posted owed.now due.now) markings.now (arc_at (flatten c) t j))) }
 {
     if degree_of(numbers, starts, t, row) == 0 {
         return false;
@@ -149,7 +149,7 @@ fn is_candidate(
     owed: &[u32],
     due: &[u32],
 ) -> bool
-    ensures { (c : Card) (s : NetState) → InTables c numbers.now starts.now → t < length c.transitions → s.markings ≡ markings.now → transfer ≡ transferIn s.transfers t → result ≡ candidateOn (flatten c) (posted owed.now due.now) s row.now t }
+    ensures { (c : Card) (s : NetState) → InTables c numbers.now starts.now → t < length c.transitions → s.markings ≡ markings.now → transfer ≡ transferIn s.transfers t → result ≡ candidate_on (flatten c) (posted owed.now due.now) s row.now t }
 {
     match transfer {
         Transfer::Idle => may_start(numbers, starts, t, row, markings, owed, due),
@@ -260,7 +260,7 @@ fn distance(
     row: &[u16],
     scale: u16,
 ) -> u16
-    ensures { (c : Card) (s : NetState) (found : ℕ → Bool) → InTables c numbers.now starts.now → scale ≡ scale_of (flatten c) → t < length c.transitions → s.degrees ≡ degrees.now → starting ≡ found t → transfer ≡ startedOn found s.transfers t → result ≡ movesOn (flatten c) found s row.now t }
+    ensures { (c : Card) (s : NetState) (found : ℕ → Bool) → InTables c numbers.now starts.now → scale ≡ scale_of (flatten c) → t < length c.transitions → s.degrees ≡ degrees.now → starting ≡ found t → transfer ≡ started_on found s.transfers t → result ≡ moves_on (flatten c) found s row.now t }
 {
     let rest = remaining(transfer, scale);
     if rest == 0 {

@@ -18,60 +18,60 @@ fed (done a) (v ∷ vs) = done a
 fed (get w value fault next) (v ∷ vs) = fed (next v) vs
 
 -- its next field: the width, and what is wrong with a number there
-abbrev pub nextWidth : {U A : Type 0} → Format U A → ℕ
-nextWidth (done a) = 0
-nextWidth (get w value fault next) = w
+abbrev pub next_width : {U A : Type 0} → Format U A → ℕ
+next_width (done a) = 0
+next_width (get w value fault next) = w
 
-abbrev pub nextFault : {U A : Type 0} → Format U A → ℕ → Option FormatFault
-nextFault (done a) v = none
-nextFault (get w value fault next) v = fault v
+abbrev pub next_fault : {U A : Type 0} → Format U A → ℕ → Option FormatFault
+next_fault (done a) v = none
+next_fault (get w value fault next) v = fault v
 
 -- (v is the card's version, by which the widths of later fields go.)
 abbrev pub width_at : Phase → (v : ℕ) → ℕ
-width_at Version v = nextWidth header
-width_at SubnetCount v = nextWidth (fed header (v ∷ []))
-width_at SignalCount v = nextWidth (fed header (v ∷ 0 ∷ []))
-width_at Limit v = nextWidth (fed header (v ∷ 0 ∷ 0 ∷ []))
-width_at Scale v = nextWidth (fed header (v ∷ 0 ∷ 0 ∷ 0 ∷ []))
-width_at Parent v = nextWidth (subnet 0 0 0)
-width_at SubnetType v = nextWidth (fed (subnet 0 0 0) (0 ∷ []))
-width_at PlaceCount v = nextWidth (fed (subnet 0 0 0) (0 ∷ 0 ∷ []))
-width_at TransitionCount v = nextWidth (fed (subnet 0 0 0) (0 ∷ 0 ∷ 0 ∷ []))
-width_at Kind v = nextWidth (place 0)
-width_at Capacity v = nextWidth (fed (place 0) (0 ∷ []))
-width_at Tokens v = nextWidth (fed (place 0) (0 ∷ 0 ∷ []))
-width_at Signal v = nextWidth (transition v 0)
-width_at ArcCount v = nextWidth (fed (transition v 0) (0 ∷ []))
-width_at Rank v = nextWidth (fed (transition v 0) (0 ∷ 0 ∷ []))
-width_at Direction v = nextWidth arc
-width_at ArcSubnet v = nextWidth (fed arc (0 ∷ []))
-width_at ArcPlace v = nextWidth (fed arc (0 ∷ 0 ∷ []))
-width_at Weight v = nextWidth (fed arc (0 ∷ 0 ∷ 0 ∷ []))
+width_at Version v = next_width header
+width_at SubnetCount v = next_width (fed header (v ∷ []))
+width_at SignalCount v = next_width (fed header (v ∷ 0 ∷ []))
+width_at Limit v = next_width (fed header (v ∷ 0 ∷ 0 ∷ []))
+width_at Scale v = next_width (fed header (v ∷ 0 ∷ 0 ∷ 0 ∷ []))
+width_at Parent v = next_width (subnet 0 0 0)
+width_at SubnetType v = next_width (fed (subnet 0 0 0) (0 ∷ []))
+width_at PlaceCount v = next_width (fed (subnet 0 0 0) (0 ∷ 0 ∷ []))
+width_at TransitionCount v = next_width (fed (subnet 0 0 0) (0 ∷ 0 ∷ 0 ∷ []))
+width_at Kind v = next_width (place 0)
+width_at Capacity v = next_width (fed (place 0) (0 ∷ []))
+width_at Tokens v = next_width (fed (place 0) (0 ∷ 0 ∷ []))
+width_at Signal v = next_width (transition v 0)
+width_at ArcCount v = next_width (fed (transition v 0) (0 ∷ []))
+width_at Rank v = next_width (fed (transition v 0) (0 ∷ 0 ∷ []))
+width_at Direction v = next_width arc
+width_at ArcSubnet v = next_width (fed arc (0 ∷ []))
+width_at ArcPlace v = next_width (fed arc (0 ∷ 0 ∷ []))
+width_at Weight v = next_width (fed arc (0 ∷ 0 ∷ 0 ∷ []))
 
 abbrev pub width_of : Layout → ℕ
 width_of l = width_at l.phase l.version
 
 -- what is wrong with a number, by what came before it
-abbrev pub faultAt : Phase → Layout → ℕ → Option FormatFault
-faultAt Version l = nextFault header
-faultAt SubnetCount l = nextFault (fed header (l.version ∷ []))
-faultAt SignalCount l = nextFault (fed header (l.version ∷ 0 ∷ []))
-faultAt Limit l = nextFault (fed header (l.version ∷ 0 ∷ 0 ∷ []))
-faultAt Scale l = nextFault (fed header (l.version ∷ 0 ∷ 0 ∷ 0 ∷ []))
-faultAt Parent l = nextFault (subnet l.subnet l.places l.transitions)
-faultAt SubnetType l = nextFault (fed (subnet l.subnet l.places l.transitions) (0 ∷ []))
-faultAt PlaceCount l = nextFault (fed (subnet l.subnet l.places l.transitions) (0 ∷ 0 ∷ []))
-faultAt TransitionCount l = nextFault (fed (subnet l.subnet l.places l.transitions) (0 ∷ 0 ∷ 0 ∷ []))
-faultAt Kind l = nextFault (place l.subnet)
-faultAt Capacity l = nextFault (fed (place l.subnet) (0 ∷ []))
-faultAt Tokens l = nextFault (fed (place l.subnet) (0 ∷ l.capacity ∷ []))
-faultAt Signal l = nextFault (transition l.version l.signals)
-faultAt ArcCount l = nextFault (fed (transition l.version l.signals) (0 ∷ []))
-faultAt Rank l = nextFault (fed (transition l.version l.signals) (0 ∷ 0 ∷ []))
-faultAt Direction l = nextFault arc
-faultAt ArcSubnet l = nextFault (fed arc (0 ∷ []))
-faultAt ArcPlace l = nextFault (fed arc (0 ∷ 0 ∷ []))
-faultAt Weight l = nextFault (fed arc (0 ∷ 0 ∷ 0 ∷ []))
+abbrev pub fault_at : Phase → Layout → ℕ → Option FormatFault
+fault_at Version l = next_fault header
+fault_at SubnetCount l = next_fault (fed header (l.version ∷ []))
+fault_at SignalCount l = next_fault (fed header (l.version ∷ 0 ∷ []))
+fault_at Limit l = next_fault (fed header (l.version ∷ 0 ∷ 0 ∷ []))
+fault_at Scale l = next_fault (fed header (l.version ∷ 0 ∷ 0 ∷ 0 ∷ []))
+fault_at Parent l = next_fault (subnet l.subnet l.places l.transitions)
+fault_at SubnetType l = next_fault (fed (subnet l.subnet l.places l.transitions) (0 ∷ []))
+fault_at PlaceCount l = next_fault (fed (subnet l.subnet l.places l.transitions) (0 ∷ 0 ∷ []))
+fault_at TransitionCount l = next_fault (fed (subnet l.subnet l.places l.transitions) (0 ∷ 0 ∷ 0 ∷ []))
+fault_at Kind l = next_fault (place l.subnet)
+fault_at Capacity l = next_fault (fed (place l.subnet) (0 ∷ []))
+fault_at Tokens l = next_fault (fed (place l.subnet) (0 ∷ l.capacity ∷ []))
+fault_at Signal l = next_fault (transition l.version l.signals)
+fault_at ArcCount l = next_fault (fed (transition l.version l.signals) (0 ∷ []))
+fault_at Rank l = next_fault (fed (transition l.version l.signals) (0 ∷ 0 ∷ []))
+fault_at Direction l = next_fault arc
+fault_at ArcSubnet l = next_fault (fed arc (0 ∷ []))
+fault_at ArcPlace l = next_fault (fed arc (0 ∷ 0 ∷ []))
+fault_at Weight l = next_fault (fed arc (0 ∷ 0 ∷ 0 ∷ []))
 
 abbrev pub start_of : Layout
 start_of =
@@ -90,8 +90,8 @@ start_of =
     }
 
 -- the same layout at another phase, and with other numbers
-abbrev pub layoutAt : Phase → (version signals subnets subnet places transitions place-rows transition-rows arc-rows capacity : ℕ) → Layout
-layoutAt p v g n s places transitions rows more arcs k =
+abbrev pub layout_at : Phase → (version signals subnets subnet places transitions place-rows transition-rows arc-rows capacity : ℕ) → Layout
+layout_at p v g n s places transitions rows more arcs k =
     record {
       phase = p;
       version = v;
@@ -107,7 +107,7 @@ layoutAt p v g n s places transitions rows more arcs k =
     }
 
 abbrev pub to : Layout → Phase → Layout
-to l p = layoutAt p l.version l.signals l.subnets l.subnet l.places l.transitions l.place_rows l.transition_rows l.arc_rows l.capacity
+to l p = layout_at p l.version l.signals l.subnets l.subnet l.places l.transitions l.place_rows l.transition_rows l.arc_rows l.capacity
 
 abbrev pub pick : Bool → Move → Move → Move
 pick true a b = a
@@ -115,46 +115,46 @@ pick false a b = b
 
 -- where a number leads that is not at fault
 abbrev pub move_at : Phase → Layout → (v : ℕ) → Move
-move_at Version l v = More (layoutAt SubnetCount v l.signals l.subnets l.subnet l.places l.transitions l.place_rows l.transition_rows l.arc_rows l.capacity)
-move_at SubnetCount l v = More (layoutAt SignalCount l.version l.signals (v - 1) l.subnet l.places l.transitions l.place_rows l.transition_rows l.arc_rows l.capacity)
-move_at SignalCount l v = More (layoutAt Limit l.version v l.subnets l.subnet l.places l.transitions l.place_rows l.transition_rows l.arc_rows l.capacity)
+move_at Version l v = More (layout_at SubnetCount v l.signals l.subnets l.subnet l.places l.transitions l.place_rows l.transition_rows l.arc_rows l.capacity)
+move_at SubnetCount l v = More (layout_at SignalCount l.version l.signals (v - 1) l.subnet l.places l.transitions l.place_rows l.transition_rows l.arc_rows l.capacity)
+move_at SignalCount l v = More (layout_at Limit l.version v l.subnets l.subnet l.places l.transitions l.place_rows l.transition_rows l.arc_rows l.capacity)
 move_at Limit l v = More (to l Scale)
 move_at Scale l v = More (to l Parent)
 move_at Parent l v = More (to l SubnetType)
 move_at SubnetType l v = More (to l PlaceCount)
 move_at PlaceCount l v =
-    More (layoutAt TransitionCount l.version l.signals l.subnets l.subnet (l.places + v) l.transitions (v - 1) l.transition_rows l.arc_rows l.capacity)
-move_at TransitionCount l v = More (layoutAt Kind l.version l.signals l.subnets l.subnet l.places (l.transitions + v) l.place_rows (v - 1) l.arc_rows l.capacity)
+    More (layout_at TransitionCount l.version l.signals l.subnets l.subnet (l.places + v) l.transitions (v - 1) l.transition_rows l.arc_rows l.capacity)
+move_at TransitionCount l v = More (layout_at Kind l.version l.signals l.subnets l.subnet l.places (l.transitions + v) l.place_rows (v - 1) l.arc_rows l.capacity)
 move_at Kind l v = More (to l Capacity)
-move_at Capacity l v = More (layoutAt Tokens l.version l.signals l.subnets l.subnet l.places l.transitions l.place_rows l.transition_rows l.arc_rows v)
+move_at Capacity l v = More (layout_at Tokens l.version l.signals l.subnets l.subnet l.places l.transitions l.place_rows l.transition_rows l.arc_rows v)
 move_at Tokens l v =
     pick (ltb 0 l.place_rows)
-    (More (layoutAt Kind l.version l.signals l.subnets l.subnet l.places l.transitions (l.place_rows - 1) l.transition_rows l.arc_rows l.capacity))
+    (More (layout_at Kind l.version l.signals l.subnets l.subnet l.places l.transitions (l.place_rows - 1) l.transition_rows l.arc_rows l.capacity))
     (More (to l Signal))
 move_at Signal l v = More (to l ArcCount)
-move_at ArcCount l v = More (layoutAt Rank l.version l.signals l.subnets l.subnet l.places l.transitions l.place_rows l.transition_rows (v - 1) l.capacity)
+move_at ArcCount l v = More (layout_at Rank l.version l.signals l.subnets l.subnet l.places l.transitions l.place_rows l.transition_rows (v - 1) l.capacity)
 move_at Rank l v = More (to l Direction)
 move_at Direction l v = More (to l ArcSubnet)
 move_at ArcSubnet l v = More (to l ArcPlace)
 move_at ArcPlace l v = More (to l Weight)
 move_at Weight l v =
     pick (ltb 0 l.arc_rows)
-    (More (layoutAt Direction l.version l.signals l.subnets l.subnet l.places l.transitions l.place_rows l.transition_rows (l.arc_rows - 1) l.capacity))
+    (More (layout_at Direction l.version l.signals l.subnets l.subnet l.places l.transitions l.place_rows l.transition_rows (l.arc_rows - 1) l.capacity))
     (pick (ltb 0 l.transition_rows)
-    (More (layoutAt Signal l.version l.signals l.subnets l.subnet l.places l.transitions l.place_rows (l.transition_rows - 1) l.arc_rows l.capacity))
+    (More (layout_at Signal l.version l.signals l.subnets l.subnet l.places l.transitions l.place_rows (l.transition_rows - 1) l.arc_rows l.capacity))
     (pick (ltb 0 l.subnets)
-    (More (layoutAt Parent l.version l.signals (l.subnets - 1) (l.subnet + 1) l.places l.transitions l.place_rows l.transition_rows l.arc_rows l.capacity))
+    (More (layout_at Parent l.version l.signals (l.subnets - 1) (l.subnet + 1) l.places l.transitions l.place_rows l.transition_rows l.arc_rows l.capacity))
     (Done (record { subnets = l.subnet + 1; places = l.places; transitions = l.transitions }))))
 
-abbrev pub orBad : Option FormatFault → Move → Move
-orBad none m = m
-orBad (some f) m = Bad f
+abbrev pub or_bad : Option FormatFault → Move → Move
+or_bad none m = m
+or_bad (some f) m = Bad f
 
-abbrev pub stepAt : Phase → Layout → (v : ℕ) → Move
-stepAt p l v = orBad (faultAt p l v) (move_at p l v)
+abbrev pub step_at : Phase → Layout → (v : ℕ) → Move
+step_at p l v = or_bad (fault_at p l v) (move_at p l v)
 
 abbrev pub step_of : Layout → (v : ℕ) → Move
-step_of l v = stepAt l.phase l v
+step_of l v = step_at l.phase l v
 
 -- while the number of subnets is still to come, none is counted
 abbrev pub headed : Phase → (subnet : ℕ) → Type 0

@@ -1,6 +1,6 @@
 -- Fields of bytes, read and written through a span of three bytes: a field of 16 bits lies within one from any bit on, 7 + 16 ≤ 24.
 use Rattle.std.specs.Prelude.{ℕ, ◌+◌, ◌*◌, ◌/◌, ◌%◌, ◌^◌, ◌<◌, ◌≤◌, ◌≡◌, List, ◌⊎◌, length, get_or}
-use Rattle.card.specs.Bits.{bit, bitField}
+use Rattle.card.specs.Bits.{bit, bit_field}
 
 -- the span of three bytes from byte k on, as one number; a byte past the end is 0
 unfoldable pub span : List ℕ → (k : ℕ) → ℕ
@@ -20,6 +20,6 @@ patch x low w v = (x / 2 ^ low / 2 ^ w * 2 ^ w + v) * 2 ^ low + x % 2 ^ low
 -- new is old with the field of w bits at bit at set to v: every other bit stays, and bytes stay bytes
 pub record Put (old : List ℕ) (at w v : ℕ) (new : List ℕ) : Type 0 where
   pub long : length new ≡ length old
-  pub value : bitField (bit new) at w ≡ v
+  pub value : bit_field (bit new) at w ≡ v
   pub outside : (i : ℕ) → (i < at) ⊎ (at + w ≤ i) → bit new i ≡ bit old i
   pub small : ((k : ℕ) → get_or old k 0 < 256) → (k : ℕ) → get_or new k 0 < 256

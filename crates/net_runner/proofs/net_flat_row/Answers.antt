@@ -1,8 +1,8 @@
 use Rattle.std.proofs.Common.{refl, sym, ◌∙◌}
 use mathlib.Core.Bool.{false≢true}
-use Rattle.runners.specs.Calls.{flatCall}
+use Rattle.runners.specs.Calls.{flat_call}
 use Rattle.net_runner.specs.Slices.{slices}
-use Rattle.net_runner.proofs.SliceLaws.{called_is, flat_on, flat-long}
+use Rattle.net_runner.proofs.SliceLaws.{called_is, flat-on, flat-long}
 use Rattle.net_runner.proofs.net_flat_row.Goals as goal
 
 pub returns-then-not-fits : goal.returns-then-not-fits
@@ -19,5 +19,5 @@ returns c =
     let x = slices a.markings.now a.transfers.now a.degrees.now in
     let f = c.fits.ensures.0 c.if-not-fits.false in
     called_is
-    (flat_on a.card.now x c.lent-state.result (c.lent-state.ensures f) a.row.now)
-    (c.hand_back.ensures (flatCall a.card.now c.lent-state.result a.row.now) c.flat_row-a.ensures f)
+    (flat-on a.card.now x c.lent-state.result (c.lent-state.ensures f) a.row.now)
+    (c.hand_back.ensures (flat_call a.card.now c.lent-state.result a.row.now) c.flat_row-a.ensures f)

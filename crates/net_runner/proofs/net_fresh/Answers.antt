@@ -2,7 +2,7 @@ use Rattle.std.proofs.Common.{refl, sym, ap, ◌∙◌, arith}
 use Rattle.runners.specs.Numbers.{RowOutcome}
 use Rattle.runners.specs.declared.State.{State as Lent}
 use Rattle.net_runner.specs.Slices.{slices}
-use Rattle.net_runner.specs.Copies.{Fits, handedBack}
+use Rattle.net_runner.specs.Copies.{Fits, handed_back}
 use Rattle.net_runner.proofs.SliceLaws.{called_is, fresh-other, other-places, other-transitions, other-signals, fresh-same}
 use Rattle.net_runner.proofs.ToldLaws.{fresh-no, fresh-yes}
 use Rattle.net_runner.proofs.net_fresh.Goals as goal
@@ -48,11 +48,11 @@ returns-else-degrees-state c =
     let x = slices a.markings.now a.transfers.now a.degrees.now in
     let n = fresh-yes a.card.now c.fresh-k.result c.fresh-k.ensures _ _ _ c.in-Accepted.is in
     let f : Fits x = record {
-      markings = omega (arith, c.if-markings-p.false, n.places, n.meets.wellformed.rows.fewPlaces);
-      transfers = omega (arith, c.if-transfers-t.false, n.transitions, n.meets.wellformed.rows.fewTransitions);
-      degrees = omega (arith, c.if-degrees-state.false, n.signals, n.meets.wellformed.fewSignals);
+      markings = omega (arith, c.if-markings-p.false, n.places, n.meets.wellformed.rows.few_places);
+      transfers = omega (arith, c.if-transfers-t.false, n.transitions, n.meets.wellformed.rows.few_transitions);
+      degrees = omega (arith, c.if-degrees-state.false, n.signals, n.meets.wellformed.few_signals);
     } in
     called_is
-    (ap (λ (l : Lent). handedBack (RowOutcome.ok, l) x) n.state
+    (ap (λ (l : Lent). handed_back (RowOutcome.ok, l) x) n.state
     ∙ fresh-same n.net x _ _ _ n.places n.transitions n.signals c.if-markings-p.false c.if-transfers-t.false c.if-degrees-state.false ∙ sym (n.is x))
     (c.accept.ensures f)

@@ -1,6 +1,6 @@
 use Rattle.std.proofs.Common.{refl, sym, ◌∙◌}
 use mathlib.Core.Bool.{false≢true}
-use Rattle.runners.specs.Calls.{subnetCall}
+use Rattle.runners.specs.Calls.{subnet_call}
 use Rattle.net_runner.specs.Slices.{slices}
 use Rattle.net_runner.proofs.SliceLaws.{called_is, subnet-on, subnet-long}
 use Rattle.net_runner.proofs.net_subnet_row.Goals as goal
@@ -20,4 +20,4 @@ returns c =
     let f = c.fits.ensures.0 c.if-not-fits.false in
     called_is
     (subnet-on a.card.now a.order.now x c.lent-state.result (c.lent-state.ensures f) a.row.now)
-    (c.hand_back.ensures (subnetCall a.card.now a.order.now c.lent-state.result a.row.now) c.subnet_row-a.ensures f)
+    (c.hand_back.ensures (subnet_call a.card.now a.order.now c.lent-state.result a.row.now) c.subnet_row-a.ensures f)

@@ -2,7 +2,7 @@
 use Rattle.std.specs.Prelude.{◌≡◌, ℕ, ◌<◌, ◌≤◌, List, map, length}
 use Rattle.card.specs.Card.{Card}
 use Rattle.runners.specs.State.{transfer}
-use Rattle.runners.specs.Columns.{code_of, transferOf, code_at}
+use Rattle.runners.specs.Columns.{code_of, transfer_of, code_at}
 use Rattle.runners.specs.declared.Transfer.{Transfer}
 use Rattle.runners.specs.declared.Slot.{Slot}
 use Rattle.runners.specs.declared.Sizes.{Sizes}
@@ -20,7 +20,7 @@ pub record CodesOf (l : Lent) (codes : List ℕ) : Type 0 where
 -- The state that a row worked on, stored in the lent one: transfers as the numbers tell them, past the counts as they were.
 pub record Stored (l : Lent) (ms codes : List ℕ) (l' : Lent) : Type 0 where
   pub markings : l'.markings ≡ ms
-  pub own : (t : ℕ) → t < l.transitions → t < 255 → slot_at l'.slots t ≡ transferOf (code_at codes t)
+  pub own : (t : ℕ) → t < l.transitions → t < 255 → slot_at l'.slots t ≡ transfer_of (code_at codes t)
   pub others : (t : ℕ) → l.transitions ≤ t → slot_at l'.slots t ≡ slot_at l.slots t
   pub long : length l'.slots ≡ length l.slots
   pub degrees : l'.degrees ≡ l.degrees

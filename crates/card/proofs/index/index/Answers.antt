@@ -1,7 +1,7 @@
 -- The walk stores where each subnet begins and indexes its transitions, and stays where a card can have rows.
 use Rattle.std.proofs.Common.{ℕ, List, length, sym, ap, subst, ◌∙◌, arith}
 use Rattle.std.proofs.lemmas.List.{length-replicate}
-use Rattle.card.specs.Index.{startsSize}
+use Rattle.card.specs.Index.{starts_size}
 use Rattle.card.specs.inner.Indexing.{AtSubnet, TransitionsIndexed}
 use Rattle.card.proofs.TableLaws.{no-yes}
 use Rattle.card.proofs.IndexLaws.{put_same, index-start, index_on, index_at, index-more, index-done}
@@ -9,7 +9,7 @@ use Rattle.card.proofs.index.index.Goals as goal
 
 pub loop-s-init : goal.loop-s-init
 loop-s-init c = record {
-  long = length-replicate {A = ℕ} startsSize 0;
+  long = length-replicate {A = ℕ} starts_size 0;
   low = omega arith;
   places = omega arith;
   transitions = omega arith;

@@ -1,13 +1,13 @@
 use Rattle.std.proofs.Common.{◌≡◌, ◌-◌, ◌*◌, ◌≤◌, length}
 use Rattle.card.specs.Card.{Card}
-use Rattle.card.specs.Index.{Laid, startsSize}
+use Rattle.card.specs.Index.{Laid, starts_size}
 use Rattle.card.specs.Wellformed.{Wellformed}
 use Rattle.card.proofs.IndexLaws.{Indexing}
 use Rattle.card.proofs.index.index.Given as goal
 
 abbrev pub invariant-loop-s : goal.invariant-loop-s
 invariant-loop-s l = record {
-  long : length l.starts ≡ startsSize;
+  long : length l.starts ≡ starts_size;
   low : l.s ≤ l.subnets;
   places : l.place ≤ 65535 * l.s;
   transitions : l.transition ≤ 65535 * l.s;

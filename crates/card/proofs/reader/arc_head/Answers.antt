@@ -4,9 +4,9 @@ use Rattle.card.specs.Grammar.{arc}
 use Rattle.card.proofs.ReadLaws.{head-parts}
 use Rattle.card.proofs.reader.arc_head.Goals as goal
 
-pub bit_field-v-requires-clause-width_bound_2 : goal.bit_field-v-requires-clause-width_bound_2
+pub bit_field-v-requires-clause-narrow : goal.bit_field-v-requires-clause-narrow
 unfolding arc
-bit_field-v-requires-clause-width_bound_2 c = omega arith
+bit_field-v-requires-clause-narrow c = omega arith
 
 pub returns : goal.returns
 unfolding arc

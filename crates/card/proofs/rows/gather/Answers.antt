@@ -1,16 +1,16 @@
 -- The header's numbers and then the subnets' are put into a table of zeros.
 use Rattle.std.proofs.Common.{ℕ, [], ◌∙◌}
 use Rattle.std.proofs.lemmas.List.{length-replicate}
-use Rattle.card.specs.Tables.{tableSize}
-use Rattle.card.specs.inner.Runs.{inOrder}
+use Rattle.card.specs.Tables.{table_size}
+use Rattle.card.specs.inner.Runs.{in_order}
 use Rattle.card.proofs.TableSpell.{leads-gathered, leads-none}
 use Rattle.card.proofs.rows.gather.Goals as goal
 
 pub returns : goal.returns
-unfolding inOrder
+unfolding in_order
 returns c =
     let a = c.args in
     let f = c.push-n in
     let g = c.push_subnets-m in
-    leads-gathered (inOrder a.h a.subnets.now a.places.now a.transitions.now a.arcs.now) g.new.numbers g.result
-    (g.ensures.numbers_len_unchanged ∙ f.ensures.numbers_len_unchanged ∙ length-replicate {A = ℕ} tableSize 0) (g.ensures.by_index _ (f.ensures.by_index [] (leads-none _)))
+    leads-gathered (in_order a.h a.subnets.now a.places.now a.transitions.now a.arcs.now) g.new.numbers g.result
+    (g.ensures.numbers_len_unchanged ∙ f.ensures.numbers_len_unchanged ∙ length-replicate {A = ℕ} table_size 0) (g.ensures.by_index _ (f.ensures.by_index [] (leads-none _)))

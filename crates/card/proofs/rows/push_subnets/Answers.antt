@@ -1,6 +1,6 @@
 -- Each subnet's row, its places and its transitions lie within the slices, and are put behind what the table holds.
 use Rattle.std.proofs.Common.{ℕ, ◌≡◌, ◌+◌, ◌-◌, ◌*◌, take, drop, ap, arith}
-use Rattle.card.specs.Card.{subnetFields, placeFields}
+use Rattle.card.specs.Card.{subnet_fields, place_fields}
 use Rattle.card.proofs.RunLaws.{lay-start, lay-places, lay-inside, lay-more, lay_done}
 use Rattle.card.proofs.rows.push_subnets.Goals as goal
 
@@ -45,10 +45,10 @@ loop-s-preserved c =
     let h = c.push_transitions-c in
     let i = c.wide-place in
     let k = c.wide-k in
-    let y : subnetFields * x.s + subnetFields - subnetFields * x.s ≡ subnetFields = omega arith in
-    let z : placeFields * (x.place + i.result) - placeFields * x.place ≡ placeFields * i.result = omega arith in
+    let y : subnet_fields * x.s + subnet_fields - subnet_fields * x.s ≡ subnet_fields = omega arith in
+    let z : place_fields * (x.place + i.result) - place_fields * x.place ≡ place_fields * i.result = omega arith in
     λ p. lay-more _ _ _ _ _ _ p _ _ _ _ _ _ (x.invariant p) c.loop-s-test.true f.new.numbers g.new.numbers h.new.numbers _ _ f.result g.result h.result.n i.result k.result h.result.arc i.ensures k.ensures
-    (ap (λ (n : ℕ). take n (drop (subnetFields * x.s) a.subnets.now)) y) (ap (λ (n : ℕ). take n (drop (placeFields * x.place) a.places.now)) z) h.ensures.arc_value
+    (ap (λ (n : ℕ). take n (drop (subnet_fields * x.s) a.subnets.now)) y) (ap (λ (n : ℕ). take n (drop (place_fields * x.place) a.places.now)) z) h.ensures.arc_value
     f.ensures.numbers_len_unchanged g.ensures.numbers_len_unchanged h.ensures.numbers_len_unchanged f.ensures.by_index g.ensures.by_index h.ensures.by_index
 
 pub returns-clause-by_index : goal.returns-clause-by_index

@@ -1,7 +1,7 @@
 -- Each transition's row and its arcs lie within the slices, and are put behind what the table holds.
 use Rattle.std.proofs.Common.{ℕ, ◌≡◌, ◌+◌, ◌-◌, ◌*◌, take, drop, ap, ◌∙◌, arith}
-use Rattle.card.specs.Card.{transitionFields, arcFields}
-use Rattle.card.specs.inner.Runs.{arcsBefore}
+use Rattle.card.specs.Card.{transition_fields, arc_fields}
+use Rattle.card.specs.inner.Runs.{arcs_before}
 use Rattle.card.proofs.RunLaws.{place-start, place-arcs, place-more, place-done}
 use Rattle.card.proofs.rows.push_transitions.Goals as goal
 
@@ -36,16 +36,16 @@ loop-t-preserved c =
     let f = c.push-m in
     let g = c.push-m-in-loop-t in
     let k = c.wide-b in
-    let y : transitionFields * x.t + transitionFields - transitionFields * x.t ≡ transitionFields = omega arith in
-    let z : arcFields * (x.b + k.result) - arcFields * x.b ≡ arcFields * k.result = omega arith in
+    let y : transition_fields * x.t + transition_fields - transition_fields * x.t ≡ transition_fields = omega arith in
+    let z : arc_fields * (x.b + k.result) - arc_fields * x.b ≡ arc_fields * k.result = omega arith in
     λ p. place-more _ _ _ _ _ _ _ p _ _ _ _ (x.invariant p) c.loop-t-test.true f.new.numbers g.new.numbers _ _ f.result g.result k.result k.ensures
-    (ap (λ (i : ℕ). take i (drop (transitionFields * x.t) a.transitions.now)) y) (ap (λ (i : ℕ). take i (drop (arcFields * x.b) a.arcs.now)) z)
+    (ap (λ (i : ℕ). take i (drop (transition_fields * x.t) a.transitions.now)) y) (ap (λ (i : ℕ). take i (drop (arc_fields * x.b) a.arcs.now)) z)
     f.ensures.numbers_len_unchanged g.ensures.numbers_len_unchanged f.ensures.by_index g.ensures.by_index
 
 pub returns-clause-arc_value : goal.returns-clause-arc_value
 returns-clause-arc_value c =
     let x = c.loop-t.invariant c.requires in
-    x.is ∙ ap (arcsBefore c.args.transitions.now) (place-done _ _ _ _ _ _ _ c.requires _ _ _ _ x c.loop-t-test.false).0
+    x.is ∙ ap (arcs_before c.args.transitions.now) (place-done _ _ _ _ _ _ _ c.requires _ _ _ _ x c.loop-t-test.false).0
 
 pub returns-clause-by_index : goal.returns-clause-by_index
 returns-clause-by_index c =

@@ -1,4 +1,4 @@
--- A byte more is copied; at the end the buffer is what `putInto` says.
+-- A byte more is copied; at the end the buffer is what `put_into` says.
 use Rattle.card.proofs.Copy.{copy_more, copy_done, copy-none}
 use Rattle.card.proofs.writer.put_card.Goals as goal
 

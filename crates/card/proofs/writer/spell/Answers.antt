@@ -1,7 +1,7 @@
 -- Tables that are not whole, do not count or do not fit are refused; else their numbers are those of the card that they make.
 use Rattle.std.proofs.Common.{sym, ◌∙◌, arith}
 use Rattle.card.specs.Grammar.{header}
-use Rattle.card.specs.Rows.{tablesIn}
+use Rattle.card.specs.Rows.{tables_in}
 use Rattle.card.proofs.RoundTrip.{counted_is}
 use Rattle.card.proofs.TableSpell.{tables-inside, rows-ragged, rows-uncounted, rows-unfit, rows-lines, rows-spelt}
 use Rattle.card.proofs.writer.spell.Goals as goal
@@ -22,11 +22,11 @@ pub gather-numbers-requires-clause-tables_inside : goal.gather-numbers-requires-
 gather-numbers-requires-clause-tables_inside c =
     let a = c.args in
     tables-inside a.head a.subnets.now a.places.now a.transitions.now a.arcs.now
-    ((counted_is (tablesIn a.head a.subnets.now a.places.now a.transitions.now a.arcs.now)).0 (sym (c.counts_match.ensures a.head) ∙ c.if-not-counts_match.false))
+    ((counted_is (tables_in a.head a.subnets.now a.places.now a.transitions.now a.arcs.now)).0 (sym (c.counts_match.ensures a.head) ∙ c.if-not-counts_match.false))
 
-pub gather-numbers-requires-clause-subnet_fields_len_bound : goal.gather-numbers-requires-clause-subnet_fields_len_bound
+pub gather-numbers-requires-clause-few_subnets : goal.gather-numbers-requires-clause-few_subnets
 unfolding header
-gather-numbers-requires-clause-subnet_fields_len_bound c = let f = c.values_fit.ensures.0 c.if-not-values_fit.false in omega (arith, f.header.subnets)
+gather-numbers-requires-clause-few_subnets c = let f = c.values_fit.ensures.0 c.if-not-values_fit.false in omega (arith, f.header.subnets)
 
 pub returns : goal.returns
 returns c =
@@ -34,4 +34,4 @@ returns c =
     let n = sym (c.counts_match.ensures a.head) ∙ c.if-not-counts_match.false in
     let l = rows-lines a.head a.subnets.now a.places.now a.transitions.now a.arcs.now c.gather-numbers.result n (c.values_fit.ensures.0 c.if-not-values_fit.false) c.gather-numbers.ensures in
     rows-spelt _ _ _ _ _ (sym c.whole_rows.ensures ∙ c.if-not-whole_rows.false) n l.fit c.spell_numbers.result
-    (c.spell_numbers.ensures (tablesIn a.head a.subnets.now a.places.now a.transitions.now a.arcs.now) l)
+    (c.spell_numbers.ensures (tables_in a.head a.subnets.now a.places.now a.transitions.now a.arcs.now) l)

@@ -15,8 +15,8 @@ pub returns-then-too_wide : goal.returns-then-too_wide
 returns-then-too_wide c =
     λ d k. behind-wide _ _ _ _ _ _ _ c.loop-bytes.invariant c.width-w.ensures.0 refl (leb-true _ _ (sym c.too_wide.ensures ∙ c.if-too_wide.true)) d k c.unspelt.result
 
-pub put_field-requires-clause-width_bound : goal.put_field-requires-clause-width_bound
-put_field-requires-clause-width_bound c = omega (arith, behind-room _ _ _ _ _ _ 0 c.loop-bytes.invariant c.width-w.ensures.0)
+pub put_field-requires-clause-inside : goal.put_field-requires-clause-inside
+put_field-requires-clause-inside c = omega (arith, behind-room _ _ _ _ _ _ 0 c.loop-bytes.invariant c.width-w.ensures.0)
 
 pub loop-bytes-smaller-then-arc_goes_on : goal.loop-bytes-smaller-then-arc_goes_on
 loop-bytes-smaller-then-arc_goes_on c = omega (arith, behind-room _ _ _ _ _ _ 0 c.loop-bytes.invariant c.width-w.ensures.0)

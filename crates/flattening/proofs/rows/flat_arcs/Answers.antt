@@ -1,5 +1,5 @@
 use Rattle.std.proofs.Common.{◌≡◌, sym, subst, ◌∙◌, ℕ, arith, add-one}
-use Rattle.card.specs.Card.{firstArc}
+use Rattle.card.specs.Card.{first_arc}
 use Rattle.flattening.specs.inner.FlatRows.{ArcsTo}
 use Rattle.flattening.proofs.FlatRowLaws.{no-arc, no-arcs, owned, all-arcs}
 use Rattle.flattening.proofs.rows.flat_arcs.Goals as goal
@@ -13,8 +13,8 @@ loop-t-preserved c = record {
   stored = λ k m l e b.
       let o = owned k m c.args.numbers.now c.args.starts.now l c.loop-t.t (omega arith) in
       let x = c.loop-t.invariant.stored k m l e b in
-      let r = c.transition_row.ensures ∙ l.indexed.transitionRow o.subnet c.loop-t.t o.lists in
-      subst (λ (i : ℕ). (c.flat_arcs_of-a.result ≡ firstArc k i) × ArcsTo k c.flat_arcs_of-a.new.rows (firstArc k i)) (sym (add-one c.loop-t.t)) (c.flat_arcs_of-a.ensures.by_index k o.subnet c.loop-t.t m l o.lists r x.0 x.1);
+      let r = c.transition_row.ensures ∙ l.indexed.transition_row o.subnet c.loop-t.t o.lists in
+      subst (λ (i : ℕ). (c.flat_arcs_of-a.result ≡ first_arc k i) × ArcsTo k c.flat_arcs_of-a.new.rows (first_arc k i)) (sym (add-one c.loop-t.t)) (c.flat_arcs_of-a.ensures.by_index k o.subnet c.loop-t.t m l o.lists r x.0 x.1);
 }
 
 pub returns-clause-value : goal.returns-clause-value

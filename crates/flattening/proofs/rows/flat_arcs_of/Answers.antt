@@ -1,5 +1,5 @@
 use Rattle.std.proofs.Common.{sym, subst, ℕ, ◌+◌, List, arith, add-zero}
-use Rattle.card.specs.Card.{firstArc}
+use Rattle.card.specs.Card.{first_arc}
 use Rattle.flattening.specs.inner.FlatRows.{ArcsTo}
 use Rattle.flattening.proofs.FlatRowLaws.{arcs-turn, arcs-end, arc-there}
 use Rattle.flattening.proofs.rows.flat_arcs_of.Goals as goal
@@ -7,7 +7,7 @@ use Rattle.flattening.proofs.rows.flat_arcs_of.Goals as goal
 pub loop-j-init : goal.loop-j-init
 loop-j-init c = record {
   in_range = omega arith;
-  stored = λ k i t m l b er ef x. subst (ArcsTo k c.args.rows.now) (sym (add-zero (firstArc k t))) x;
+  stored = λ k i t m l b er ef x. subst (ArcsTo k c.args.rows.now) (sym (add-zero (first_arc k t))) x;
 }
 
 pub loop-j-preserved : goal.loop-j-preserved
@@ -15,7 +15,7 @@ loop-j-preserved c = record {
   in_range = omega arith;
   stored = λ k i t m l b er ef x.
       let g = arc-there k m c.args.numbers.now c.args.starts.now l i t c.args.row c.arc_count-count.result c.loop-j.j b er c.arc_count-count.ensures c.loop-j-test.true in
-      subst (λ (xs : List ℕ). ArcsTo k xs (firstArc k t + (c.loop-j.j + 1))) (sym c.put_arc.ensures)
+      subst (λ (xs : List ℕ). ArcsTo k xs (first_arc k t + (c.loop-j.j + 1))) (sym c.put_arc.ensures)
       (arcs-turn k m c.args.numbers.now c.args.starts.now l i t c.args.row c.loop-j.j b er g c.args.first c.loop-j.rows c.arc_direction.result c.flat_place-place.result c.arc_weight.result ef
       (c.loop-j.invariant.stored k i t m l b er ef x) c.arc_direction.ensures (c.flat_place-place.ensures k i t m l b er g) c.arc_weight.ensures);
 }

@@ -1,6 +1,6 @@
 use Rattle.std.proofs.Common.{◌∙◌, sym}
 use borrow.Author.Tests.{not-true, not-false}
-use Rattle.card.specs.Index.{arcOf}
+use Rattle.card.specs.Index.{arc_of}
 use Rattle.hierarchy.proofs.ArcLaws.{arc-is, seen-place, fault-unseen, fault-direction, fault-weight, fault-repeated, fault-loop, fault-none}
 use Rattle.hierarchy.proofs.arcs.arc_fault.Goals as goal
 
@@ -18,7 +18,7 @@ returns-then-not-directed c =
     λ d l e b m.
     let q = arc-is l.laid b m c.arc_at-a.ensures in
     let s = sym (c.if-not-seen.ensures d l e) in
-    let y = seen-place d x.i (arcOf c.arc_at-a.result) s in
+    let y = seen-place d x.i (arc_of c.arc_at-a.result) s in
     let v = sym (c.if-not-directed.ensures d l y) in
     fault-direction b.lists x.j q l.indexed l.laid.version c.arc_bit-then-not-directed.ensures s v
 
@@ -28,7 +28,7 @@ returns-then-not-weighted c =
     λ d l e b m.
     let q = arc-is l.laid b m c.arc_at-a.ensures in
     let s = sym (c.if-not-seen.ensures d l e) in
-    let y = seen-place d x.i (arcOf c.arc_at-a.result) s in
+    let y = seen-place d x.i (arc_of c.arc_at-a.result) s in
     let v = sym (c.if-not-directed.ensures d l y) in
     let w = sym (c.if-not-weighted.ensures d l y) in
     fault-weight b.lists x.j q l.indexed l.laid.version c.arc_bit-then-not-weighted.ensures s v w
@@ -39,7 +39,7 @@ returns-then-not-lower c =
     λ d l e b m.
     let q = arc-is l.laid b m c.arc_at-a.ensures in
     let s = sym (c.if-not-seen.ensures d l e) in
-    let y = seen-place d x.i (arcOf c.arc_at-a.result) s in
+    let y = seen-place d x.i (arc_of c.arc_at-a.result) s in
     let v = sym (c.if-not-directed.ensures d l y) in
     let w = sym (c.if-not-weighted.ensures d l y) in
     let o = sym (c.beside_lower-lower.ensures.single_value d l.laid x.i x.t b m q) ∙ not-true _ c.if-not-lower.true in
@@ -51,7 +51,7 @@ returns-then-not-lower-2 c =
     λ d l e b m.
     let q = arc-is l.laid b m c.arc_at-a.ensures in
     let s = sym (c.if-not-seen.ensures d l e) in
-    let y = seen-place d x.i (arcOf c.arc_at-a.result) s in
+    let y = seen-place d x.i (arc_of c.arc_at-a.result) s in
     let v = sym (c.if-not-directed.ensures d l y) in
     let w = sym (c.if-not-weighted.ensures d l y) in
     let o = sym (c.beside_lower-lower.ensures.single_value d l.laid x.i x.t b m q) ∙ not-false _ c.if-not-lower.false in
@@ -64,7 +64,7 @@ returns c =
     λ d l e b m.
     let q = arc-is l.laid b m c.arc_at-a.ensures in
     let s = sym (c.if-not-seen.ensures d l e) in
-    let y = seen-place d x.i (arcOf c.arc_at-a.result) s in
+    let y = seen-place d x.i (arc_of c.arc_at-a.result) s in
     let v = sym (c.if-not-directed.ensures d l y) in
     let w = sym (c.if-not-weighted.ensures d l y) in
     let o = sym (c.beside_lower-lower.ensures.single_value d l.laid x.i x.t b m q) ∙ not-false _ c.if-not-lower.false in

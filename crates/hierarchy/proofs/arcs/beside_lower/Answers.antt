@@ -1,11 +1,11 @@
-use Rattle.card.specs.Index.{arcOf}
+use Rattle.card.specs.Index.{arc_of}
 use Rattle.hierarchy.proofs.ArcLaws.{each_start, each_more, each-single, each_fits}
 use Rattle.hierarchy.proofs.arcs.beside_lower.Goals as goal
 
 pub loop-h-init : goal.loop-h-init
 loop-h-init c =
     let x = c.args in
-    (each_start _ x.numbers.now x.row x.j (arcOf x.a), each_start _ x.numbers.now x.row x.j (arcOf x.a))
+    (each_start _ x.numbers.now x.row x.j (arc_of x.a), each_start _ x.numbers.now x.row x.j (arc_of x.a))
 
 pub loop-h-preserved : goal.loop-h-preserved
 loop-h-preserved c =

@@ -1,5 +1,5 @@
 use Rattle.std.proofs.Common.{◌≡◌, arith}
-use Rattle.card.specs.Card.{subnetAt}
+use Rattle.card.specs.Card.{subnet_at}
 use Rattle.hierarchy.specs.Conditions.{kind_of}
 use Rattle.hierarchy.proofs.LoadedLaws.{places_of, kind-of}
 use Rattle.hierarchy.proofs.TypeLaws.{is-interface, some-interface, no-interface}
@@ -13,7 +13,7 @@ returns-then-kind-ne0 c =
     let z = c.loop-n in
     let x = c.kind in
     λ d h l.
-    let places : m.result ≡ (subnetAt d a.i).places = places_of d a.numbers.now a.starts.now h a.i row.result m.result l row.ensures m.ensures in
+    let places : m.result ≡ (subnet_at d a.i).places = places_of d a.numbers.now a.starts.now h a.i row.result m.result l row.ensures m.ensures in
     let kind : x.result ≡ kind_of d a.i z.n = kind-of d a.numbers.now a.starts.now h a.i row.result z.n x.result l (omega arith) row.ensures x.ensures in
     some-interface d a.i m.result z.n places c.loop-n-test.true (is-interface d a.i z.n x.result kind c.if-kind-ne0.true)
 

@@ -1,5 +1,5 @@
 use Rattle.std.proofs.Common.{◌<◌, ◌∙◌, arith, length, sym}
-use Rattle.card.specs.Writing.{subnetBit}
+use Rattle.card.specs.Writing.{subnet_bit}
 use Rattle.hierarchy.specs.declared.CardFault.TheVariants.{NoInterface}
 use Rattle.hierarchy.proofs.LoadedLaws.{bit-of}
 use Rattle.hierarchy.proofs.WalkLaws.{first-fails, first_passes}
@@ -13,11 +13,11 @@ returns-then-not-has_interface c =
     let y = c.subnet_bit in
     λ d h e.
     let l : z.i < length d.subnets = omega arith in
-    first-fails (length d.subnets) z.i (subnetBit d) (interfaced d) NoInterface y.result (z.invariant.1 d h e) l
+    first-fails (length d.subnets) z.i (subnet_bit d) (interfaced d) NoInterface y.result (z.invariant.1 d h e) l
     (later-interfaced d z.i z.invariant.0 ∙ sym (c.if-not-has_interface.ensures d h l))
     (bit-of d a.numbers.now a.starts.now h z.i y.result l y.ensures)
 
 pub returns : goal.returns
 returns c =
     let z = c.loop-i in
-    λ d h e. first_passes (length d.subnets) z.i (subnetBit d) (interfaced d) NoInterface (z.invariant.1 d h e) (omega arith)
+    λ d h e. first_passes (length d.subnets) z.i (subnet_bit d) (interfaced d) NoInterface (z.invariant.1 d h e) (omega arith)

@@ -1,6 +1,6 @@
 use Rattle.std.proofs.Common.{arith, sym}
-use Rattle.card.specs.Card.{transitionAt, arcAt}
-use Rattle.hierarchy.specs.inner.Likeness.{arcAlike}
+use Rattle.card.specs.Card.{transition_at, arc_at}
+use Rattle.hierarchy.specs.inner.Likeness.{arc_alike}
 use Rattle.hierarchy.proofs.LoadedLaws.{arc-of}
 use Rattle.hierarchy.proofs.WalkLaws.{compared-more, compared-fails, compared-end}
 use Rattle.hierarchy.proofs.types.alike_arcs.Goals as goal
@@ -11,7 +11,7 @@ returns-then-not-alike_arc c =
     let z = c.loop-j in
     λ d h e k o v w l m p q.
     let g = z.invariant d h e k o v w l m p q in
-    compared-fails (transitionAt d v).arcs (transitionAt d w).arcs c.arc_count-arcs.result z.j (arcAlike d a.r a.s v w) g c.loop-j-test.true (sym (c.if-not-alike_arc.ensures d h e k o (arcAt d v z.j) (arcAt d w z.j)
+    compared-fails (transition_at d v).arcs (transition_at d w).arcs c.arc_count-arcs.result z.j (arc_alike d a.r a.s v w) g c.loop-j-test.true (sym (c.if-not-alike_arc.ensures d h e k o (arc_at d v z.j) (arc_at d w z.j)
     (arc-of d a.numbers.now a.starts.now h a.r v a.t z.j l p (omega arith))
     (arc-of d a.numbers.now a.starts.now h a.s w a.u z.j m q (omega arith))))
 
@@ -21,7 +21,7 @@ loop-j-preserved c =
     let z = c.loop-j in
     λ d h e k o v w l m p q.
     let g = z.invariant d h e k o v w l m p q in
-    compared-more (transitionAt d v).arcs (transitionAt d w).arcs c.arc_count-arcs.result z.j (arcAlike d a.r a.s v w) g (sym (c.if-not-alike_arc.ensures d h e k o (arcAt d v z.j) (arcAt d w z.j)
+    compared-more (transition_at d v).arcs (transition_at d w).arcs c.arc_count-arcs.result z.j (arc_alike d a.r a.s v w) g (sym (c.if-not-alike_arc.ensures d h e k o (arc_at d v z.j) (arc_at d w z.j)
     (arc-of d a.numbers.now a.starts.now h a.r v a.t z.j l p (omega arith))
     (arc-of d a.numbers.now a.starts.now h a.s w a.u z.j m q (omega arith))))
 
@@ -29,4 +29,4 @@ pub returns : goal.returns
 returns c =
     let a = c.args in
     let z = c.loop-j in
-    λ d h e k o v w l m p q. compared-end (transitionAt d v).arcs (transitionAt d w).arcs c.arc_count-arcs.result z.j (arcAlike d a.r a.s v w) (z.invariant d h e k o v w l m p q) c.loop-j-test.false
+    λ d h e k o v w l m p q. compared-end (transition_at d v).arcs (transition_at d w).arcs c.arc_count-arcs.result z.j (arc_alike d a.r a.s v w) (z.invariant d h e k o v w l m p q) c.loop-j-test.false

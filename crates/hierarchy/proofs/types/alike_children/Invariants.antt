@@ -3,14 +3,14 @@ use Rattle.card.specs.Card.{Card}
 use Rattle.card.specs.Index.{Loaded}
 use Rattle.hierarchy.specs.Conditions.{children}
 use Rattle.hierarchy.specs.inner.Ordinals.{AllOrdinals}
-use Rattle.hierarchy.specs.inner.Likeness.{childAlike}
+use Rattle.hierarchy.specs.inner.Likeness.{child_alike}
 use Rattle.hierarchy.proofs.WalkLaws.{Compared}
 use Rattle.hierarchy.proofs.types.alike_children.Given as goal
 
 abbrev pub invariant-loop-k : goal.invariant-loop-k
 invariant-loop-k l =
     (c : Card) → Loaded c l.numbers l.starts → l.subnets ≡ length c.subnets → AllOrdinals c l.ordinals
-    → Compared (length (children c l.r)) (length (children c l.s)) l.count l.k (childAlike c l.r l.s)
+    → Compared (length (children c l.r)) (length (children c l.s)) l.count l.k (child_alike c l.r l.s)
 
 abbrev pub decreases-loop-k : goal.decreases-loop-k
 decreases-loop-k l = l.count - l.k

@@ -1,14 +1,14 @@
 use Rattle.std.proofs.Common.{◌≡◌, ℕ, List, sym, ap, ◌∙◌, arith}
 use Rattle.std.proofs.Math.Option.{Option, none}
-use Rattle.runners.specs.Rows.{noRow, orNoRow}
-use Rattle.programs.specs.Files.{fileRow}
+use Rattle.runners.specs.Rows.{no_row, or_no_row}
+use Rattle.programs.specs.Files.{file_row}
 use Rattle.programs.specs.declared.file.FileRow.{FileRow}
 use Rattle.programs.proofs.FileLaws.{cells-length, cells-fill, cells-handed}
 use Rattle.programs.proofs.file.cells_of.Goals as goal
 
 -- bytes that hold nothing are handed out as no row
-nothing : {r : FileRow} {o : Option (List ℕ)} → r ≡ fileRow noRow → o ≡ none → r ≡ fileRow (orNoRow o)
-nothing e n = e ∙ ap (λ (o : Option (List ℕ)). fileRow (orNoRow o)) (sym n)
+nothing : {r : FileRow} {o : Option (List ℕ)} → r ≡ file_row no_row → o ≡ none → r ≡ file_row (or_no_row o)
+nothing e n = e ∙ ap (λ (o : Option (List ℕ)). file_row (or_no_row o)) (sym n)
 
 pub returns-then-bytes-n : goal.returns-then-bytes-n
 returns-then-bytes-n c = nothing c.no_row.ensures (cells-length _ _ _ _ c.if-bytes-n.true)

@@ -1,6 +1,6 @@
 use Rattle.std.proofs.Common.{ap}
-use Rattle.card.specs.Tables.{cardBytes}
-use Rattle.hierarchy.specs.Numbers.{writeOutcome}
+use Rattle.card.specs.Tables.{card_bytes}
+use Rattle.hierarchy.specs.Numbers.{write_outcome}
 use Rattle.programs.proofs.LineLaws.{numbered}
 use Rattle.programs.proofs.FlatTextLaws.{flat-wrote, refusal-written}
 use Rattle.programs.proofs.flat.flat_text.Goals as goal
@@ -10,9 +10,9 @@ returns-in-Wrote c = flat-wrote c.args.card.now _ _ c.flatten.ensures _ c.in-Wro
 
 pub returns-in-Refused : goal.returns-in-Refused
 returns-in-Refused c =
-    refusal-written c.args.card.now _ _ c.flatten.ensures _ _ _ _ (ap writeOutcome c.in-Refused.is)
-    (numbered cardBytes _ _ _ _ _ c.fault_number.ensures c.refusal_text.ensures)
+    refusal-written c.args.card.now _ _ c.flatten.ensures _ _ _ _ (ap write_outcome c.in-Refused.is)
+    (numbered card_bytes _ _ _ _ _ c.fault_number.ensures c.refusal_text.ensures)
 
 pub returns-in-Short : goal.returns-in-Short
 returns-in-Short c =
-    refusal-written c.args.card.now _ _ c.flatten.ensures _ _ _ _ (ap writeOutcome c.in-Short.is) c.refusal_text-in-Short.ensures
+    refusal-written c.args.card.now _ _ c.flatten.ensures _ _ _ _ (ap write_outcome c.in-Short.is) c.refusal_text-in-Short.ensures

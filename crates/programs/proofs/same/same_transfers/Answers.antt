@@ -1,6 +1,6 @@
 use Rattle.std.proofs.Common.{sym, ap, ◌∙◌, arith, rules}
 use Rattle.runners.proofs.TransferLaws.{slot-at}
-use Rattle.programs.specs.Agreeing.{progressCode}
+use Rattle.programs.specs.Agreeing.{progress_code}
 use Rattle.programs.proofs.AgreeLaws.{min-few, counts-differ, transfers-differ, transfers-same, same_more}
 use Rattle.programs.proofs.same.same_transfers.Goals as goal
 
@@ -15,7 +15,7 @@ returns-then-n-t c =
 pub returns-then-progress_code : goal.returns-then-progress_code
 returns-then-progress_code c =
     transfers-differ c.args.a c.args.b (search rules) (search rules) c.loop-t.invariant.counts c.loop-t.t (omega arith)
-    (λ e. c.if-progress_code.true (c.progress_code.ensures ∙ sym (ap progressCode (slot-at c.args.a.slots c.loop-t.t)) ∙ e ∙ ap progressCode (slot-at c.args.b.slots c.loop-t.t) ∙ sym c.progress_code-in-loop-t.ensures))
+    (λ e. c.if-progress_code.true (c.progress_code.ensures ∙ sym (ap progress_code (slot-at c.args.a.slots c.loop-t.t)) ∙ e ∙ ap progress_code (slot-at c.args.b.slots c.loop-t.t) ∙ sym c.progress_code-in-loop-t.ensures))
 
 pub loop-t-preserved : goal.loop-t-preserved
 loop-t-preserved c = record {
@@ -23,7 +23,7 @@ loop-t-preserved c = record {
   count = c.loop-t.invariant.count;
   same =
       same_more c.args.a c.args.b c.loop-t.t c.loop-t.invariant.same
-      (ap progressCode (slot-at c.args.a.slots c.loop-t.t) ∙ sym c.progress_code.ensures ∙ c.if-progress_code.false ∙ c.progress_code-in-loop-t.ensures ∙ sym (ap progressCode (slot-at c.args.b.slots c.loop-t.t)));
+      (ap progress_code (slot-at c.args.a.slots c.loop-t.t) ∙ sym c.progress_code.ensures ∙ c.if-progress_code.false ∙ c.progress_code-in-loop-t.ensures ∙ sym (ap progress_code (slot-at c.args.b.slots c.loop-t.t)));
 }
 
 pub returns : goal.returns

@@ -1,6 +1,6 @@
 -- `runners::claims::all_allow` meets its contract.
 use Rattle.std.proofs.Common.{true, not, sym, ap, arith}
-use Rattle.card.specs.Card.{transitionAt, arcAt}
+use Rattle.card.specs.Card.{transition_at, arc_at}
 use Rattle.flattening.specs.Flattening.{flatten}
 use Rattle.hierarchy.proofs.WalkLaws.{below-start, below_more, every-none, every-all}
 use Rattle.runners.proofs.TestLaws.{test-fails, test-holds}
@@ -14,7 +14,7 @@ loop-j-init c =
     let a = c.args in
     record {
       in_count = omega arith;
-      allow = λ k i t h b. below-start (λ n. allows (flatten k) (posted a.owed.now a.due.now) a.markings.now (arcAt (flatten k) t n)) true;
+      allow = λ k i t h b. below-start (λ n. allows (flatten k) (posted a.owed.now a.due.now) a.markings.now (arc_at (flatten k) t n)) true;
     }
 
 pub returns-then-not-allows : goal.returns-then-not-allows
@@ -26,7 +26,7 @@ returns-then-not-allows c =
     λ k i t h b.
     let l = in-arcs k a.numbers.now a.starts.now h a.row i t b n.result z.j n.ensures c.loop-j-test.true in
     let e = arc-is k a.numbers.now a.starts.now h a.row i t b z.j l x.result x.ensures in
-    sym (every-none (transitionAt k t).arcs z.j (λ n. allows (flatten k) (posted a.owed.now a.due.now) a.markings.now (arcAt (flatten k) t n)) l
+    sym (every-none (transition_at k t).arcs z.j (λ n. allows (flatten k) (posted a.owed.now a.due.now) a.markings.now (arc_at (flatten k) t n)) l
     (test-fails c.allows.result _ (c.allows.ensures k i t z.j h (c.scale-scale.ensures k a.starts.now h) b.lists l e) (ap not c.if-not-allows.true)))
 
 pub loop-j-preserved : goal.loop-j-preserved
@@ -40,7 +40,7 @@ loop-j-preserved c =
       allow = λ k i t h b.
           let l = in-arcs k a.numbers.now a.starts.now h a.row i t b n.result z.j n.ensures c.loop-j-test.true in
           let e = arc-is k a.numbers.now a.starts.now h a.row i t b z.j l x.result x.ensures in
-          below_more z.j (λ n. allows (flatten k) (posted a.owed.now a.due.now) a.markings.now (arcAt (flatten k) t n)) true (z.invariant.allow k i t h b)
+          below_more z.j (λ n. allows (flatten k) (posted a.owed.now a.due.now) a.markings.now (arc_at (flatten k) t n)) true (z.invariant.allow k i t h b)
           (test-holds c.allows.result _ (c.allows.ensures k i t z.j h (c.scale-scale.ensures k a.starts.now h) b.lists l e) (ap not c.if-not-allows.false));
     }
 
@@ -49,5 +49,5 @@ returns c =
     let a = c.args in
     let z = c.loop-j in
     let n = c.arc_count-count in
-    λ k i t h b. sym (every-all (transitionAt k t).arcs z.j (λ n. allows (flatten k) (posted a.owed.now a.due.now) a.markings.now (arcAt (flatten k) t n)) (z.invariant.allow k i t h b)
+    λ k i t h b. sym (every-all (transition_at k t).arcs z.j (λ n. allows (flatten k) (posted a.owed.now a.due.now) a.markings.now (arc_at (flatten k) t n)) (z.invariant.allow k i t h b)
     (omega (arith, counted k a.numbers.now a.starts.now h a.row i t b n.result n.ensures)))

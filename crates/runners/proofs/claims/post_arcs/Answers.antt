@@ -27,21 +27,21 @@ loop-j-preserved c =
       in_count = omega arith;
       owed = λ k i t h b.
           let l = in-arcs k a.numbers.now a.starts.now h a.row i t b n.result z.j n.ensures c.loop-j-test.true in
-          grown-more k a.numbers.now a.starts.now h a.row i t b z.j l x.result (arc-is k a.numbers.now a.starts.now h a.row i t b z.j l x.result x.ensures) c.place_of-p.result c.place_of-p.ensures draws a.part a.owed.now z.owed _ (z.invariant.owed k i t h b) p.ensures.grown;
+          grown-more k a.numbers.now a.starts.now h a.row i t b z.j l x.result (arc-is k a.numbers.now a.starts.now h a.row i t b z.j l x.result x.ensures) c.place_of-p.result c.place_of-p.ensures draws a.part a.owed.now z.owed _ (z.invariant.owed k i t h b) p.ensures.owed_grown;
       due = λ k i t h b.
           let l = in-arcs k a.numbers.now a.starts.now h a.row i t b n.result z.j n.ensures c.loop-j-test.true in
-          grown-more k a.numbers.now a.starts.now h a.row i t b z.j l x.result (arc-is k a.numbers.now a.starts.now h a.row i t b z.j l x.result x.ensures) c.place_of-p.result c.place_of-p.ensures fills a.part a.due.now z.due _ (z.invariant.due k i t h b) p.ensures.grown_2;
+          grown-more k a.numbers.now a.starts.now h a.row i t b z.j l x.result (arc-is k a.numbers.now a.starts.now h a.row i t b z.j l x.result x.ensures) c.place_of-p.result c.place_of-p.ensures fills a.part a.due.now z.due _ (z.invariant.due k i t h b) p.ensures.due_grown;
     }
 
-pub returns-clause-grown : goal.returns-clause-grown
-returns-clause-grown c =
+pub returns-clause-owed_grown : goal.returns-clause-owed_grown
+returns-clause-owed_grown c =
     let a = c.args in
     let z = c.loop-j in
     let n = c.arc_count-count in
     λ k i t h b. grown-all k a.numbers.now a.starts.now h a.row i t b draws n.result z.j a.part a.owed.now z.owed n.ensures z.invariant.in_count c.loop-j-test.false (z.invariant.owed k i t h b)
 
-pub returns-clause-grown_2 : goal.returns-clause-grown_2
-returns-clause-grown_2 c =
+pub returns-clause-due_grown : goal.returns-clause-due_grown
+returns-clause-due_grown c =
     let a = c.args in
     let z = c.loop-j in
     let n = c.arc_count-count in

@@ -6,28 +6,28 @@ use Rattle.runners.proofs.OwnerLaws.{listed}
 use Rattle.runners.proofs.ClaimLaws.{begins, grown-idle}
 use Rattle.runners.proofs.claims.post_transition.Goals as goal
 
-pub returns-then-part-eq0-clause-grown : goal.returns-then-part-eq0-clause-grown
-returns-then-part-eq0-clause-grown c =
+pub returns-then-part-eq0-clause-owed_grown : goal.returns-then-part-eq0-clause-owed_grown
+returns-then-part-eq0-clause-owed_grown c =
     let a = c.args in
     λ k h b. grown-idle a.part (incidence (flatten k) draws a.t) a.owed.now c.if-part-eq0.true
 
-pub returns-then-part-eq0-clause-grown_2 : goal.returns-then-part-eq0-clause-grown_2
-returns-then-part-eq0-clause-grown_2 c =
+pub returns-then-part-eq0-clause-due_grown : goal.returns-then-part-eq0-clause-due_grown
+returns-then-part-eq0-clause-due_grown c =
     let a = c.args in
     λ k h b. grown-idle a.part (incidence (flatten k) fills a.t) a.due.now c.if-part-eq0.true
 
-pub returns-clause-grown : goal.returns-clause-grown
-returns-clause-grown c =
+pub returns-clause-owed_grown : goal.returns-clause-owed_grown
+returns-clause-owed_grown c =
     let a = c.args in
     let r = c.transition_row-row in
     λ k h b.
     let o = listed k h.meets a.t b in
-    c.post_arcs.ensures.grown k o.0 a.t h (begins k a.numbers.now a.starts.now h o.0 a.t r.result o.2 r.ensures)
+    c.post_arcs.ensures.owed_grown k o.0 a.t h (begins k a.numbers.now a.starts.now h o.0 a.t r.result o.2 r.ensures)
 
-pub returns-clause-grown_2 : goal.returns-clause-grown_2
-returns-clause-grown_2 c =
+pub returns-clause-due_grown : goal.returns-clause-due_grown
+returns-clause-due_grown c =
     let a = c.args in
     let r = c.transition_row-row in
     λ k h b.
     let o = listed k h.meets a.t b in
-    c.post_arcs.ensures.grown_2 k o.0 a.t h (begins k a.numbers.now a.starts.now h o.0 a.t r.result o.2 r.ensures)
+    c.post_arcs.ensures.due_grown k o.0 a.t h (begins k a.numbers.now a.starts.now h o.0 a.t r.result o.2 r.ensures)

@@ -2,7 +2,7 @@
 use Rattle.std.proofs.Common.{length}
 use Rattle.hierarchy.specs.Judgement.{judge}
 use Rattle.flattening.proofs.FlatCardLaws.{flat-room-is, lent-flat-is}
-use Rattle.runners.specs.Nets.{flatJudged}
+use Rattle.runners.specs.Nets.{flat_judged}
 use Rattle.runners.proofs.NetLaws.{flat-card-loaded, flat-net-row}
 use Rattle.runners.proofs.flat_runner.flat_row_in.Goals as goal
 
@@ -13,7 +13,7 @@ returns-clause-row c =
     let y = x.ensures in
     let t = lent-flat-is a.card.now _ a.numbers.now x.new.numbers a.flat.now x.new.flat y.lent_flat c.requires in
     let room = flat-room-is (length a.card.now) (length a.numbers.now) (length a.flat.now) c.requires in
-    let j = flatJudged (judge a.card.now) in
+    let j = flat_judged (judge a.card.now) in
     let o = c.flat_answer-a in
     let l = flat-card-loaded a.card.now x.result _ _ x.new.numbers x.new.flat o.result y.flat_card t.0 t.1 room.1 (o.ensures (judge a.card.now) y.flat_card.answer) in
     flat-net-row a.card.now a.row.now a.state c.row_on.result (c.row_on.ensures j (c.net_of-n.ensures j l))

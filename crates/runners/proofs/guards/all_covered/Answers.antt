@@ -7,10 +7,10 @@ use Rattle.runners.proofs.GuardLaws.{covered-verdict}
 use Rattle.runners.proofs.guards.all_covered.Goals as goal
 
 pub returns-then-state-gt-MOST_PLACES : goal.returns-then-state-gt-MOST_PLACES
-returns-then-state-gt-MOST_PLACES c = λ k t f h. absurd (omega (arith, h.places, t.meets.wellformed.rows.fewPlaces))
+returns-then-state-gt-MOST_PLACES c = λ k t f h. absurd (omega (arith, h.places, t.meets.wellformed.rows.few_places))
 
 pub returns-then-state-gt-MOST_TRANSITIONS : goal.returns-then-state-gt-MOST_TRANSITIONS
-returns-then-state-gt-MOST_TRANSITIONS c = λ k t f h. absurd (omega (arith, h.transitions, t.meets.wellformed.rows.fewTransitions))
+returns-then-state-gt-MOST_TRANSITIONS c = λ k t f h. absurd (omega (arith, h.transitions, t.meets.wellformed.rows.few_transitions))
 
 pub returns : goal.returns
 returns c =

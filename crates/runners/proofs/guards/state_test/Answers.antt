@@ -21,7 +21,7 @@ returns-then-not-transfers_in_range c =
     λ k n.
     let h : Counts k a.state = record { places = c.if-state-sizes.false ∙ n.sizes.places; transitions = c.if-state-sizes-2.false ∙ n.sizes.transitions; signals = c.if-state-sizes-3.false ∙ n.sizes.signals } in
     let u = c.scale-scale.ensures k a.starts.now n.tables ∙ scale-flat k in
-    transfers-off k a.state h r.result (r.ensures k u h n.tables.meets.wellformed.rows.fewTransitions) (ap not c.if-not-transfers_in_range.true)
+    transfers-off k a.state h r.result (r.ensures k u h n.tables.meets.wellformed.rows.few_transitions) (ap not c.if-not-transfers_in_range.true)
 
 pub returns-then-not-degrees_in_range : goal.returns-then-not-degrees_in_range
 returns-then-not-degrees_in_range c =
@@ -30,7 +30,7 @@ returns-then-not-degrees_in_range c =
     λ k n.
     let h : Counts k a.state = record { places = c.if-state-sizes.false ∙ n.sizes.places; transitions = c.if-state-sizes-2.false ∙ n.sizes.transitions; signals = c.if-state-sizes-3.false ∙ n.sizes.signals } in
     let u = c.scale-scale.ensures k a.starts.now n.tables ∙ scale-flat k in
-    degrees-off k a.state h d.result (d.ensures k u h n.tables.meets.wellformed.fewSignals) (ap not c.if-not-degrees_in_range.true)
+    degrees-off k a.state h d.result (d.ensures k u h n.tables.meets.wellformed.few_signals) (ap not c.if-not-degrees_in_range.true)
 
 pub returns : goal.returns
 returns c =
@@ -41,5 +41,5 @@ returns c =
     λ k n.
     let h : Counts k a.state = record { places = c.if-state-sizes.false ∙ n.sizes.places; transitions = c.if-state-sizes-2.false ∙ n.sizes.transitions; signals = c.if-state-sizes-3.false ∙ n.sizes.signals } in
     let u = c.scale-scale.ensures k a.starts.now n.tables ∙ scale-flat k in
-    valid-covered k a.state h r.result d.result v.result (r.ensures k u h n.tables.meets.wellformed.rows.fewTransitions) (ap not c.if-not-transfers_in_range.false)
-    (d.ensures k u h n.tables.meets.wellformed.fewSignals) (ap not c.if-not-degrees_in_range.false) (v.ensures k n.tables n.full h)
+    valid-covered k a.state h r.result d.result v.result (r.ensures k u h n.tables.meets.wellformed.rows.few_transitions) (ap not c.if-not-transfers_in_range.false)
+    (d.ensures k u h n.tables.meets.wellformed.few_signals) (ap not c.if-not-degrees_in_range.false) (v.ensures k n.tables n.full h)

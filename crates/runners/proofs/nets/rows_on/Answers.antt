@@ -11,7 +11,7 @@ pub returns-then-not-each_once : goal.returns-then-not-each_once
 returns-then-not-each_once c =
     let a = c.args in
     λ k n. rows-bad-order k a.order.now a.state _ (sym (c.if-not-state_test.ensures k n))
-    (sym (once-of k a.order.now a.sizes.subnets _ n.sizes.subnets (c.if-not-each_once.ensures (omega (arith, n.sizes.subnets, n.tables.meets.wellformed.fewSubnets)))))
+    (sym (once-of k a.order.now a.sizes.subnets _ n.sizes.subnets (c.if-not-each_once.ensures (omega (arith, n.sizes.subnets, n.tables.meets.wellformed.few_subnets)))))
 
 pub loop-at-preserved : goal.loop-at-preserved
 loop-at-preserved c =
@@ -21,7 +21,7 @@ loop-at-preserved c =
       omega (arith, p.ensures, l.invariant.0),
       λ k n.
           let g = l.invariant.1 k n in
-          let o = sym (once-of k a.order.now a.sizes.subnets _ n.sizes.subnets (c.if-not-each_once.ensures (omega (arith, n.sizes.subnets, n.tables.meets.wellformed.fewSubnets)))) in
+          let o = sym (once-of k a.order.now a.sizes.subnets _ n.sizes.subnets (c.if-not-each_once.ensures (omega (arith, n.sizes.subnets, n.tables.meets.wellformed.few_subnets)))) in
           going_more k a.order.now a.state a.rows.now l.s l.at a.sizes.signals n.sizes.signals (omega (arith, c.if-size-eq0.false)) g p.result c.loaded_row-a.result c.loop-at-test.true p.ensures o (c.loaded_row-a.ensures k n g.valid o),
     )
 

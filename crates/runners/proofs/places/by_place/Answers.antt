@@ -1,6 +1,6 @@
 -- `runners::places::by_place` meets its contract.
 use Rattle.std.proofs.Common.{ℕ, ◌<◌, length, sym, ◌∙◌, subst, add-one, arith}
-use Rattle.card.specs.Card.{firstPlace}
+use Rattle.card.specs.Card.{first_place}
 use Rattle.runners.specs.inner.Markings.{FilledTo}
 use Rattle.runners.proofs.MarkingLaws.{filled-start, first-is, filled-all}
 use Rattle.runners.proofs.places.by_place.Goals as goal
@@ -17,8 +17,8 @@ loop-s-preserved c =
       in_subnets = omega arith;
       filled = λ k h e.
           let b : l.s < length k.subnets = omega arith in
-          subst (λ (i : ℕ). FilledTo a.which k (firstPlace k i) f.new.column) (sym (add-one l.s))
-          (f.ensures.filled_to k a.starts.now l.s h (c.scale-scale.ensures k a.starts.now h) b (c.subnet_row.ensures ∙ h.loaded.indexed.subnetRow l.s b)
+          subst (λ (i : ℕ). FilledTo a.which k (first_place k i) f.new.column) (sym (add-one l.s))
+          (f.ensures.filled_to k a.starts.now l.s h (c.scale-scale.ensures k a.starts.now h) b (c.subnet_row.ensures ∙ h.loaded.indexed.subnet_row l.s b)
           (first-is k h.meets a.numbers.now a.starts.now h.loaded l.s b c.first_place.result c.narrow-first.result c.first_place.ensures c.narrow-first.ensures.0) (l.invariant.filled k h e));
     }
 

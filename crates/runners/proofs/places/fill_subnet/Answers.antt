@@ -1,6 +1,6 @@
 -- `runners::places::fill_subnet` meets its contract.
 use Rattle.std.proofs.Common.{ℕ, sym, refl, subst, add-zero, arith}
-use Rattle.card.specs.Card.{firstPlace}
+use Rattle.card.specs.Card.{first_place}
 use Rattle.runners.specs.inner.Markings.{FilledTo}
 use Rattle.runners.proofs.ClaimLaws.{product-fits}
 use Rattle.runners.proofs.MarkingLaws.{subnet-more, subnet-end}
@@ -9,7 +9,7 @@ use Rattle.runners.proofs.places.fill_subnet.Goals as goal
 pub loop-n-init : goal.loop-n-init
 loop-n-init c = record {
   in_count = omega arith;
-  filled = λ k ss s h u l er ef x. subst (λ (i : ℕ). FilledTo c.args.which k i c.args.column.now) (sym (add-zero (firstPlace k s))) x;
+  filled = λ k ss s h u l er ef x. subst (λ (i : ℕ). FilledTo c.args.which k i c.args.column.now) (sym (add-zero (first_place k s))) x;
 }
 
 pub overflow_mul-scale : goal.overflow_mul-scale

@@ -1,14 +1,14 @@
 -- `runners::rounds::move_all` meets its contract.
 use Rattle.std.proofs.Common.{refl, ◌∙◌, arith}
 use Rattle.runners.specs.Columns.{columns}
-use Rattle.runners.specs.Visits.{moving, stepTurn}
+use Rattle.runners.specs.Visits.{moving, step_turn}
 use Rattle.runners.proofs.RoundLaws.{round-start, round-more, round-all}
 use Rattle.runners.proofs.rounds.move_all.Goals as goal
 
 pub loop-k-init : goal.loop-k-init
 loop-k-init c =
     let a = c.args in
-    (refl, refl, omega arith, λ owed due drawn filled k before h e i. round-start moving (stepTurn k before a.row.now) a.order.now (columns a.markings.now a.transfers.now a.degrees.now a.row.now owed due drawn filled a.candidates.now))
+    (refl, refl, omega arith, λ owed due drawn filled k before h e i. round-start moving (step_turn k before a.row.now) a.order.now (columns a.markings.now a.transfers.now a.degrees.now a.row.now owed due drawn filled a.candidates.now))
 
 pub loop-k-preserved : goal.loop-k-preserved
 loop-k-preserved c =
@@ -27,4 +27,4 @@ pub returns-clause-on_state : goal.returns-clause-on_state
 returns-clause-on_state c =
     let a = c.args in
     let l = c.loop-k in
-    λ owed due drawn filled k before h e i. round-all moving (stepTurn k before a.row.now) a.order.now l.k _ _ h.meets e (omega (arith, l.invariant.2, c.loop-k-test.false)) (l.invariant.3 owed due drawn filled k before h e i)
+    λ owed due drawn filled k before h e i. round-all moving (step_turn k before a.row.now) a.order.now l.k _ _ h.meets e (omega (arith, l.invariant.2, c.loop-k-test.false)) (l.invariant.3 owed due drawn filled k before h e i)

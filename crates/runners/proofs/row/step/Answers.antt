@@ -26,6 +26,6 @@ returns c =
     let cs = f.new.candidates in
     let p3 = c.move_all.ensures.on_state [] [] [] [] k (view a.state) n.tables o (turn-move k n.tables.meets a.state v a.row.now x.result x.ensures [] [] [] [] cs g.candidates) in
     row_moved k n.tables.meets a.state v a.row.now x.result x.ensures [] [] [] [] cs g.candidates _ _ c.record_degrees-after.result c.stored.result p3 c.stored.ensures
-    (c.record_degrees-after.ensures (omega (arith, rl, n.tables.meets.wellformed.fewSignals))) rl
+    (c.record_degrees-after.ensures (omega (arith, rl, n.tables.meets.wellformed.few_signals))) rl
     (free_of k (view a.state) a.row.now f.result a.sizes.places n.sizes.places g.conflicts c.if-p-places.false)
     ml sl

@@ -1,14 +1,14 @@
 -- `runners::visits::find_span` meets its contract.
 use Rattle.std.proofs.Common.{refl, ◌∙◌, arith}
 use Rattle.runners.specs.Columns.{columns}
-use Rattle.runners.specs.Visits.{finding, turnIn}
+use Rattle.runners.specs.Visits.{finding, turn_in}
 use Rattle.runners.proofs.SpanLaws.{span-start, span_more, span-end}
 use Rattle.runners.proofs.visits.find_span.Goals as goal
 
 pub loop-t-init : goal.loop-t-init
 loop-t-init c =
     let a = c.args in
-    (refl, refl, refl, omega arith, λ last k h l b. (l, span-start finding (turnIn k (columns a.markings.now a.transfers.now last a.row.now a.owed.now a.due.now a.drawn.now a.filled.now a.candidates.now)) a.first (columns a.markings.now a.transfers.now last a.row.now a.owed.now a.due.now a.drawn.now a.filled.now a.candidates.now)))
+    (refl, refl, refl, omega arith, λ last k h l b. (l, span-start finding (turn_in k (columns a.markings.now a.transfers.now last a.row.now a.owed.now a.due.now a.drawn.now a.filled.now a.candidates.now)) a.first (columns a.markings.now a.transfers.now last a.row.now a.owed.now a.due.now a.drawn.now a.filled.now a.candidates.now)))
 
 pub loop-t-preserved : goal.loop-t-preserved
 loop-t-preserved c =

@@ -4,7 +4,7 @@ use Rattle.card.specs.Card.{draws, fills}
 use Rattle.flattening.specs.Flattening.{flatten}
 use Rattle.runners.specs.State.{incidence}
 use Rattle.runners.specs.Step.{advanced}
-use Rattle.runners.specs.Columns.{noted, code_of, columns, stateIn}
+use Rattle.runners.specs.Columns.{noted, code_of, columns, state_in}
 use Rattle.runners.specs.declared.Transfer.{Transfer}
 use Rattle.runners.specs.declared.Transfer.TheVariants.{Carrying}
 use Rattle.runners.proofs.OneLaws.{moved_by, moves-within}
@@ -16,7 +16,7 @@ returns-clause-on_state c =
     let d = c.distance-d in
     λ owed due drawn filled k h b.
     let es = c.scale-scale.ensures k a.starts.now h in
-    let s = stateIn (columns a.markings.now a.transfers.now a.degrees.now a.row.now owed due drawn filled a.candidates.now) in
+    let s = state_in (columns a.markings.now a.transfers.now a.degrees.now a.row.now owed due drawn filled a.candidates.now) in
     let x = c.started-transfer.ensures ∙ ap₂ (λ (v : Bool) (y : Transfer). cond v (Carrying 0) y) c.is_noted-starting.ensures c.transfer_at-was.ensures in
     let e = d.ensures k s (noted a.candidates.now) h es b refl c.is_noted-starting.ensures x in
     record {

@@ -1,14 +1,14 @@
 -- `runners::visits::move_span` meets its contract.
 use Rattle.std.proofs.Common.{refl, ◌∙◌, arith}
 use Rattle.runners.specs.Columns.{columns}
-use Rattle.runners.specs.Visits.{moving, turnIn}
+use Rattle.runners.specs.Visits.{moving, turn_in}
 use Rattle.runners.proofs.SpanLaws.{span-start, span_more, span-end}
 use Rattle.runners.proofs.visits.move_span.Goals as goal
 
 pub loop-t-init : goal.loop-t-init
 loop-t-init c =
     let a = c.args in
-    (refl, refl, omega arith, λ owed due drawn filled k h l b. (l, span-start moving (turnIn k (columns a.markings.now a.transfers.now a.degrees.now a.row.now owed due drawn filled a.candidates.now)) a.first (columns a.markings.now a.transfers.now a.degrees.now a.row.now owed due drawn filled a.candidates.now)))
+    (refl, refl, omega arith, λ owed due drawn filled k h l b. (l, span-start moving (turn_in k (columns a.markings.now a.transfers.now a.degrees.now a.row.now owed due drawn filled a.candidates.now)) a.first (columns a.markings.now a.transfers.now a.degrees.now a.row.now owed due drawn filled a.candidates.now)))
 
 pub loop-t-preserved : goal.loop-t-preserved
 loop-t-preserved c =

@@ -1,14 +1,14 @@
 -- `runners::visits::post_span` meets its contract.
 use Rattle.std.proofs.Common.{refl, ◌∙◌, arith}
 use Rattle.runners.specs.Columns.{columns}
-use Rattle.runners.specs.Visits.{posting, turnIn}
+use Rattle.runners.specs.Visits.{posting, turn_in}
 use Rattle.runners.proofs.SpanLaws.{span-start, span_more, span-end}
 use Rattle.runners.proofs.visits.post_span.Goals as goal
 
 pub loop-t-init : goal.loop-t-init
 loop-t-init c =
     let a = c.args in
-    (refl, refl, omega arith, λ ms last row drawn filled cs k h l b. (l, span-start posting (turnIn k (columns ms a.transfers.now last row a.owed.now a.due.now drawn filled cs)) a.first (columns ms a.transfers.now last row a.owed.now a.due.now drawn filled cs)))
+    (refl, refl, omega arith, λ ms last row drawn filled cs k h l b. (l, span-start posting (turn_in k (columns ms a.transfers.now last row a.owed.now a.due.now drawn filled cs)) a.first (columns ms a.transfers.now last row a.owed.now a.due.now drawn filled cs)))
 
 pub loop-t-preserved : goal.loop-t-preserved
 loop-t-preserved c =
