@@ -5,7 +5,7 @@ ghost use Rattle.card.specs.Card.{Card, Arc as CardArc, transition_at, arc_at, f
 ghost use Rattle.card.specs.Finite.{first_of};
 ghost use Rattle.card.specs.Index.{ArcThere, Lists, Laid, Loaded, arc_of, Begins};
 ghost use Rattle.hierarchy.specs.Conditions.{IsPlace};
-ghost use Rattle.hierarchy.specs.Check.{seen as isSeen, takes as takesIt, directed as isDirected, weighted as isWeighted, repeats, single, loop_fits, loops_fit, has_unit, finding_of, arc_fault, transition_fault, subnet_fault};
+ghost use Rattle.hierarchy.specs.Check.{seen as is_seen, takes as takes_it, directed as is_directed, weighted as is_weighted, repeats, single, loop_fits, loops_fit, has_unit, finding_of, arc_fault, transition_fault, subnet_fault};
 ghost use Rattle.hierarchy.specs.inner.Arcs.{PlacesThere};
 
 use crate::{CardFault, Finding};
@@ -16,7 +16,7 @@ use card::tables::{
 
 // Whether subnet i sees the place that the arc names.
 fn seen(numbers: &[u16], starts: &[u32], subnets: u16, i: u16, a: Arc) -> bool
-    ensures { (c : Card) → Loaded c numbers.now starts.now → subnets ≡ length c.subnets → result ≡ isSeen c i (arc_of a) }
+    ensures { (c : Card) → Loaded c numbers.now starts.now → subnets ≡ length c.subnets → result ≡ is_seen c i (arc_of a) }
 {
     if subnets <= a.subnet {
         return false;
@@ -49,7 +49,7 @@ fn place_capacity(numbers: &[u16], starts: &[u32], a: Arc) -> u16
 
 // Whether a child's place of this kind takes an arc of this direction.
 fn takes(kind: u16, direction: u16) -> bool
-    ensures { result ≡ takesIt kind direction }
+    ensures { result ≡ takes_it kind direction }
 {
     if kind == 3 {
         return true;
@@ -64,7 +64,7 @@ fn takes(kind: u16, direction: u16) -> bool
 }
 
 fn directed(numbers: &[u16], starts: &[u32], i: u16, a: Arc) -> bool
-    ensures { (c : Card) → Loaded c numbers.now starts.now → IsPlace c a.subnet a.place → result ≡ isDirected c i (arc_of a) }
+    ensures { (c : Card) → Loaded c numbers.now starts.now → IsPlace c a.subnet a.place → result ≡ is_directed c i (arc_of a) }
 {
     if a.subnet == i {
         return true;
@@ -73,7 +73,7 @@ fn directed(numbers: &[u16], starts: &[u32], i: u16, a: Arc) -> bool
 }
 
 fn weighted(numbers: &[u16], starts: &[u32], a: Arc) -> bool
-    ensures { (c : Card) → Loaded c numbers.now starts.now → IsPlace c a.subnet a.place → result ≡ isWeighted c (arc_of a) }
+    ensures { (c : Card) → Loaded c numbers.now starts.now → IsPlace c a.subnet a.place → result ≡ is_weighted c (arc_of a) }
 {
     if a.weight < 1 {
         return false;

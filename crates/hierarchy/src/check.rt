@@ -7,7 +7,7 @@ ghost use Rattle.card.specs.Card.{Card};
 ghost use Rattle.card.specs.Index.{Loaded};
 ghost use Rattle.hierarchy.specs.Numbers.{check_outcome};
 ghost use Rattle.hierarchy.specs.declared.Answer.TheVariants.{Accepted};
-ghost use Rattle.hierarchy.specs.Check.{finding_of, check as firstFault};
+ghost use Rattle.hierarchy.specs.Check.{finding_of, check as first_fault};
 ghost use Rattle.hierarchy.specs.Judgement.{answer, IsReadInto, IsChecked};
 
 use crate::arcs::arcs_fault;
@@ -26,7 +26,7 @@ pub struct CheckedCard {
 
 // The first fault of pass two.
 fn first_fault<'a>(numbers: &'a [u16], starts: &'a [u32], subnets: u16) -> Finding
-    ensures { (c : Card) → Loaded c numbers.now starts.now → subnets ≡ length c.subnets → length c.subnets ≤ max_subnets → finding_of result ≡ firstFault c }
+    ensures { (c : Card) → Loaded c numbers.now starts.now → subnets ≡ length c.subnets → length c.subnets ≤ max_subnets → finding_of result ≡ first_fault c }
 {
     let a = arcs_fault(numbers, starts, subnets);
     let Finding::Nothing = a else {

@@ -5,7 +5,7 @@ ghost use Rattle.card.specs.Bits.{bytes_for};
 ghost use Rattle.card.specs.Fields.{field_at};
 ghost use Rattle.card.specs.Card.{Card};
 ghost use Rattle.runners.specs.State.{entry};
-ghost use Rattle.runners.specs.Rows.{degrees as degreesOf, no_row, or_no_row, cells, row_of};
+ghost use Rattle.runners.specs.Rows.{degrees as degrees_of, no_row, or_no_row, cells, row_of};
 ghost use Rattle.programs.specs.Files.{file_row};
 
 use card::MOST_SIGNALS;
@@ -43,7 +43,7 @@ fn no_row() -> FileRow
 }
 
 fn empty_row() -> FileRow
-    ensures { result ≡ file_row (degreesOf []) }
+    ensures { result ≡ file_row (degrees_of []) }
 {
     FileRow {
         whole: true,

@@ -7,7 +7,7 @@ ghost use Rattle.card.specs.Index.{Lists, first_place_start};
 ghost use Rattle.card.specs.Index.{arc_of, Begins};
 ghost use Rattle.flattening.specs.Flattening.{flatten};
 ghost use Rattle.runners.specs.State.{scale as scale_of, entry, incidence};
-ghost use Rattle.runners.specs.Step.{allows as allowsIt};
+ghost use Rattle.runners.specs.Step.{allows as allows_it};
 ghost use Rattle.runners.specs.Columns.{Moved, Grown, nothing, posted};
 ghost use Rattle.runners.specs.Visits.{InTables};
 ghost use Rattle.runners.specs.inner.Transitions.{share};
@@ -159,7 +159,7 @@ fn allows(
     due: &[u32],
     scale: u16,
 ) -> bool
-    ensures { (c : Card) (i t j : ℕ) → InTables c numbers.now starts.now → scale ≡ scale_of (flatten c) → Lists c i t → j < (transition_at c t).arcs → arc_of a ≡ arc_at c t j → result ≡ allowsIt (flatten c) (posted owed.now due.now) markings.now (arc_at (flatten c) t j) }
+    ensures { (c : Card) (i t j : ℕ) → InTables c numbers.now starts.now → scale ≡ scale_of (flatten c) → Lists c i t → j < (transition_at c t).arcs → arc_of a ≡ arc_at c t j → result ≡ allows_it (flatten c) (posted owed.now due.now) markings.now (arc_at (flatten c) t j) }
 {
     let p = place_of(starts, a);
     let m = entry_at(markings, p);
@@ -180,7 +180,7 @@ pub fn all_allow(
     owed: &[u32],
     due: &[u32],
 ) -> bool
-    ensures { (c : Card) (i t : ℕ) → InTables c numbers.now starts.now → Begins c row i t → result ≡ every (transition_at c t).arcs (λ j. allowsIt (flatten c) (posted owed.now due.now) markings.now (arc_at (flatten c) t j)) }
+    ensures { (c : Card) (i t : ℕ) → InTables c numbers.now starts.now → Begins c row i t → result ≡ every (transition_at c t).arcs (λ j. allows_it (flatten c) (posted owed.now due.now) markings.now (arc_at (flatten c) t j)) }
 {
     let scale = rules::scale(numbers);
     let count = arc_count(numbers, row);

@@ -1,7 +1,7 @@
 // The fresh state of a card.
 ghost use Rattle.std.specs.Prelude.{◌≡◌, true, length};
 ghost use Rattle.card.specs.Tables.{has_room};
-ghost use Rattle.runners.specs.Calls.{blank as blankOf, fresh_call};
+ghost use Rattle.runners.specs.Calls.{blank as blank_of, fresh_call};
 ghost use Rattle.runners.specs.Answers.{IsFresh};
 
 use crate::places::{PlaceNumber, by_place};
@@ -20,7 +20,7 @@ pub struct FreshState {
 
 // A state of zeros and idle transitions.
 fn blank(places: usize, transitions: usize, signals: usize) -> State
-    ensures { result ≡ blankOf places transitions signals }
+    ensures { result ≡ blank_of places transitions signals }
 {
     State {
         markings: [0; MOST_PLACES],

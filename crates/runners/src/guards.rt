@@ -4,7 +4,7 @@ ghost use Rattle.card.specs.Card.{Card};
 ghost use Rattle.card.specs.Finite.{every, lowest};
 ghost use Rattle.flattening.specs.Flattening.{flatten};
 ghost use Rattle.runners.specs.State.{scale as scale_of, entry, transfer, covered};
-ghost use Rattle.runners.specs.Calls.{view, in_range as inRangeOf, valid};
+ghost use Rattle.runners.specs.Calls.{view, in_range as in_range_of, valid};
 ghost use Rattle.runners.specs.Rows.{row_fault};
 ghost use Rattle.runners.specs.Visits.{InTables};
 ghost use Rattle.runners.specs.inner.Verdict.{or_past};
@@ -57,7 +57,7 @@ pub fn row_test(row: &[u16], signals: u16, scale: u16) -> Reply
 
 // A progress is below 1000.
 fn in_range(transfer: Transfer, scale: u16) -> bool
-    ensures { (c : Card) → scale ≡ scale_of c → result ≡ inRangeOf c transfer }
+    ensures { (c : Card) → scale ≡ scale_of c → result ≡ in_range_of c transfer }
 {
     match transfer {
         Transfer::Idle => true,
@@ -66,7 +66,7 @@ fn in_range(transfer: Transfer, scale: u16) -> bool
 }
 
 fn transfers_in_range(state: State, scale: u16) -> bool
-    ensures { (c : Card) → scale ≡ scale_of c → Counts c state → length c.transitions ≤ 255 → result ≡ every (length c.transitions) (λ t. inRangeOf c (transfer (view state).transfers t)) }
+    ensures { (c : Card) → scale ≡ scale_of c → Counts c state → length c.transitions ≤ 255 → result ≡ every (length c.transitions) (λ t. in_range_of c (transfer (view state).transfers t)) }
 {
     let n = state.transitions;
     let mut t: usize = 0;

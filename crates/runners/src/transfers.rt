@@ -2,8 +2,8 @@
 // lent state's transfers as such numbers.
 ghost use Rattle.std.specs.Prelude.{◌≡◌, ◌≤◌, map, if◌then◌else◌, slice_set};
 ghost use Rattle.card.specs.Card.{Card};
-ghost use Rattle.runners.specs.State.{scale as scale_of, transfer as transferAt, remaining as remainingOf};
-ghost use Rattle.runners.specs.Step.{advanced as advancedOf};
+ghost use Rattle.runners.specs.State.{scale as scale_of, transfer as transfer_at, remaining as remaining_of};
+ghost use Rattle.runners.specs.Step.{advanced as advanced_of};
 ghost use Rattle.runners.specs.Columns.{code_of, transfer_of};
 ghost use Rattle.runners.specs.inner.Storing.{CodesOf, Stored};
 ghost use Rattle.runners.specs.declared.Transfer.TheVariants.{Carrying};
@@ -14,7 +14,7 @@ use card::{MOST_PLACES, MOST_TRANSITIONS};
 
 // The transfer of transition t; past the last one it is idle.
 pub fn transfer_at(codes: &[u16], t: usize) -> Transfer
-    ensures { result ≡ transferAt (map transfer_of codes.now) t }
+    ensures { result ≡ transfer_at (map transfer_of codes.now) t }
 {
     if t < codes.len() {
         return transfer_of(codes[t]);
@@ -33,7 +33,7 @@ pub fn put_transfer(codes: &mut [u16], t: usize, transfer: Transfer)
 
 // What remains of a transfer: 1000 - c.
 pub fn remaining(transfer: Transfer, scale: u16) -> u16
-    ensures { (f : Card) → scale ≡ scale_of f → result ≡ remainingOf f transfer }
+    ensures { (f : Card) → scale ≡ scale_of f → result ≡ remaining_of f transfer }
 {
     match transfer {
         Transfer::Idle => 0,
@@ -58,7 +58,7 @@ pub fn started(transfer: Transfer, candidate: bool) -> Transfer
 
 // c grows by d, which is no more than remains; at 1000 the transition is idle.
 pub fn advanced(transfer: Transfer, d: u16, scale: u16) -> Transfer
-    ensures { (f : Card) → scale ≡ scale_of f → d ≤ remainingOf f transfer → result ≡ advancedOf f transfer d }
+    ensures { (f : Card) → scale ≡ scale_of f → d ≤ remaining_of f transfer → result ≡ advanced_of f transfer d }
 {
     match transfer {
         Transfer::Idle => Transfer::Idle,

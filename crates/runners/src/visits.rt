@@ -5,7 +5,7 @@ ghost use Rattle.std.specs.Prelude.{◌≡◌, ℕ, suc, ◌<◌, Bool, ◌&&◌
 ghost use Rattle.card.specs.Card.{Card, transition_at, arc_at, first_transition};
 ghost use Rattle.card.specs.Finite.{every};
 ghost use Rattle.flattening.specs.Flattening.{flatten};
-ghost use Rattle.runners.specs.State.{NetState, scale as scale_of, entry, transfer as transferIn};
+ghost use Rattle.runners.specs.State.{NetState, scale as scale_of, entry, transfer as transfer_in};
 ghost use Rattle.runners.specs.Step.{allows, candidate_on, started_on, moves_on};
 ghost use Rattle.runners.specs.Columns.{noted, posted, OnStanding, OnCandidates, OnState};
 ghost use Rattle.runners.specs.Visits.{posting, finding, moving, InTables, IsVisit};
@@ -149,7 +149,7 @@ fn is_candidate(
     owed: &[u32],
     due: &[u32],
 ) -> bool
-    ensures { (c : Card) (s : NetState) → InTables c numbers.now starts.now → t < length c.transitions → s.markings ≡ markings.now → transfer ≡ transferIn s.transfers t → result ≡ candidate_on (flatten c) (posted owed.now due.now) s row.now t }
+    ensures { (c : Card) (s : NetState) → InTables c numbers.now starts.now → t < length c.transitions → s.markings ≡ markings.now → transfer ≡ transfer_in s.transfers t → result ≡ candidate_on (flatten c) (posted owed.now due.now) s row.now t }
 {
     match transfer {
         Transfer::Idle => may_start(numbers, starts, t, row, markings, owed, due),
