@@ -222,9 +222,8 @@ def copied(folder, statements):
     """A copy of the layers, with what checks have kept of them, and the crate of the theorems over them."""
     for layer in layers():
         shutil.copytree(root / "crates" / layer, folder / "crates" / layer)
-    shutil.copy(root / "crates.txt", folder)
-    with open(folder / "crates.txt", "a") as listing:
-        listing.write(f"computed: {' '.join(layers())}\n")
+    lines = re.findall(rf"^(?:{'|'.join(layers())}):.*\n", (root / "crates.txt").read_text(), re.M)
+    (folder / "crates.txt").write_text("".join(lines) + f"computed: {' '.join(layers())}\n")
     for part in ("src", "specs", "proofs"):
         (folder / "crates/computed" / part).mkdir(parents=True)
     (folder / "crates/computed/src/lib.rt").write_text("#![tactic(auto)]\n\npub enum Computed {\n    Case,\n}\n")
