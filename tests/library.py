@@ -573,7 +573,7 @@ def size_tests():
         return re.search(pattern, (root / "crates" / file).read_text(), re.M).group(1)
 
     code = number("card/src/lib.rt", r"^pub const CARD_BYTES: usize = (\d+);$")
-    yield "cardBytes", number("card/specs/Tables.antt", r"^cardBytes = (\d+)$"), code
+    yield "card_bytes", number("card/specs/Tables.antt", r"^card_bytes = (\d+)$"), code
     yield "NET_CARD_BYTES", number("net_runner/net_runner.h", r"^#define NET_CARD_BYTES (\d+)$"), code
     yield "CARD_BYTES for Rust", number("net_runner/net_runner.rs", r"^pub const CARD_BYTES: usize = (\d+);$"), code
     stack = number("net_runner/net_runner.h", r"^#define NET_STACK_BYTES (\d+)$")

@@ -55,5 +55,21 @@ def run_in_pieces(card, pieces):
         return answers
 
 
+def ends_unread(card):
+    """Whether the run program ends on an input without end, of zeros, once its first line has been read and nobody reads on."""
+    with tempfile.TemporaryDirectory() as where, open("/dev/zero", "rb") as zeros:
+        (pathlib.Path(where) / "net.card").write_bytes(card)
+        program = subprocess.Popen([folder / "run"], stdin=zeros, stdout=subprocess.PIPE, cwd=where)
+        program.stdout.readline()
+        program.stdout.close()
+        try:
+            program.wait(10)
+            return True
+        except subprocess.TimeoutExpired:
+            program.kill()
+            program.wait()
+            return False
+
+
 def flatten(card):
     return printed("flatten", card)

@@ -1,7 +1,7 @@
 // Standard input, standard output and files, as the programs read and write them; cases.rt has the cases of the tests. No contract can say
 // which bytes the operating system hands over or takes. So that of a read is about lengths: it answers how many bytes it has put at the
-// buffer's start, which is at most the buffer's length, and that length is kept. A function that only writes has none, and what cannot be
-// written is lost. "Ruled out" names wrong programs that a contract refuses.
+// buffer's start, which is at most the buffer's length, and that length is kept. A function that only writes has none; `put` says whether all
+// was taken, so that a program can end where nobody reads on. "Ruled out" names wrong programs that a contract refuses.
 #![tactic(auto)]
 
 pub mod cases;
@@ -60,8 +60,8 @@ pub fn read_input(rt: &HostRuntime, buffer: &mut [u8]) -> usize
     read_full(&mut rt.stdin(), buffer)
 }
 
-// Reads what is there of standard input: at least a byte unless the input has ended or the buffer is empty. Ruled out: the count of a read
-// into a larger buffer of its own; a byte where a read has failed.
+// Reads what is there of standard input: at least a byte unless the input has ended, the read has failed or the buffer is empty. Ruled out: the
+// count of a read into a larger buffer of its own; a byte where a read has failed.
 pub fn read_some(rt: &HostRuntime, buffer: &mut [u8]) -> usize
     ensures prefix_len { IsPrefixLen result buffer.new }
     ensures buffer_len_unchanged { length buffer.new ≡ length buffer.old }
@@ -69,15 +69,17 @@ pub fn read_some(rt: &HostRuntime, buffer: &mut [u8]) -> usize
     read_once(&mut rt.stdin(), buffer)
 }
 
-pub fn put(rt: &HostRuntime, text: &[u8]) {
-    let _lost = rt.write_all(text);
+// Writes, and says whether all was taken.
+pub fn put(rt: &HostRuntime, text: &[u8]) -> bool {
+    rt.write_all(text).is_ok()
 }
 
 // The first n bytes; nothing if there are fewer.
-pub fn put_first(rt: &HostRuntime, bytes: &[u8], n: usize) {
+pub fn put_first(rt: &HostRuntime, bytes: &[u8], n: usize) -> bool {
     if n <= bytes.len() {
-        put(rt, &bytes[..n]);
+        return put(rt, &bytes[..n]);
     }
+    true
 }
 
 // A space and the number in decimal.

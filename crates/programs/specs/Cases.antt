@@ -22,9 +22,9 @@ use Rattle.programs.specs.Programs.{run_program}
 -- bytes, a visiting order, a state and a row, lent to a call of each runner
 pub data Input : Type 0 where
   bytes_of : (tables : Card) → Input
-  check-of : (card : List ℕ) → Input
+  check_of : (card : List ℕ) → Input
   run_of : (card : List ℕ) → (rows : List (List ℕ)) → Input
-  call-of : (card order : List ℕ) → NetState → (row : List ℕ) → Input
+  call_of : (card order : List ℕ) → NetState → (row : List ℕ) → Input
 
 pub data Result : Type 0 where
   spells : (bytes : List ℕ) → Result
@@ -41,9 +41,9 @@ lent s = store (blank (length s.markings) (length s.transfers) (length s.degrees
 
 abbrev pub result : Input → Result
 result (bytes_of tables) = spells (encode tables)
-result (check-of card) = answers (answer card)
+result (check_of card) = answers (answer card)
 result (run_of card rows) = prints (run_program card (rows_file rows))
-result (call-of card order s r) = replies (observed (flat_call card (lent s) r)) (observed (subnet_call card order (lent s) r))
+result (call_of card order s r) = replies (observed (flat_call card (lent s) r)) (observed (subnet_call card order (lent s) r))
 
 pub record Case : Type 0 where
   pub given : Input
@@ -160,14 +160,14 @@ abbrev pub cases : List Case
 cases =
     bytes_of (tables_a 0 input (to 1 0 1)) gives spells (0x10 ∷ 0x82 ∷ 0x00 ∷ 0x00 ∷ 0x40 ∷ 0x40 ∷ 0x10 ∷ 0x10 ∷ 0x04 ∷ 0x00 ∷ 0x00 ∷ 0x0c ∷ 0x20
     ∷ 0x00 ∷ 0x20 ∷ 0x00 ∷ 0x10 ∷ 0x0a ∷ 0x02 ∷ 0x00 ∷ 0x01 ∷ 0x00 ∷ 0x02 ∷ 0x20 ∷ 0x40 ∷ 0x00 ∷ 0x61 ∷ 0x01 ∷ 0x01 ∷ [])
-    ∷ check-of A gives answers (accepted 2 3 2)
-    ∷ check-of [] gives answers (refused 1 0)
-    ∷ check-of (take 28 A) gives answers (refused 1 224)
-    ∷ check-of (bench 1 input (to 1 0 1)) gives answers (refused 4 115)
-    ∷ check-of (bench 0 input (to 1 1 1)) gives answers (refused 10 93)
-    ∷ check-of (bench 0 input (from 1 0 1)) gives answers (refused 11 93)
-    ∷ check-of (bench 0 input (to 1 0 2)) gives answers (refused 12 93)
-    ∷ check-of (bench 0 normal (to 1 0 1)) gives answers (refused 10 93)
+    ∷ check_of A gives answers (accepted 2 3 2)
+    ∷ check_of [] gives answers (refused 1 0)
+    ∷ check_of (take 28 A) gives answers (refused 1 224)
+    ∷ check_of (bench 1 input (to 1 0 1)) gives answers (refused 4 115)
+    ∷ check_of (bench 0 input (to 1 1 1)) gives answers (refused 10 93)
+    ∷ check_of (bench 0 input (from 1 0 1)) gives answers (refused 11 93)
+    ∷ check_of (bench 0 input (to 1 0 2)) gives answers (refused 12 93)
+    ∷ check_of (bench 0 normal (to 1 0 1)) gives answers (refused 10 93)
     ∷ run_of A (row 400 0 ∷ row 300 500 ∷ row 1000 500 ∷ row 1000 500 ∷ row 1000 900 ∷ row 0 1001 ∷ []) gives prints (ascii
     "1 ok 600 400 0 | 400 -\n2 ok 600 400 0 | 400 -\n3 ok 0 1000 0 | - -\n4 ok 0 1000 0 | - 0\n5 ok 0 600 400 | - 400\n6 no 21 1\n")
     ∷ run_of B (row 500 500 ∷ []) gives prints (ascii "1 no 22 0\n")
@@ -177,20 +177,20 @@ cases =
     ∷ run_of fillers (row 500 500 ∷ []) gives prints (ascii "1 no 22 0\n")
     ∷ run_of A (marks ∷ row 1000 500 ∷ marks ∷ marks ∷ row 1000 900 ∷ row 400 1023 ∷ row 1023 900 ∷ []) gives prints (ascii
     "1 ok 1000 0 0 | - -\n2 ok 0 1000 0 | - -\n3 ok 0 1000 0 | - 0\n4 ok 0 1000 0 | - 0\n5 ok 0 600 400 | - 400\n6 no 21 1\n7 no 21 0\n")
-    ∷ call-of A (1 ∷ 0 ∷ []) (state 0 1000 0 Idle Idle 1000 500) empty gives both RowOutcome.ok (state 0 1000 0 Idle (Carrying 0) 1000 500)
-    ∷ call-of A (1 ∷ 0 ∷ []) (state 0 1000 0 Idle Idle 1000 500) marks gives both (RowOutcome.refused 21 (some 0)) (state 0 1000 0 Idle Idle 1000 500)
-    ∷ call-of B (0 ∷ []) (state 1000 0 0 Idle Idle 500 500) empty gives both (RowOutcome.refused 22 (some 0)) (state 1000 0 0 Idle Idle 500 500)
-    ∷ check-of (bench 0 input (to 0 0 1)) gives answers (refused 26 93)
-    ∷ check-of (bench 0 input (to 0 0 2)) gives answers (refused 12 93)
-    ∷ check-of (looped 2 (from 1 0 1) (to 1 0 1) (to 0 0 1)) gives answers (accepted 2 3 2)
-    ∷ check-of (looped 2 (from 1 0 1) (to 1 0 1) (from 1 0 2)) gives answers (refused 13 115)
-    ∷ check-of (looped 3 (from 1 0 2) (to 1 0 2) (to 0 0 1)) gives answers (refused 26 93)
-    ∷ check-of (looped 3 (to 1 0 2) (from 1 0 2) (to 0 0 1)) gives answers (refused 26 93)
+    ∷ call_of A (1 ∷ 0 ∷ []) (state 0 1000 0 Idle Idle 1000 500) empty gives both RowOutcome.ok (state 0 1000 0 Idle (Carrying 0) 1000 500)
+    ∷ call_of A (1 ∷ 0 ∷ []) (state 0 1000 0 Idle Idle 1000 500) marks gives both (RowOutcome.refused 21 (some 0)) (state 0 1000 0 Idle Idle 1000 500)
+    ∷ call_of B (0 ∷ []) (state 1000 0 0 Idle Idle 500 500) empty gives both (RowOutcome.refused 22 (some 0)) (state 1000 0 0 Idle Idle 500 500)
+    ∷ check_of (bench 0 input (to 0 0 1)) gives answers (refused 26 93)
+    ∷ check_of (bench 0 input (to 0 0 2)) gives answers (refused 12 93)
+    ∷ check_of (looped 2 (from 1 0 1) (to 1 0 1) (to 0 0 1)) gives answers (accepted 2 3 2)
+    ∷ check_of (looped 2 (from 1 0 1) (to 1 0 1) (from 1 0 2)) gives answers (refused 13 115)
+    ∷ check_of (looped 3 (from 1 0 2) (to 1 0 2) (to 0 0 1)) gives answers (refused 26 93)
+    ∷ check_of (looped 3 (to 1 0 2) (from 1 0 2) (to 0 0 1)) gives answers (refused 26 93)
     ∷ bytes_of (version_a 2) gives spells (0x20 ∷ 0x82 ∷ drop 2 A)
-    ∷ check-of (encode (version_a 0)) gives answers (refused 2 0)
-    ∷ check-of (encode (version_a 3)) gives answers (refused 2 0)
+    ∷ check_of (encode (version_a 0)) gives answers (refused 2 0)
+    ∷ check_of (encode (version_a 3)) gives answers (refused 2 0)
     ∷ run_of (encode (version_a 2)) (row 1000 0 ∷ row 1000 1000 ∷ []) gives prints (ascii "1 ok 0 1000 0 | - -\n2 ok 0 0 1000 | - -\n")
     ∷ run_of (encode (version_a 2)) (row 1000 300 ∷ row 1000 300 ∷ row 1000 700 ∷ row 1000 0 ∷ row 1000 200 ∷ []) gives prints (ascii
     "1 ok 0 1000 0 | - -\n2 ok 0 700 300 | - 300\n3 ok 0 300 700 | - 700\n4 ok 0 300 700 | - 700\n5 ok 0 100 900 | - 900\n")
-    ∷ call-of (encode (version_a 2)) (1 ∷ 0 ∷ []) (state 0 1000 0 Idle Idle 1000 500) empty gives both RowOutcome.ok (state 0 500 500 Idle (Carrying 500) 1000 500)
+    ∷ call_of (encode (version_a 2)) (1 ∷ 0 ∷ []) (state 0 1000 0 Idle Idle 1000 500) empty gives both RowOutcome.ok (state 0 500 500 Idle (Carrying 500) 1000 500)
     ∷ []

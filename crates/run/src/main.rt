@@ -22,19 +22,29 @@ fn put_line(rt: &HostRuntime, l: Line) {
     put_first(rt, &bytes, l.length);
 }
 
-// Writes the lines of a block, and gives the run behind it. It asks for the room without which `answer_block` takes nothing.
-fn put_block(rt: &HostRuntime, net: Net, p: Progress, block: &[u8], lines: &mut [u8]) -> Progress
-    requires { longest * length block.now ≤ length lines.old }
-    ensures lines_len_unchanged { length lines.new ≡ length lines.old }
-    ensures behind { (j : Judgement) → IsNet j net → run_in result ≡ (fed_block (row_size_in j) (file_call j) (length lines.old) (run_in p) block.now).1 }
-{
-    let t = answer_block(net, p, block, lines);
-    let next = t.progress;
-    put_first(rt, lines, t.length);
-    next
+// The run behind a block, and whether all its lines were taken.
+#[derive(Clone, Copy)]
+struct Behind {
+    progress: Progress,
+    taken: bool,
 }
 
-// Ends where the input does. Nothing says that an input ends, so the turns are counted, from a number that no run uses up.
+// Writes the lines of a block, and gives the run behind it. It asks for the room without which `answer_block` takes nothing.
+fn put_block(rt: &HostRuntime, net: Net, p: Progress, block: &[u8], lines: &mut [u8]) -> Behind
+    requires { longest * length block.now ≤ length lines.old }
+    ensures lines_len_unchanged { length lines.new ≡ length lines.old }
+    ensures behind { (j : Judgement) → IsNet j net → run_in result.progress ≡ (fed_block (row_size_in j) (file_call j) (length lines.old) (run_in p) block.now).1 }
+{
+    let t = answer_block(net, p, block, lines);
+    let taken = put_first(rt, lines, t.length);
+    Behind {
+        progress: t.progress,
+        taken,
+    }
+}
+
+// Ends where the input does, or where nobody reads the lines any more. Nothing says that an input ends, so the turns are counted, from a number
+// that no run uses up.
 fn put_blocks(rt: &HostRuntime, net: Net, first: Progress, block: &mut [u8], lines: &mut [u8])
     requires { longest * length block.old ≤ length lines.old }
 {
@@ -46,7 +56,11 @@ fn put_blocks(rt: &HostRuntime, net: Net, first: Progress, block: &mut [u8], lin
             put_line(rt, last_line(net, p));
             return;
         }
-        p = put_block(rt, net, p, &block[..n], lines);
+        let b = put_block(rt, net, p, &block[..n], lines);
+        if !b.taken {
+            return;
+        }
+        p = b.progress;
         turns -= 1;
     }
 }
