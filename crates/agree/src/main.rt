@@ -1,6 +1,6 @@
 // Runs both runners on the card in the file net.card and the calls of standard input, and prints whether they agree: yes or no; of a refused
 // card, one line: no, number, position. No such file: no bytes. A call is a row as in a rows file, and then the visiting order, a byte a
-// subnet. Of the calls the first 65,536 bytes are read; of a longer card the first INPUT_BYTES decide (long-input in card/proofs/LongInput.antt).
+// subnet. Of the calls the first 65,536 bytes are read; of a longer card the first INPUT_BYTES decide (long_input in card/proofs/LongInput.antt).
 #![tactic(auto)]
 
 use card::INPUT_BYTES;

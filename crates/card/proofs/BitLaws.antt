@@ -14,8 +14,8 @@ use borrow.Author.Tests.{ltb-true, ltb-false}
 use Rattle.card.specs.Bits.{bit, bit_field}
 use Rattle.card.specs.inner.Spans.{span, Span}
 
-pub lt-or-ge : (a b : ℕ) → (a < b) ⊎ (b ≤ a)
-lt-or-ge a b = go (ltb a b) refl
+pub lt_or_ge : (a b : ℕ) → (a < b) ⊎ (b ≤ a)
+lt_or_ge a b = go (ltb a b) refl
   where
     go : (t : Bool) → ltb a b ≡ t → (a < b) ⊎ (b ≤ a)
     go true e = inl (ltb-true a b e)
@@ -61,15 +61,15 @@ field_is f at w v hv hb =
         omega (arith, b, ih, d, g)
 
 -- A bit of the three bytes from byte k on is one of the number that a, b, c make, where the byte that holds it is that one of a, b, c.
-pub three-bit : (bytes : List ℕ) (k a b c : ℕ) → b < 256 → c < 256 → (j : ℕ) → j < 24
+pub three_bit : (bytes : List ℕ) (k a b c : ℕ) → b < 256 → c < 256 → (j : ℕ) → j < 24
     → (j < 8 → get_or bytes k 0 ≡ a) → (8 ≤ j → j < 16 → get_or bytes (k + 1) 0 ≡ b) → (16 ≤ j → get_or bytes (k + 2) 0 ≡ c)
     → bit bytes (8 * k + j) ≡ (65536 * a + (256 * b + c)) / 2 ^ (23 - j) % 2
-three-bit bytes k a b c hb hc j h is-a is_b is_c = split (lt-or-ge j 8) (lt-or-ge j 16) ∙ ap (λ (n : ℕ). n / 2 ^ (23 - j) % 2) (omega arith)
+three_bit bytes k a b c hb hc j h is_a is_b is_c = split (lt_or_ge j 8) (lt_or_ge j 16) ∙ ap (λ (n : ℕ). n / 2 ^ (23 - j) % 2) (omega arith)
   where
     split : (j < 8) ⊎ (8 ≤ j) → (j < 16) ⊎ (16 ≤ j) → bit bytes (8 * k + j) ≡ ((a * 2 ^ 8 + b) * 2 ^ 8 + c) / 2 ^ (23 - j) % 2
     split (inl l) m =
         let e : 23 - j ≡ 8 + (8 + (7 - j)) = omega arith in
-        rw (e, high_bit, high_bit, bit_at, is-a l)
+        rw (e, high_bit, high_bit, bit_at, is_a l)
     split (inr g) (inl l) =
         let i : 8 * k + j ≡ 8 * (k + 1) + (j - 8) = omega arith in
         let e : 23 - j ≡ 8 + (7 - (j - 8)) = omega arith in
@@ -83,52 +83,52 @@ three-bit bytes k a b c hb hc j h is-a is_b is_c = split (lt-or-ge j 8) (lt-or-g
 
 module _ (bytes : List ℕ) (k : ℕ) (h1 : get_or bytes (k + 1) 0 < 256) (h2 : get_or bytes (k + 2) 0 < 256) where
   -- bit j of the span is bit 23 - j of its number
-  pub span-bit : (j : ℕ) → j < 24 → bit bytes (8 * k + j) ≡ span bytes k / 2 ^ (23 - j) % 2
+  pub span_bit : (j : ℕ) → j < 24 → bit bytes (8 * k + j) ≡ span bytes k / 2 ^ (23 - j) % 2
   unfolding span
-  span-bit j h = three-bit bytes k (get_or bytes k 0) (get_or bytes (k + 1) 0) (get_or bytes (k + 2) 0) h1 h2 j h (λ l. refl) (λ g l. refl) (λ g. refl)
+  span_bit j h = three_bit bytes k (get_or bytes k 0) (get_or bytes (k + 1) 0) (get_or bytes (k + 2) 0) h1 h2 j h (λ l. refl) (λ g l. refl) (λ g. refl)
 
   -- the field of w bits from bit o of the span on
-  pub span-field : (o w : ℕ) → o + w ≤ 24 → bit_field (bit bytes) (8 * k + o) w ≡ span bytes k / 2 ^ (24 - (o + w)) % 2 ^ w
-  span-field o w h =
+  pub span_field : (o w : ℕ) → o + w ≤ 24 → bit_field (bit bytes) (8 * k + o) w ≡ span bytes k / 2 ^ (24 - (o + w)) % 2 ^ w
+  span_field o w h =
       field_is (bit bytes) (8 * k + o) w (span bytes k / 2 ^ s % 2 ^ w) (mod-lt (span bytes k / 2 ^ s) (pow_pos w))
       (λ m l.
       let i : 8 * k + o + m ≡ 8 * k + (o + m) = omega arith in
       let e : s + (w - 1 - m) ≡ 23 - (o + m) = omega arith in
-      rw (i, low_digit (span bytes k / 2 ^ s) w (w - 1 - m) (omega arith), shr-shr (span bytes k) s (w - 1 - m), e) (span-bit (o + m) (omega arith)))
+      rw (i, low_digit (span bytes k / 2 ^ s) w (w - 1 - m) (omega arith), shr-shr (span bytes k) s (w - 1 - m), e) (span_bit (o + m) (omega arith)))
     where
       s : ℕ
       s = 24 - (o + w)
 
 -- a field as the code reads it: p and q are its powers of two
-pub field-read : (bytes : List ℕ) (at w x p q : ℕ) → Span bytes (at / 8) x → p ≡ 2 ^ (24 - (at % 8 + w)) → q ≡ 2 ^ w → w ≤ 16
+pub field_read : (bytes : List ℕ) (at w x p q : ℕ) → Span bytes (at / 8) x → p ≡ 2 ^ (24 - (at % 8 + w)) → q ≡ 2 ^ w → w ≤ 16
     → x / p % q ≡ bit_field (bit bytes) at w
-field-read bytes at w x p q h ep eq hw =
+field_read bytes at w x p q h ep eq hw =
     let e : 8 * (at / 8) + at % 8 ≡ at = omega arith in
-    rw (ep, eq, h.is) (sym (rw e at (span-field bytes (at / 8) h.middle h.last (at % 8) w (omega arith))))
+    rw (ep, eq, h.is) (sym (rw e at (span_field bytes (at / 8) h.middle h.last (at % 8) w (omega arith))))
 
 -- a field looks at its own bits alone
-pub field-local : (f g : ℕ → ℕ) (at w : ℕ) → ((i : ℕ) → at ≤ i → i < at + w → f i ≡ g i) → bit_field f at w ≡ bit_field g at w
+pub field_local : (f g : ℕ → ℕ) (at w : ℕ) → ((i : ℕ) → at ≤ i → i < at + w → f i ≡ g i) → bit_field f at w ≡ bit_field g at w
 unfolding bit_field
-field-local f g at zero h = refl
-field-local f g at (suc w) h =
-    omega (arith, h (at + w) (omega arith) (omega arith), field-local f g at w (λ i l u. h i l (omega arith)))
+field_local f g at zero h = refl
+field_local f g at (suc w) h =
+    omega (arith, h (at + w) (omega arith) (omega arith), field_local f g at w (λ i l u. h i l (omega arith)))
 
 -- two fields side by side make one
-pub field-join : (f : ℕ → ℕ) (at a b : ℕ) → bit_field f at (a + b) ≡ bit_field f at a * 2 ^ b + bit_field f (at + a) b
+pub field_join : (f : ℕ → ℕ) (at a b : ℕ) → bit_field f at (a + b) ≡ bit_field f at a * 2 ^ b + bit_field f (at + a) b
 unfolding bit_field
-field-join f at a zero = omega (arith, ap (bit_field f at) (add-zero a))
-field-join f at a (suc b) =
+field_join f at a zero = omega (arith, ap (bit_field f at) (add-zero a))
+field_join f at a (suc b) =
     let q : a + suc b ≡ suc (a + b) = omega arith in
     let i : f (at + (a + b)) ≡ f (at + a + b) = ap f (omega arith) in
     let d : bit_field f at a * 2 ^ suc b ≡ 2 * (bit_field f at a * 2 ^ b) = rw pow-suc (omega arith) in
-    rw q (omega (arith, field-join f at a b, i, d))
+    rw q (omega (arith, field_join f at a b, i, d))
 
 -- two fields that are equal have the same bits
-pub field-bits : (f g : ℕ → ℕ) → ((i : ℕ) → f i < 2) → ((i : ℕ) → g i < 2) → (at w : ℕ) → bit_field f at w ≡ bit_field g at w
+pub field_bits : (f g : ℕ → ℕ) → ((i : ℕ) → f i < 2) → ((i : ℕ) → g i < 2) → (at w : ℕ) → bit_field f at w ≡ bit_field g at w
     → (i : ℕ) → at ≤ i → i < at + w → f i ≡ g i
 unfolding bit_field
-field-bits f g hf hg at zero e i l u = absurd (omega arith)
-field-bits f g hf hg at (suc w) e i l u = go (lt-or-ge i (at + w)) (field-bits f g hf hg at w (omega (arith, hf (at + w), hg (at + w))) i l)
+field_bits f g hf hg at zero e i l u = absurd (omega arith)
+field_bits f g hf hg at (suc w) e i l u = go (lt_or_ge i (at + w)) (field_bits f g hf hg at w (omega (arith, hf (at + w), hg (at + w))) i l)
   where
     go : (i < at + w) ⊎ (at + w ≤ i) → (i < at + w → f i ≡ g i) → f i ≡ g i
     go (inl h) k = k h
@@ -137,11 +137,11 @@ field-bits f g hf hg at (suc w) e i l u = go (lt-or-ge i (at + w)) (field-bits f
         rw j (omega (arith, e, hf (at + w), hg (at + w)))
 
 -- a byte is the field of its eight bits
-pub byte-field : (bytes : List ℕ) → ((k : ℕ) → get_or bytes k 0 < 256) → (k : ℕ) → get_or bytes k 0 ≡ bit_field (bit bytes) (8 * k) 8
+pub byte_field : (bytes : List ℕ) → ((k : ℕ) → get_or bytes k 0 < 256) → (k : ℕ) → get_or bytes k 0 ≡ bit_field (bit bytes) (8 * k) 8
 unfolding span
-byte-field bytes h k =
+byte_field bytes h k =
     let e : 8 * k + 0 ≡ 8 * k = omega arith in
-    let f : bit_field (bit bytes) (8 * k) 8 ≡ span bytes k / 65536 % 256 = rw e at (span-field bytes k (h (k + 1)) (h (k + 2)) 0 8 (omega arith)) in
+    let f : bit_field (bit bytes) (8 * k) 8 ≡ span bytes k / 65536 % 256 = rw e at (span_field bytes k (h (k + 1)) (h (k + 2)) 0 8 (omega arith)) in
     omega (arith, f, h k, h (k + 1), h (k + 2))
 
 -- bytes, as many and with the same bits, are equal
@@ -149,4 +149,4 @@ pub same_bytes : (a b : List ℕ) → ((k : ℕ) → get_or a k 0 < 256) → ((k
     → ((i : ℕ) → i < 8 * length a → bit a i ≡ bit b i) → a ≡ b
 same_bytes a b ha hb el h =
     ext_get_or 0 a b el
-    (λ k l. byte-field a ha k ∙ field-local (bit a) (bit b) (8 * k) 8 (λ i x y. h i (omega arith)) ∙ sym (byte-field b hb k))
+    (λ k l. byte_field a ha k ∙ field_local (bit a) (bit b) (8 * k) 8 (λ i x y. h i (omega arith)) ∙ sym (byte_field b hb k))

@@ -17,7 +17,7 @@ use Rattle.card.specs.declared.layout.Move.{Move}
 use Rattle.card.specs.declared.layout.Move.TheVariants.{More, Done, Bad}
 use Rattle.card.specs.Tables.{table_size, card_bits}
 use Rattle.card.specs.Writing.{bits_before}
-use Rattle.card.proofs.Decides.{le_is, and_is, some_unless-is}
+use Rattle.card.proofs.Decides.{le_is, and_is, some_unless_is}
 use Rattle.card.proofs.Shape.{One, times, arc_s, place_s, transition_s, subnets_s, card_s}
 
 abbrev SaneMove : Move → Type 0
@@ -25,47 +25,47 @@ SaneMove (More m) = Sane m
 SaneMove (Done k) = Unit {0}
 SaneMove (Bad f) = Unit {0}
 
-sane-pick : (b c : Bool) (x y : Move) → c ≡ b → (c ≡ true → SaneMove x) → SaneMove y → SaneMove (pick b x y)
-sane-pick true c x y e h k = h e
-sane-pick false c x y e h k = k
+sane_pick : (b c : Bool) (x y : Move) → c ≡ b → (c ≡ true → SaneMove x) → SaneMove y → SaneMove (pick b x y)
+sane_pick true c x y e h k = h e
+sane_pick false c x y e h k = k
 
 module _ (l : Layout) (v : ℕ) (small : l.subnet + l.subnets ≤ 31) (places : l.places ≤ 255) (transitions : l.transitions ≤ 255) where
-  sane-move : (p : Phase) → headed p l.subnet → fault_at p l v ≡ none → SaneMove (move_at p l v)
+  sane_move : (p : Phase) → headed p l.subnet → fault_at p l v ≡ none → SaneMove (move_at p l v)
   unfolding header subnet
-  sane-move Version h e = record { head = h; subnet = small; places = places; transitions = transitions }
-  sane-move SubnetCount h e =
-      let k = (some_unless-is _ _ _ (and_is _ _ _ _ (le_is 1 v) (le_is v max_subnets))).0 e in
+  sane_move Version h e = record { head = h; subnet = small; places = places; transitions = transitions }
+  sane_move SubnetCount h e =
+      let k = (some_unless_is _ _ _ (and_is _ _ _ _ (le_is 1 v) (le_is v max_subnets))).0 e in
       record { head = tt; subnet = omega (arith, k.1); places = places; transitions = transitions }
-  sane-move SignalCount h e = record { head = tt; subnet = small; places = places; transitions = transitions }
-  sane-move Limit h e = record { head = tt; subnet = small; places = places; transitions = transitions }
-  sane-move Scale h e = record { head = tt; subnet = small; places = places; transitions = transitions }
-  sane-move Parent h e = record { head = tt; subnet = small; places = places; transitions = transitions }
-  sane-move SubnetType h e = record { head = tt; subnet = small; places = places; transitions = transitions }
-  sane-move PlaceCount h e =
-      let k = (some_unless-is _ _ _ (and_is _ _ _ _ (le_is 1 v) (le_is (l.places + v) max_count))).0 e in
+  sane_move SignalCount h e = record { head = tt; subnet = small; places = places; transitions = transitions }
+  sane_move Limit h e = record { head = tt; subnet = small; places = places; transitions = transitions }
+  sane_move Scale h e = record { head = tt; subnet = small; places = places; transitions = transitions }
+  sane_move Parent h e = record { head = tt; subnet = small; places = places; transitions = transitions }
+  sane_move SubnetType h e = record { head = tt; subnet = small; places = places; transitions = transitions }
+  sane_move PlaceCount h e =
+      let k = (some_unless_is _ _ _ (and_is _ _ _ _ (le_is 1 v) (le_is (l.places + v) max_count))).0 e in
       record { head = tt; subnet = small; places = k.1; transitions = transitions }
-  sane-move TransitionCount h e =
-      let k = (some_unless-is _ _ _ (and_is _ _ _ _ (le_is 1 v) (le_is (l.transitions + v) max_count))).0 e in
+  sane_move TransitionCount h e =
+      let k = (some_unless_is _ _ _ (and_is _ _ _ _ (le_is 1 v) (le_is (l.transitions + v) max_count))).0 e in
       record { head = tt; subnet = small; places = places; transitions = k.1 }
-  sane-move Kind h e = record { head = tt; subnet = small; places = places; transitions = transitions }
-  sane-move Capacity h e = record { head = tt; subnet = small; places = places; transitions = transitions }
-  sane-move Tokens h e =
-      sane-pick (ltb 0 l.place_rows) _ _ _ refl (λ q. record { head = tt; subnet = small; places = places; transitions = transitions })
+  sane_move Kind h e = record { head = tt; subnet = small; places = places; transitions = transitions }
+  sane_move Capacity h e = record { head = tt; subnet = small; places = places; transitions = transitions }
+  sane_move Tokens h e =
+      sane_pick (ltb 0 l.place_rows) _ _ _ refl (λ q. record { head = tt; subnet = small; places = places; transitions = transitions })
       (record { head = tt; subnet = small; places = places; transitions = transitions })
-  sane-move Signal h e = record { head = tt; subnet = small; places = places; transitions = transitions }
-  sane-move ArcCount h e = record { head = tt; subnet = small; places = places; transitions = transitions }
-  sane-move Rank h e = record { head = tt; subnet = small; places = places; transitions = transitions }
-  sane-move Direction h e = record { head = tt; subnet = small; places = places; transitions = transitions }
-  sane-move ArcSubnet h e = record { head = tt; subnet = small; places = places; transitions = transitions }
-  sane-move ArcPlace h e = record { head = tt; subnet = small; places = places; transitions = transitions }
-  sane-move Weight h e =
-      sane-pick (ltb 0 l.arc_rows) _ _ _ refl (λ q. record { head = tt; subnet = small; places = places; transitions = transitions })
-      (sane-pick (ltb 0 l.transition_rows) _ _ _ refl (λ q. record { head = tt; subnet = small; places = places; transitions = transitions })
-      (sane-pick (ltb 0 l.subnets) (ltb 0 l.subnets) _ _ refl
+  sane_move Signal h e = record { head = tt; subnet = small; places = places; transitions = transitions }
+  sane_move ArcCount h e = record { head = tt; subnet = small; places = places; transitions = transitions }
+  sane_move Rank h e = record { head = tt; subnet = small; places = places; transitions = transitions }
+  sane_move Direction h e = record { head = tt; subnet = small; places = places; transitions = transitions }
+  sane_move ArcSubnet h e = record { head = tt; subnet = small; places = places; transitions = transitions }
+  sane_move ArcPlace h e = record { head = tt; subnet = small; places = places; transitions = transitions }
+  sane_move Weight h e =
+      sane_pick (ltb 0 l.arc_rows) _ _ _ refl (λ q. record { head = tt; subnet = small; places = places; transitions = transitions })
+      (sane_pick (ltb 0 l.transition_rows) _ _ _ refl (λ q. record { head = tt; subnet = small; places = places; transitions = transitions })
+      (sane_pick (ltb 0 l.subnets) (ltb 0 l.subnets) _ _ refl
       (λ q. record { head = tt; subnet = omega (arith, ltb-true 0 l.subnets q); places = places; transitions = transitions }) tt))
 
-pub sane-step : (l m : Layout) (v : ℕ) → Sane l → step_of l v ≡ More m → Sane m
-sane-step l m v s e = go (fault_at l.phase l v) refl e
+pub sane_step : (l m : Layout) (v : ℕ) → Sane l → step_of l v ≡ More m → Sane m
+sane_step l m v s e = go (fault_at l.phase l v) refl e
   where
     move : (x : Move) → SaneMove x → x ≡ More m → Sane m
     move (More k) h q = let r : k ≡ m = cc in subst Sane r h
@@ -73,16 +73,16 @@ sane-step l m v s e = go (fault_at l.phase l v) refl e
     move (Bad f) h q = let z : ◌≡◌ {A = ℕ} 0 1 = cc in absurd (omega arith)
 
     go : (x : Option FormatFault) → fault_at l.phase l v ≡ x → or_bad x (move_at l.phase l v) ≡ More m → Sane m
-    go none p q = move (move_at l.phase l v) (sane-move l v s.subnet s.places s.transitions l.phase s.head p) q
+    go none p q = move (move_at l.phase l v) (sane_move l v s.subnet s.places s.transitions l.phase s.head p) q
     go (some f) p q = let z : ◌≡◌ {A = ℕ} 0 1 = cc in absurd (omega arith)
 
-pub sane-start : Sane start_of
-sane-start = record { head = refl; subnet = omega arith; places = omega arith; transitions = omega arith }
+pub sane_start : Sane start_of
+sane_start = record { head = refl; subnet = omega arith; places = omega arith; transitions = omega arith }
 
 -- a field that a version brings is no wider than it is from that version on
-pub since-small : (first width version : ℕ) → since first width version ≤ width
+pub since_small : (first width version : ℕ) → since first width version ≤ width
 unfolding since
-since-small first width version = go (ltb version first)
+since_small first width version = go (ltb version first)
   where
     go : (b : Bool) → cond b 0 width ≤ width
     go true = omega arith
@@ -100,35 +100,35 @@ Budget (get w value fault next) zero b = ⊥
 Budget (get w value fault next) (suc n) b = (w ≤ b) × ((v : ℕ) → v < 2 ^ w → fault v ≡ none → Budget (next v) n (b - w))
 
 module _ {A : Type 0} where
-  pub budget-more : (m : Format One A) (i j a b : ℕ) → i ≤ j → a ≤ b → Budget m i a → Budget m j b
-  budget-more (done x) i j a b l k h = tt
-  budget-more (get w value fault next) zero j a b l k h = absurd h
-  budget-more (get w value fault next) (suc i) zero a b l k h = absurd (omega arith)
-  budget-more (get w value fault next) (suc i) (suc j) a b l k h = (omega (arith, h.0), λ v m e. budget-more (next v) i j (a - w) (b - w) (omega arith) (omega arith) (h.1 v m e))
+  pub budget_more : (m : Format One A) (i j a b : ℕ) → i ≤ j → a ≤ b → Budget m i a → Budget m j b
+  budget_more (done x) i j a b l k h = tt
+  budget_more (get w value fault next) zero j a b l k h = absurd h
+  budget_more (get w value fault next) (suc i) zero a b l k h = absurd (omega arith)
+  budget_more (get w value fault next) (suc i) (suc j) a b l k h = (omega (arith, h.0), λ v m e. budget_more (next v) i j (a - w) (b - w) (omega arith) (omega arith) (h.1 v m e))
 
-  budget-arc : (k : Format One A) (n b : ℕ) → Budget k n b → Budget (arc_s k) (n + 4) (b + 22)
+  budget_arc : (k : Format One A) (n b : ℕ) → Budget k n b → Budget (arc_s k) (n + 4) (b + 22)
   unfolding arc
-  budget-arc k n b h =
+  budget_arc k n b h =
       let q : n + 4 ≡ suc (suc (suc (suc n))) = omega arith in
-      rw q (omega arith, λ d ld ed. (omega arith, λ s ls es. (omega arith, λ p lp ep. (omega arith, λ w lw ew. budget-more k n n b (b + 22 - 1 - 5 - 8 - 8) (omega arith) (omega arith) h))))
+      rw q (omega arith, λ d ld ed. (omega arith, λ s ls es. (omega arith, λ p lp ep. (omega arith, λ w lw ew. budget_more k n n b (b + 22 - 1 - 5 - 8 - 8) (omega arith) (omega arith) h))))
 
-  budget-place : (s : ℕ) (k : Format One A) (n b : ℕ) → Budget k n b → Budget (place_s s k) (n + 3) (b + 18)
+  budget_place : (s : ℕ) (k : Format One A) (n b : ℕ) → Budget k n b → Budget (place_s s k) (n + 3) (b + 18)
   unfolding place
-  budget-place s k n b h =
+  budget_place s k n b h =
       let q : n + 3 ≡ suc (suc (suc n)) = omega arith in
-      rw q (omega arith, λ d ld ed. (omega arith, λ c lc ec. (omega arith, λ t lt et. budget-more k n n b (b + 18 - 2 - 8 - 8) (omega arith) (omega arith) h)))
+      rw q (omega arith, λ d ld ed. (omega arith, λ c lc ec. (omega arith, λ t lt et. budget_more k n n b (b + 18 - 2 - 8 - 8) (omega arith) (omega arith) h)))
 
-  budget-times : (one : Format One A → Format One A) (cost wide : ℕ) → ((k : Format One A) (n b : ℕ) → Budget k n b → Budget (one k) (n + cost) (b + wide))
+  budget_times : (one : Format One A → Format One A) (cost wide : ℕ) → ((k : Format One A) (n b : ℕ) → Budget k n b → Budget (one k) (n + cost) (b + wide))
       → (c : ℕ) (k : Format One A) (n b : ℕ) → Budget k n b → Budget (times c one k) (n + c * cost) (b + c * wide)
-  budget-times one cost wide f zero k n b h = budget-more k n (n + 0 * cost) b (b + 0 * wide) (omega arith) (omega arith) h
-  budget-times one cost wide f (suc c) k n b h =
+  budget_times one cost wide f zero k n b h = budget_more k n (n + 0 * cost) b (b + 0 * wide) (omega arith) (omega arith) h
+  budget_times one cost wide f (suc c) k n b h =
       let q : n + suc c * cost ≡ n + c * cost + cost = omega arith in
       let r : b + suc c * wide ≡ b + c * wide + wide = omega arith in
-      rw (q, r) (f (times c one k) (n + c * cost) (b + c * wide) (budget-times one cost wide f c k n b h))
+      rw (q, r) (f (times c one k) (n + c * cost) (b + c * wide) (budget_times one cost wide f c k n b h))
 
-  budget-transition : (v g : ℕ) (k : Format One A) (n b : ℕ) → Budget k n b → Budget (transition_s v g k) (n + 127) (b + (693 + rank_width v))
+  budget_transition : (v g : ℕ) (k : Format One A) (n b : ℕ) → Budget k n b → Budget (transition_s v g k) (n + 127) (b + (693 + rank_width v))
   unfolding transition
-  budget-transition v g k n b h =
+  budget_transition v g k n b h =
       let q : n + 127 ≡ suc (suc (suc (n + 124))) = omega arith in
       rw q (
         omega arith,
@@ -137,7 +137,7 @@ module _ {A : Type 0} where
           λ a la ea. (
             omega arith,
             λ r lr er.
-                budget-more (times a arc_s k) (n + a * 4) (n + 124) (b + a * 22) (b + (693 + rank_width v) - 6 - 5 - rank_width v) (omega (arith, la)) (omega (arith, la)) (budget-times arc_s 4 22 budget-arc a k n b h),
+                budget_more (times a arc_s k) (n + a * 4) (n + 124) (b + a * 22) (b + (693 + rank_width v) - 6 - 5 - rank_width v) (omega (arith, la)) (omega (arith, la)) (budget_times arc_s 4 22 budget_arc a k n b h),
           ),
         ),
       )
@@ -150,11 +150,11 @@ pay : (n a b x y : ℕ) → n * 26 + a + b + y + x ≤ suc n * 26 + (a + x) + (b
 pay n a b x y = omega arith
 
 -- places and transitions that are still free pay for theirs
-pub budget-subnets : (v g n s p t : ℕ) → p ≤ max_count → t ≤ max_count
+pub budget_subnets : (v g n s p t : ℕ) → p ≤ max_count → t ≤ max_count
     → Budget (subnets_s v g n s p t) (n * 4 + (max_count - p) * 3 + (max_count - t) * 127) (n * 26 + (max_count - p) * 18 + (max_count - t) * (693 + rank_width v))
 unfolding subnets_s subnet
-budget-subnets v g zero s p t lp lt = tt
-budget-subnets v g (suc n) s p t lp lt =
+budget_subnets v g zero s p t lp lt = tt
+budget_subnets v g (suc n) s p t lp lt =
     let wide = 693 + rank_width v in
     let q : suc n * 4 + (max_count - p) * 3 + (max_count - t) * 127 ≡ suc (suc (suc (suc (n * 4 + (max_count - p) * 3 + (max_count - t) * 127)))) = omega arith in
     rw q (
@@ -166,37 +166,37 @@ budget-subnets v g (suc n) s p t lp lt =
           λ places c1 c2. (
             omega arith,
             λ transitions d1 d2.
-                let x = (some_unless-is _ _ _ (and_is _ _ _ _ (le_is 1 places) (le_is (p + places) max_count))).0 c2 in
-                let y = (some_unless-is _ _ _ (and_is _ _ _ _ (le_is 1 transitions) (le_is (t + transitions) max_count))).0 d2 in
-                let r = budget-subnets v g n (suc s) (p + places) (t + transitions) x.1 y.1 in
-                let u = budget-times (transition_s v g) 127 wide (budget-transition v g) transitions (subnets_s v g n (suc s) (p + places) (t + transitions)) _ _ r in
-                budget-more (times places (place_s s) (times transitions (transition_s v g) (subnets_s v g n (suc s) (p + places) (t + transitions)))) _ _ _ _
+                let x = (some_unless_is _ _ _ (and_is _ _ _ _ (le_is 1 places) (le_is (p + places) max_count))).0 c2 in
+                let y = (some_unless_is _ _ _ (and_is _ _ _ _ (le_is 1 transitions) (le_is (t + transitions) max_count))).0 d2 in
+                let r = budget_subnets v g n (suc s) (p + places) (t + transitions) x.1 y.1 in
+                let u = budget_times (transition_s v g) 127 wide (budget_transition v g) transitions (subnets_s v g n (suc s) (p + places) (t + transitions)) _ _ r in
+                budget_more (times places (place_s s) (times transitions (transition_s v g) (subnets_s v g n (suc s) (p + places) (t + transitions)))) _ _ _ _
                 (omega (arith, x.1, y.1)) (rw (spend max_count p places 18 x.1, spend max_count t transitions wide y.1) (pay n _ _ _ _))
-                (budget-times (place_s s) 3 18 (budget-place s) places _ _ _ u),
+                (budget_times (place_s s) 3 18 (budget_place s) places _ _ _ u),
           ),
         ),
       ),
     )
 
 -- NO CARD HAS MORE FIELDS THAN THE TABLE, NOR MORE BITS THAN card_bits
-pub budget-card : Budget card_s table_size card_bits
+pub budget_card : Budget card_s table_size card_bits
 unfolding card_s header
-budget-card = (
+budget_card = (
   omega arith,
   λ version a1 a2. (
     omega arith,
     λ subnets b1 b2. (
       omega arith,
       λ signals c1 c2.
-          let x = (some_unless-is _ _ _ (and_is _ _ _ _ (le_is 1 subnets) (le_is subnets max_subnets))).0 b2 in
-          let v = (some_unless-is _ _ _ (and_is _ _ _ _ (le_is 1 version) (le_is version max_version))).0 a2 in
+          let x = (some_unless_is _ _ _ (and_is _ _ _ _ (le_is 1 subnets) (le_is subnets max_subnets))).0 b2 in
+          let v = (some_unless_is _ _ _ (and_is _ _ _ _ (le_is 1 version) (le_is version max_version))).0 a2 in
           let none : (first width : ℕ) → max_version < first → since first width version ≡ 0 = λ first width l. since_none first width version (omega (arith, v.1)) in (
             omega (arith, none 4 8 (omega arith)),
             λ limit d1 d2. (
               omega (arith, none 4 8 (omega arith), none 5 14 (omega arith)),
               λ scale e1 e2.
-                  budget-more (subnets_s version signals subnets 0 0 0) (subnets * 4 + (max_count - 0) * 3 + (max_count - 0) * 127) (table_size - 5) (subnets * 26 + (max_count - 0) * 18 + (max_count - 0) * (693 + rank_width version)) _
-                  (omega (arith, x.1)) (omega (arith, x.1, none 3 8 (omega arith), none 4 8 (omega arith), none 5 14 (omega arith))) (budget-subnets version signals subnets 0 0 0 (omega arith) (omega arith)),
+                  budget_more (subnets_s version signals subnets 0 0 0) (subnets * 4 + (max_count - 0) * 3 + (max_count - 0) * 127) (table_size - 5) (subnets * 26 + (max_count - 0) * 18 + (max_count - 0) * (693 + rank_width version)) _
+                  (omega (arith, x.1)) (omega (arith, x.1, none 3 8 (omega arith), none 4 8 (omega arith), none 5 14 (omega arith))) (budget_subnets version signals subnets 0 0 0 (omega arith) (omega arith)),
             ),
           ),
     ),
@@ -204,6 +204,6 @@ budget-card = (
 )
 
 -- what they are: those of a card of the newest version with the most rows
-pub most-bits : card_bits ≡ bits_before max_version max_subnets max_count max_count (max_arcs * max_count)
+pub most_bits : card_bits ≡ bits_before max_version max_subnets max_count max_count (max_arcs * max_count)
 unfolding size header subnet place transition arc since
-most-bits = refl
+most_bits = refl

@@ -15,11 +15,11 @@ copied bytes buffer i = take i bytes ++ drop i buffer
 copied_none : (bytes buffer : List ℕ) → copied bytes buffer 0 ≡ buffer
 copied_none bytes buffer = refl
 
-copied-suc : (bytes buffer : List ℕ) (i : ℕ) → i < length bytes → i < length buffer → set (copied bytes buffer i) i (get_or bytes i 0) ≡ copied bytes buffer (suc i)
-copied-suc [] buffer i h l = absurd (omega arith)
-copied-suc (x ∷ bytes) [] i h l = absurd (omega arith)
-copied-suc (x ∷ bytes) (y ∷ buffer) zero h l = refl
-copied-suc (x ∷ bytes) (y ∷ buffer) (suc i) h l = ap (λ xs. x ∷ xs) (copied-suc bytes buffer i (omega arith) (omega arith))
+copied_suc : (bytes buffer : List ℕ) (i : ℕ) → i < length bytes → i < length buffer → set (copied bytes buffer i) i (get_or bytes i 0) ≡ copied bytes buffer (suc i)
+copied_suc [] buffer i h l = absurd (omega arith)
+copied_suc (x ∷ bytes) [] i h l = absurd (omega arith)
+copied_suc (x ∷ bytes) (y ∷ buffer) zero h l = refl
+copied_suc (x ∷ bytes) (y ∷ buffer) (suc i) h l = ap (λ xs. x ∷ xs) (copied_suc bytes buffer i (omega arith) (omega arith))
 
 copied_all : (bytes buffer : List ℕ) → copied bytes buffer (length bytes) ≡ bytes ++ drop (length bytes) buffer
 copied_all bytes buffer = ap (λ xs. xs ++ drop (length bytes) buffer) (go bytes)
@@ -42,7 +42,7 @@ module _ (bytes buffer out : List ℕ) (i : ℕ) (c : Copying bytes buffer out i
   copy_more l =
       let e : suc i ≡ i + 1 = omega arith in
       record {
-        is = ap (λ xs. set xs i (get_or bytes i 0)) c.is ∙ copied-suc bytes buffer i l (omega (arith, c.room)) ∙ ap (copied bytes buffer) e;
+        is = ap (λ xs. set xs i (get_or bytes i 0)) c.is ∙ copied_suc bytes buffer i l (omega (arith, c.room)) ∙ ap (copied bytes buffer) e;
         room = c.room;
         inside = omega arith;
         long = length-set out i (get_or bytes i 0) ∙ c.long;
@@ -55,9 +55,9 @@ module _ (bytes buffer out : List ℕ) (i : ℕ) (c : Copying bytes buffer out i
       rw (le-leb (length bytes) (length buffer) c.room) (c.is ∙ ap (copied bytes buffer) e ∙ copied_all bytes buffer)
 
 -- a short buffer stays
-pub copy-none : (bytes buffer : List ℕ) → length buffer < length bytes → buffer ≡ put_into bytes buffer
+pub copy_none : (bytes buffer : List ℕ) → length buffer < length bytes → buffer ≡ put_into bytes buffer
 unfolding put_into
-copy-none bytes buffer h = rw (lt-leb (length bytes) (length buffer) h)
+copy_none bytes buffer h = rw (lt-leb (length bytes) (length buffer) h)
 
 -- bytes that have room
 pub put_is : (bytes buffer : List ℕ) → length bytes ≤ length buffer → put_into bytes buffer ≡ bytes ++ drop (length bytes) buffer

@@ -15,9 +15,9 @@ pub field_in : (bytes : List ℕ) (at w : ℕ) → w ≤ 16 → at + w ≤ 8 * l
 unfolding field_at
 field_in bytes at w l m = rw (le-leb w 16 l, le-leb (at + w) (8 * length bytes) m)
 
-pub field-wide : (bytes : List ℕ) (at w : ℕ) → 16 < w → field_at bytes at w ≡ 0
+pub field_wide : (bytes : List ℕ) (at w : ℕ) → 16 < w → field_at bytes at w ≡ 0
 unfolding field_at
-field-wide bytes at w l = rw (lt-leb w 16 l)
+field_wide bytes at w l = rw (lt-leb w 16 l)
 
 pub field_cut : (bytes : List ℕ) (at w : ℕ) → w ≤ 16 → 8 * length bytes < at + w → field_at bytes at w ≡ 0
 unfolding field_at
@@ -33,7 +33,7 @@ both_zero a b = go (eqb a 0) refl (eqb b 0) refl
     go false p true q = sym (ne_eqb (2 * a + b) 0 (λ e. eqb-false a 0 p (omega arith)))
     go false p false q = sym (ne_eqb (2 * a + b) 0 (λ e. eqb-false a 0 p (omega arith)))
 
-pub field-zero : (f : ℕ → ℕ) (at w : ℕ) → every w (λ i. eqb (f (at + i)) 0) ≡ eqb (bit_field f at w) 0
+pub field_zero : (f : ℕ → ℕ) (at w : ℕ) → every w (λ i. eqb (f (at + i)) 0) ≡ eqb (bit_field f at w) 0
 unfolding every bit_field
-field-zero f at zero = refl
-field-zero f at (suc w) = ap (λ (t : Bool). t && eqb (f (at + w)) 0) (field-zero f at w) ∙ both_zero (bit_field f at w) (f (at + w))
+field_zero f at zero = refl
+field_zero f at (suc w) = ap (λ (t : Bool). t && eqb (f (at + w)) 0) (field_zero f at w) ∙ both_zero (bit_field f at w) (f (at + w))

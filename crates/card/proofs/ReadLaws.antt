@@ -27,58 +27,58 @@ use Rattle.card.specs.inner.Reader.{ended_as, IsFilled}
 use Rattle.card.specs.declared.FormatFault.{FormatFault}
 use Rattle.card.specs.declared.FormatFault.TheVariants.{BadFill}
 use Rattle.card.specs.declared.Counts.{Counts}
-use Rattle.card.proofs.Sums.{table-length, table_at}
-use Rattle.card.proofs.Yields.{bit-small, field-small, not-whole}
-use Rattle.card.proofs.BitLaws.{lt-or-ge, field-join}
+use Rattle.card.proofs.Sums.{table_length, table_at}
+use Rattle.card.proofs.Yields.{bit_small, field_small, not_whole}
+use Rattle.card.proofs.BitLaws.{lt_or_ge, field_join}
 use Rattle.card.specs.Index.{Laid, Loaded, starts_size, starts_of}
 use Rattle.card.specs.Wellformed.{Wellformed}
-use Rattle.card.proofs.Ranges.{read-wellformed}
+use Rattle.card.proofs.Ranges.{read_wellformed}
 use Rattle.card.proofs.Positions.{laid}
-use Rattle.card.proofs.IndexLaws.{starts-indexed}
+use Rattle.card.proofs.IndexLaws.{starts_indexed}
 use Rattle.card.proofs.Walk.{Spelt}
-use Rattle.card.proofs.Tied.{tied-card}
+use Rattle.card.proofs.Tied.{tied_card}
 use Rattle.card.proofs.Turn.{zero_in}
-use Rattle.card.proofs.Shape.{numbers_in, part, card_s, counts_of, read-shape, numbers-shape}
+use Rattle.card.proofs.Shape.{numbers_in, part, card_s, counts_of, read_shape, numbers_shape}
 
 -- bytes that spell the fields of u hold its numbers
-spelt-numbers : {U A : Type 0} (bytes : List ℕ) (m : Format U A) (u : U) (at : ℕ) → Spelt bytes at (fields m u) → numbers_in bytes m at ≡ map (λ f. f.value) (fields m u)
+spelt_numbers : {U A : Type 0} (bytes : List ℕ) (m : Format U A) (u : U) (at : ℕ) → Spelt bytes at (fields m u) → numbers_in bytes m at ≡ map (λ f. f.value) (fields m u)
 unfolding fields
-spelt-numbers bytes (done a) u at s = refl
-spelt-numbers bytes (get w value fault next) u at s =
+spelt_numbers bytes (done a) u at s = refl
+spelt_numbers bytes (get w value fault next) u at s =
     let e : bit_field (bit bytes) at w ≡ value u = s.0 in
-    rw (e, spelt-numbers bytes (next (value u)) u (at + w) s.1)
+    rw (e, spelt_numbers bytes (next (value u)) u (at + w) s.1)
 
 -- an arc's three fields before the weight, out of one
-pub head-parts : (bytes : List ℕ) (at v w p q : ℕ) → v ≡ bit_field (bit bytes) at w → w ≡ 14 → p ≡ 2 ^ 8 → q ≡ 2 ^ 5
+pub head_parts : (bytes : List ℕ) (at v w p q : ℕ) → v ≡ bit_field (bit bytes) at w → w ≡ 14 → p ≡ 2 ^ 8 → q ≡ 2 ^ 5
     → (v / p / q ≡ bit_field (bit bytes) at 1) × (v / p % q ≡ bit_field (bit bytes) (at + 1) 5) × (v % p ≡ bit_field (bit bytes) (at + 1 + 5) 8)
-head-parts bytes at v w p q ev ew ep eq =
-    let a = field-join (bit bytes) at 1 13 in
-    let b = field-join (bit bytes) (at + 1) 5 8 in
+head_parts bytes at v w p q ev ew ep eq =
+    let a = field_join (bit bytes) at 1 13 in
+    let b = field_join (bit bytes) (at + 1) 5 8 in
     let e : v ≡ bit_field (bit bytes) at 14 = rw ew at ev in
-    let small = field-small (bit bytes) (bit-small bytes) in
+    let small = field_small (bit bytes) (bit_small bytes) in
     rw (ep, eq) (omega (arith, a, b, e, small (at + 1) 5, small (at + 1 + 5) 8), omega (arith, a, b, e, small (at + 1) 5, small (at + 1 + 5) 8), omega (arith, a, b, e, small (at + 1) 5, small (at + 1 + 5) 8))
 
 -- the shape is refused where the card is
-part-refused : {A B : Type 0} (f : A → B) (x : Parsing A) (n at : ℕ) → part f x ≡ refused n at → x ≡ refused n at
-part-refused f (refused m i) n at e = let p : m ≡ n = cc in let q : i ≡ at = cc in rw (p, q)
-part-refused f (whole a end) n at e = absurd (not-whole _ _ _ _ (sym e))
+part_refused : {A B : Type 0} (f : A → B) (x : Parsing A) (n at : ℕ) → part f x ≡ refused n at → x ≡ refused n at
+part_refused f (refused m i) n at e = let p : m ≡ n = cc in let q : i ≡ at = cc in rw (p, q)
+part_refused f (whole a end) n at e = absurd (not_whole _ _ _ _ (sym e))
 
 pub record Found {A B : Type 0} (f : A → B) (x : Parsing A) (b : B) (end : ℕ) : Type 0 where
   pub value : A
   pub is : x ≡ whole value end
   pub maps : f value ≡ b
 
-part-whole : {A B : Type 0} (f : A → B) (x : Parsing A) (b : B) (end : ℕ) → part f x ≡ whole b end → Found f x b end
-part-whole f (refused m i) b end e = absurd (not-whole _ _ _ _ e)
-part-whole f (whole a i) b end e = let q : i ≡ end = cc in record { value = a; is = ap (whole a) q; maps = cc }
+part_whole : {A B : Type 0} (f : A → B) (x : Parsing A) (b : B) (end : ℕ) → part f x ≡ whole b end → Found f x b end
+part_whole f (refused m i) b end e = absurd (not_whole _ _ _ _ e)
+part_whole f (whole a i) b end e = let q : i ≡ end = cc in record { value = a; is = ap (whole a) q; maps = cc }
 
-zeros-table : (from n : ℕ) → replicate {A = ℕ} n 0 ≡ table from n (λ i. 0)
+zeros_table : (from n : ℕ) → replicate {A = ℕ} n 0 ≡ table from n (λ i. 0)
 unfolding table
-zeros-table from zero = refl
-zeros-table from (suc n) = ap (λ (xs : List ℕ). 0 ∷ xs) (zeros-table (suc from) n)
+zeros_table from zero = refl
+zeros_table from (suc n) = ap (λ (xs : List ℕ). 0 ∷ xs) (zeros_table (suc from) n)
 
-pub blank-table : (n : ℕ) → replicate {A = ℕ} n 0 ≡ table 0 n (λ i. 0)
-blank-table n = zeros-table 0 n
+pub blank_table : (n : ℕ) → replicate {A = ℕ} n 0 ≡ table 0 n (λ i. 0)
+blank_table n = zeros_table 0 n
 
 -- a table is cleared up to entry i
 pub record Cleared (before now : List ℕ) (i : ℕ) : Type 0 where
@@ -87,74 +87,74 @@ pub record Cleared (before now : List ℕ) (i : ℕ) : Type 0 where
   pub zeros : (j : ℕ) → j < i → get_or now j 0 ≡ 0
 
 pub cleared_more : (before t : List ℕ) (i : ℕ) → Cleared before t i → i < length t → Cleared before (set t i 0) (i + 1)
-cleared_more before t i h l = record { long = length-set t i 0 ∙ h.long; low = omega (arith, h.long); zeros = λ j m. go j m (lt-or-ge j i) }
+cleared_more before t i h l = record { long = length-set t i 0 ∙ h.long; low = omega (arith, h.long); zeros = λ j m. go j m (lt_or_ge j i) }
   where
     go : (j : ℕ) → j < i + 1 → (j < i) ⊎ (i ≤ j) → get_or (set t i 0) j 0 ≡ 0
     go j m (inl q) = get_or-set_other t i j 0 0 (λ e. omega arith) ∙ h.zeros j q
     go j m (inr q) = let e : j ≡ i = omega arith in rw e (get_or-set_same t i 0 0 l)
 
-pub cleared-done : (before t : List ℕ) (i : ℕ) → Cleared before t i → length t ≤ i → t ≡ replicate (length before) 0
-cleared-done before t i h l =
+pub cleared_done : (before t : List ℕ) (i : ℕ) → Cleared before t i → length t ≤ i → t ≡ replicate (length before) 0
+cleared_done before t i h l =
     ext_get_or 0 t (replicate (length before) 0) (h.long ∙ sym (length-replicate {A = ℕ} (length before) 0)) (λ j m. h.zeros j (omega arith) ∙ sym (zero_in (length before) j))
 
-pub cleared-all : (t : List ℕ) (bytes n : ℕ) → t ≡ replicate n 0 → has_room bytes n ≡ true → (t ≡ replicate (length t) 0) × (has_room bytes (length t) ≡ true)
-cleared-all t bytes n e h =
+pub cleared_all : (t : List ℕ) (bytes n : ℕ) → t ≡ replicate n 0 → has_room bytes n ≡ true → (t ≡ replicate (length t) 0) × (has_room bytes (length t) ≡ true)
+cleared_all t bytes n e h =
     let q : length t ≡ n = ap length e ∙ length-replicate {A = ℕ} n 0 in
     rw q (e, h)
 
-pub cleared-long : (t u : List ℕ) (n : ℕ) → t ≡ replicate n 0 → length u ≡ length t → length u ≡ n
-cleared-long t u n e q = q ∙ ap length e ∙ length-replicate {A = ℕ} n 0
+pub cleared_long : (t u : List ℕ) (n : ℕ) → t ≡ replicate n 0 → length u ≡ length t → length u ≡ n
+cleared_long t u n e q = q ∙ ap length e ∙ length-replicate {A = ℕ} n 0
 
 -- a table with room for them holds each of a card's numbers
 pub entered : (size : ℕ) (c : Card) → length (numbers_of c) ≤ size → (i : ℕ) → get_or (numbers_table size c) i 0 ≡ get_or (numbers_of c) i 0
 unfolding numbers_table
-entered size c few i = go (lt-or-ge i size)
+entered size c few i = go (lt_or_ge i size)
   where
     go : (i < size) ⊎ (size ≤ i) → get_or (numbers_table size c) i 0 ≡ get_or (numbers_of c) i 0
     go (inl l) = table_at size (λ j. get_or (numbers_of c) j 0) 0 i l
     go (inr l) =
-        get_or-eq_default (numbers_table size c) 0 (omega (arith, table-length 0 size (λ j. get_or (numbers_of c) j 0)))
+        get_or-eq_default (numbers_table size c) 0 (omega (arith, table_length 0 size (λ j. get_or (numbers_of c) j 0)))
         ∙ sym (get_or-eq_default (numbers_of c) 0 (omega (arith, few)))
 
 module _ (bytes : List ℕ) where
-  card-refused : (n at : ℕ) → read bytes card_s 0 ≡ refused n at → read_card bytes ≡ refused n at
+  card_refused : (n at : ℕ) → read bytes card_s 0 ≡ refused n at → read_card bytes ≡ refused n at
   unfolding read_card
-  card-refused n at e = rw (part-refused counts_of (read bytes card 0) n at (sym (read-shape bytes) ∙ e))
+  card_refused n at e = rw (part_refused counts_of (read bytes card 0) n at (sym (read_shape bytes) ∙ e))
 
   -- the walk is refused
-  pub refused-is : (f : FormatFault) (at : ℕ) (t : List ℕ) → read bytes card_s 0 ≡ refused (number f) at → IsFilled (read_card bytes) (Refused f at) t
-  refused-is f at t e = rw (card-refused (number f) at e) (record { answer = refl; table = λ c end q. absurd (not-whole _ _ _ _ q); fits = λ c end q. absurd (not-whole _ _ _ _ q) })
+  pub refused_is : (f : FormatFault) (at : ℕ) (t : List ℕ) → read bytes card_s 0 ≡ refused (number f) at → IsFilled (read_card bytes) (Refused f at) t
+  refused_is f at t e = rw (card_refused (number f) at e) (record { answer = refl; table = λ c end q. absurd (not_whole _ _ _ _ q); fits = λ c end q. absurd (not_whole _ _ _ _ q) })
 
   found : (k : Counts) (end : ℕ) → read bytes card_s 0 ≡ whole k end → Found counts_of (read bytes card 0) k end
-  found k end e = part-whole counts_of (read bytes card 0) k end (sym (read-shape bytes) ∙ e)
+  found k end e = part_whole counts_of (read bytes card 0) k end (sym (read_shape bytes) ∙ e)
 
   -- something follows the card
-  excess-is : (k : Counts) (end i : ℕ) (t : List ℕ) → read bytes card_s 0 ≡ whole k end → excess bytes end ≡ some i → IsFilled (read_card bytes) (Refused BadFill i) t
+  excess_is : (k : Counts) (end i : ℕ) (t : List ℕ) → read bytes card_s 0 ≡ whole k end → excess bytes end ≡ some i → IsFilled (read_card bytes) (Refused BadFill i) t
   unfolding read_card
-  excess-is k end i t e x =
+  excess_is k end i t e x =
       let f = found k end e in
-      rw (f.is, x) (record { answer = refl; table = λ c m q. absurd (not-whole _ _ _ _ q); fits = λ c m q. absurd (not-whole _ _ _ _ q) })
+      rw (f.is, x) (record { answer = refl; table = λ c m q. absurd (not_whole _ _ _ _ q); fits = λ c m q. absurd (not_whole _ _ _ _ q) })
 
   -- the table is that of the card's numbers
   table_is : (t : List ℕ) (n : ℕ) (c : Card) → ((i : ℕ) → n ≤ i → get_or t i 0 ≡ 0) → take n t ≡ numbers_of c → t ≡ numbers_table (length t) c
   unfolding numbers_table
   table_is t n c zeros e =
-      ext_get_or 0 t _ (sym (table-length 0 (length t) _)) (λ i l. at i l (lt-or-ge i n) ∙ sym (table_at (length t) (λ j. get_or (numbers_of c) j 0) 0 i l))
+      ext_get_or 0 t _ (sym (table_length 0 (length t) _)) (λ i l. at i l (lt_or_ge i n) ∙ sym (table_at (length t) (λ j. get_or (numbers_of c) j 0) 0 i l))
     where
       at : (i : ℕ) → i < length t → (i < n) ⊎ (n ≤ i) → get_or t i 0 ≡ get_or (numbers_of c) i 0
       at i l (inl m) = sym (get_or-take n t i 0 m) ∙ ap (λ xs. get_or xs i 0) e
       at i l (inr m) = zeros i m ∙ sym (ap (λ xs. get_or xs i 0) (sym e) ∙ get_or-eq_default (take n t) 0 (omega (arith, length-take n t)))
 
-  numbers-are : (c : Card) (end : ℕ) → read bytes card 0 ≡ whole c end → numbers_in bytes card 0 ≡ numbers_of c
+  numbers_are : (c : Card) (end : ℕ) → read bytes card 0 ≡ whole c end → numbers_in bytes card 0 ≡ numbers_of c
   unfolding numbers_of
-  numbers-are c end r = spelt-numbers bytes card c 0 (tied-card bytes c end r).spelt
+  numbers_are c end r = spelt_numbers bytes card c 0 (tied_card bytes c end r).spelt
 
   whole_is : (k : Counts) (end n : ℕ) (t : List ℕ) → read bytes card_s 0 ≡ whole k end → excess bytes end ≡ none → ((i : ℕ) → n ≤ i → get_or t i 0 ≡ 0)
       → take n t ≡ numbers_in bytes card_s 0 → IsFilled (read_card bytes) (Whole k) t
   unfolding read_card
   whole_is k end n t e x zeros v =
       let f = found k end e in
-      let numbers : take n t ≡ numbers_of f.value = v ∙ numbers-shape bytes ∙ numbers-are f.value end f.is in
+      let numbers : take n t ≡ numbers_of f.value = v ∙ numbers_shape bytes ∙ numbers_are f.value end f.is in
       let is : t ≡ numbers_table (length t) f.value = table_is t n f.value zeros numbers in
       let few : length (numbers_of f.value) ≤ length t = omega (arith, length-take n t, ap length numbers) in
       rw (f.is, x) (record {
@@ -169,52 +169,52 @@ module _ (bytes : List ℕ) where
     where
       go : (x : Option ℕ) → excess bytes end ≡ x → IsFilled (read_card bytes) (ended_as x k) t
       go none q = whole_is k end n t e q zeros v
-      go (some i) q = excess-is k end i t e q
+      go (some i) q = excess_is k end i t e q
 
   -- what is made of it: of a refused card, tables of zeros
-  pub fill-refused : (a : ReadAnswer) (f : FormatFault) (at size : ℕ) (t t' : List ℕ) → IsFilled (read_card bytes) a t → a ≡ Refused f at → t' ≡ replicate size 0
+  pub fill_refused : (a : ReadAnswer) (f : FormatFault) (at size : ℕ) (t t' : List ℕ) → IsFilled (read_card bytes) a t → a ≡ Refused f at → t' ≡ replicate size 0
       → IsRead (read_card bytes) (record { answer = a; starts = replicate starts_size 0 }) × IsTable (read_card bytes) size t'
-  fill-refused a f at size t t' h e z = go (read_card bytes) h.answer (sym (ap read_outcome e) ∙ h.answer)
+  fill_refused a f at size t t' h e z = go (read_card bytes) h.answer (sym (ap read_outcome e) ∙ h.answer)
     where
       go : (x : Parsing Card) → read_outcome a ≡ outcome_of x → read_outcome (Refused f at) ≡ outcome_of x → IsRead x (record { answer = a; starts = replicate starts_size 0 }) × IsTable x size t'
-      go (refused n i) p q = (record { answer = p; starts = blank-table starts_size }, record { is = z ∙ blank-table size; fits = λ c end r. absurd (not-whole _ _ _ _ r) })
+      go (refused n i) p q = (record { answer = p; starts = blank_table starts_size }, record { is = z ∙ blank_table size; fits = λ c end r. absurd (not_whole _ _ _ _ r) })
       go (whole c end) p q = absurd (let z : ◌≡◌ {A = ℕ} 0 1 = cc in omega arith)
 
-  pub fill-whole : (a : ReadAnswer) (k : Counts) (size : ℕ) (t starts : List ℕ) → IsFilled (read_card bytes) a t → a ≡ Whole k → length t ≡ size
+  pub fill_whole : (a : ReadAnswer) (k : Counts) (size : ℕ) (t starts : List ℕ) → IsFilled (read_card bytes) a t → a ≡ Whole k → length t ≡ size
       → ((c : Card) → Wellformed c → Laid c t → k.subnets ≡ length c.subnets → starts ≡ starts_of c)
       → IsRead (read_card bytes) (record { answer = Whole k; starts = starts }) × IsTable (read_card bytes) size t
-  fill-whole a k size t starts h e long g = go (read_card bytes) refl (sym (ap read_outcome e) ∙ h.answer)
+  fill_whole a k size t starts h e long g = go (read_card bytes) refl (sym (ap read_outcome e) ∙ h.answer)
     where
       go : (x : Parsing Card) → read_card bytes ≡ x → read_outcome (Whole k) ≡ outcome_of x → IsRead x (record { answer = Whole k; starts = starts }) × IsTable x size t
       go (refused n i) p q = absurd (let z : ◌≡◌ {A = ℕ} 0 1 = cc in omega arith)
       go (whole c end) p q =
           let is = h.table c end p in
           let few = h.fits c end p in
-          let w = read-wellformed bytes c end p in (
+          let w = read_wellformed bytes c end p in (
             record { answer = q; starts = g c w (subst (Laid c) (sym is) (laid c w (numbers_table (length t) c) (entered (length t) c few))) cc },
             record { is = is ∙ ap (λ (n : ℕ). numbers_table n c) long; fits = λ d m y. subst (λ (z : Card). length (numbers_of z) ≤ size) (let z : c ≡ d = cc in z) (omega (arith, few, long)) },
           )
 
 -- a lent table has room, or is as it was
-pub lent-filled : (x : Parsing Card) (room : Bool) (before after : List ℕ) → room ≡ true → IsTable x (length before) after → IsLent x room before after
-lent-filled x room before after e h = rw e h
+pub lent_filled : (x : Parsing Card) (room : Bool) (before after : List ℕ) → room ≡ true → IsTable x (length before) after → IsLent x room before after
+lent_filled x room before after e h = rw e h
 
 pub lent_is : (x : Parsing Card) (room : Bool) (before after : List ℕ) → IsLent x room before after → room ≡ true → IsTable x (length before) after
 lent_is x room before after h e = subst (λ (b : Bool). IsLent x b before after) e h
 
-pub lent-kept : (x : Parsing Card) (room : Bool) (before : List ℕ) → room ≡ false → IsLent x room before before
-lent-kept x room before e = rw e refl
+pub lent_kept : (x : Parsing Card) (room : Bool) (before : List ℕ) → room ≡ false → IsLent x room before before
+lent_kept x room before e = rw e refl
 
--- `tables-loaded`: THE TWO TABLES OF A CARD HOLD ITS ROWS
-pub tables-loaded : (size : ℕ) (c : Card) → Wellformed c → length (numbers_of c) ≤ size → Loaded c (numbers_table size c) (starts_of c)
-tables-loaded size c w few = record { laid = laid c w (numbers_table size c) (entered size c few); indexed = starts-indexed c w }
+-- `tables_loaded`: THE TWO TABLES OF A CARD HOLD ITS ROWS
+pub tables_loaded : (size : ℕ) (c : Card) → Wellformed c → length (numbers_of c) ≤ size → Loaded c (numbers_table size c) (starts_of c)
+tables_loaded size c w few = record { laid = laid c w (numbers_table size c) (entered size c few); indexed = starts_indexed c w }
 
-pub read-loaded : (bytes : List ℕ) (c : Card) (end size : ℕ) (numbers starts : List ℕ) → read_card bytes ≡ whole c end → starts ≡ starts_read (read_card bytes)
+pub read_loaded : (bytes : List ℕ) (c : Card) (end size : ℕ) (numbers starts : List ℕ) → read_card bytes ≡ whole c end → starts ≡ starts_read (read_card bytes)
     → IsTable (read_card bytes) size numbers → Loaded c numbers starts
-read-loaded bytes c end size numbers starts e s h =
+read_loaded bytes c end size numbers starts e s h =
     let g : IsTable (whole c end) size numbers = subst (λ (x : Parsing Card). IsTable x size numbers) e h in
     let q : starts ≡ starts_of c = s ∙ ap starts_read e in
-    rw (g.is, q) (tables-loaded size c (read-wellformed bytes c end e) (g.fits c end refl))
+    rw (g.is, q) (tables_loaded size c (read_wellformed bytes c end e) (g.fits c end refl))
 
 -- nothing is in excess up to bit i
 pub record Checked (bytes : List ℕ) (end i : ℕ) : Type 0 where
@@ -223,35 +223,35 @@ pub record Checked (bytes : List ℕ) (end i : ℕ) : Type 0 where
   pub left : lowest end (8 * bytes_for end - end) (λ j. eqb (bit bytes j) 1) ≡ lowest i (8 * bytes_for end - i) (λ j. eqb (bit bytes j) 1)
 
 module _ (bytes : List ℕ) (end : ℕ) where
-  pub checked-start : Checked bytes end end
-  checked-start = record { low = omega arith; high = omega arith; left = refl }
+  pub checked_start : Checked bytes end end
+  checked_start = record { low = omega arith; high = omega arith; left = refl }
 
   one_field : (i : ℕ) → bit_field (bit bytes) i 1 ≡ bit bytes i
   unfolding bit_field
   one_field i = omega (arith, ap (bit bytes) (add-zero i))
 
-  step-out : (i : ℕ) → i < 8 * bytes_for end → lowest i (8 * bytes_for end - i) (λ j. eqb (bit bytes j) 1) ≡ some_if (eqb (bit bytes i) 1) i otherwise lowest (i + 1) (8 * bytes_for end - (i + 1)) (λ j. eqb (bit bytes j) 1)
+  step_out : (i : ℕ) → i < 8 * bytes_for end → lowest i (8 * bytes_for end - i) (λ j. eqb (bit bytes j) 1) ≡ some_if (eqb (bit bytes i) 1) i otherwise lowest (i + 1) (8 * bytes_for end - (i + 1)) (λ j. eqb (bit bytes j) 1)
   unfolding first_of
-  step-out i l =
+  step_out i l =
       let q : 8 * bytes_for end - i ≡ suc (8 * bytes_for end - (i + 1)) = omega arith in
       rw (q, add-one)
 
-  pub checked-more : (i v : ℕ) → Checked bytes end i → i < 8 * bytes_for end → v ≡ bit_field (bit bytes) i 1 → (v ≡ 1 → ⊥) → Checked bytes end (i + 1)
-  checked-more i v h l e n =
-      record { low = omega (arith, h.low); high = omega arith; left = h.left ∙ step-out i l ∙ rw (← one_field i, ← e, ne_eqb v 1 n) }
+  pub checked_more : (i v : ℕ) → Checked bytes end i → i < 8 * bytes_for end → v ≡ bit_field (bit bytes) i 1 → (v ≡ 1 → ⊥) → Checked bytes end (i + 1)
+  checked_more i v h l e n =
+      record { low = omega (arith, h.low); high = omega arith; left = h.left ∙ step_out i l ∙ rw (← one_field i, ← e, ne_eqb v 1 n) }
 
-  pub found-bit : (i v : ℕ) → Checked bytes end i → i < 8 * bytes_for end → v ≡ bit_field (bit bytes) i 1 → v ≡ 1 → some i ≡ excess bytes end
+  pub found_bit : (i v : ℕ) → Checked bytes end i → i < 8 * bytes_for end → v ≡ bit_field (bit bytes) i 1 → v ≡ 1 → some i ≡ excess bytes end
   unfolding excess
-  found-bit i v h l e n = sym (rw (h.left, step-out i l, ← one_field i, ← e, eq-eqb v 1 n))
+  found_bit i v h l e n = sym (rw (h.left, step_out i l, ← one_field i, ← e, eq-eqb v 1 n))
 
-  no-bit : (i : ℕ) → Checked bytes end i → 8 * bytes_for end ≤ i → lowest end (8 * bytes_for end - end) (λ j. eqb (bit bytes j) 1) ≡ none
+  no_bit : (i : ℕ) → Checked bytes end i → 8 * bytes_for end ≤ i → lowest end (8 * bytes_for end - end) (λ j. eqb (bit bytes j) 1) ≡ none
   unfolding first_of
-  no-bit i h l = let q : 8 * bytes_for end - i ≡ 0 = omega arith in h.left ∙ rw q
+  no_bit i h l = let q : 8 * bytes_for end - i ≡ 0 = omega arith in h.left ∙ rw q
 
-  pub found-byte : (i : ℕ) → Checked bytes end i → 8 * bytes_for end ≤ i → bytes_for end < length bytes → some (8 * bytes_for end) ≡ excess bytes end
+  pub found_byte : (i : ℕ) → Checked bytes end i → 8 * bytes_for end ≤ i → bytes_for end < length bytes → some (8 * bytes_for end) ≡ excess bytes end
   unfolding excess
-  found-byte i h l m = sym (rw (no-bit i h l, lt-ltb (bytes_for end) (length bytes) m))
+  found_byte i h l m = sym (rw (no_bit i h l, lt-ltb (bytes_for end) (length bytes) m))
 
   pub found_nothing : (i : ℕ) → Checked bytes end i → 8 * bytes_for end ≤ i → length bytes ≤ bytes_for end → none ≡ excess bytes end
   unfolding excess
-  found_nothing i h l m = sym (rw (no-bit i h l, le-ltb (bytes_for end) (length bytes) m))
+  found_nothing i h l m = sym (rw (no_bit i h l, le-ltb (bytes_for end) (length bytes) m))

@@ -15,8 +15,8 @@ use Rattle.card.specs.inner.Runs.{column_sum, RowsFit}
 use Rattle.card.proofs.Sums.{sum_mono}
 
 -- an entry of a whole row lies within the slice
-pub entry-inside : (n width i k : ℕ) → i < n / width → k < width → width * i + k < n
-entry-inside n width i k l h =
+pub entry_inside : (n width i k : ℕ) → i < n / width → k < width → width * i + k < n
+entry_inside n width i k l h =
     let a : width * suc i ≤ width * (n / width) = mul-le-mul_left width l in
     omega (arith, a, mul-div-le n width, mul-suc width i)
 
@@ -26,22 +26,22 @@ module _ (rows : List ℕ) (width column total : ℕ) where
     pub sum : left + sum_to i (λ j. entry rows width j column) ≡ total
     pub inside : i ≤ length rows / width
 
-  pub unspent-start : Unspent total 0
+  pub unspent_start : Unspent total 0
   unfolding sum_to
-  unspent-start = record { sum = omega arith; inside = omega arith }
+  unspent_start = record { sum = omega arith; inside = omega arith }
 
   module _ (left i : ℕ) (h : Unspent left i) where
-    pub unspent-more : i < length rows / width → entry rows width i column ≤ left → Unspent (left - entry rows width i column) (i + 1)
+    pub unspent_more : i < length rows / width → entry rows width i column ≤ left → Unspent (left - entry rows width i column) (i + 1)
     unfolding sum_to
-    unspent-more l m = rw add-one (record { sum = omega (arith, h.sum); inside = omega arith })
+    unspent_more l m = rw add-one (record { sum = omega (arith, h.sum); inside = omega arith })
 
-    pub unspent-short : i < length rows / width → left < entry rows width i column → false ≡ eqb total (column_sum rows width column)
-    unspent-short l m =
+    pub unspent_short : i < length rows / width → left < entry rows width i column → false ≡ eqb total (column_sum rows width column)
+    unspent_short l m =
         let a : sum_to (suc i) (λ j. entry rows width j column) ≡ sum_to i (λ j. entry rows width j column) + entry rows width i column = unfold sum_to in refl in
         sym (ne_eqb total (column_sum rows width column) (λ e. omega (arith, h.sum, a, sum_mono (suc i) (length rows / width) (λ j. entry rows width j column) l)))
 
-    pub unspent-done : length rows / width ≤ i → eqb left 0 ≡ eqb total (column_sum rows width column)
-    unspent-done l =
+    pub unspent_done : length rows / width ≤ i → eqb left 0 ≡ eqb total (column_sum rows width column)
+    unspent_done l =
         let e : i ≡ length rows / width = omega (arith, h.inside) in
         let s : left + column_sum rows width column ≡ total = rw (← e) h.sum in
         go (eqb left 0) refl s
@@ -58,25 +58,25 @@ module _ (rows widths : List ℕ) where
   pub record FitTo (i : ℕ) : Type 0 where
     pub before : (j : ℕ) → j < i → Fit j
 
-  pub fit-start : FitTo 0
-  fit-start = record { before = λ j l. absurd (omega arith) }
+  pub fit_start : FitTo 0
+  fit_start = record { before = λ j l. absurd (omega arith) }
 
-  pub fit-more : (i : ℕ) → FitTo i → Fit i → FitTo (i + 1)
-  fit-more i h f = record { before = λ j l. go j l (eqb j i) refl }
+  pub fit_more : (i : ℕ) → FitTo i → Fit i → FitTo (i + 1)
+  fit_more i h f = record { before = λ j l. go j l (eqb j i) refl }
     where
       go : (j : ℕ) → j < i + 1 → (b : Bool) → eqb j i ≡ b → Fit j
       go j l true e = subst Fit (sym (eqb-true j i e)) f
       go j l false e = h.before j (omega (arith, eqb-false j i e))
 
   -- one that does not fit
-  pub fit-fails : (i : ℕ) → i < length rows → 2 ^ get_or widths (i % length widths) 0 ≤ get_or rows i 0 → (false ≡ true → RowsFit rows widths) × (RowsFit rows widths → false ≡ true)
-  fit-fails i l h = (λ e. absurd (let z : ◌≡◌ {A = ℕ} 0 1 = cc in omega arith), λ r. absurd (omega (arith, h, r i l)))
+  pub fit_fails : (i : ℕ) → i < length rows → 2 ^ get_or widths (i % length widths) 0 ≤ get_or rows i 0 → (false ≡ true → RowsFit rows widths) × (RowsFit rows widths → false ≡ true)
+  fit_fails i l h = (λ e. absurd (let z : ◌≡◌ {A = ℕ} 0 1 = cc in omega arith), λ r. absurd (omega (arith, h, r i l)))
 
-  pub fit-done : (i : ℕ) → FitTo i → length rows ≤ i → (true ≡ true → RowsFit rows widths) × (RowsFit rows widths → true ≡ true)
-  fit-done i h l = (λ e j m. h.before j (omega arith), λ r. refl)
+  pub fit_done : (i : ℕ) → FitTo i → length rows ≤ i → (true ≡ true → RowsFit rows widths) × (RowsFit rows widths → true ≡ true)
+  fit_done i h l = (λ e j m. h.before j (omega arith), λ r. refl)
 
 -- widths of fields are small
-pub widths-small : (ws : List ℕ) → All (λ w. w ≤ 16) ws → (k : ℕ) → get_or ws k 0 < 32
-widths-small [] h k = omega arith
-widths-small (w ∷ ws) h zero = omega (arith, h.0)
-widths-small (w ∷ ws) h (suc k) = widths-small ws h.1 k
+pub widths_small : (ws : List ℕ) → All (λ w. w ≤ 16) ws → (k : ℕ) → get_or ws k 0 < 32
+widths_small [] h k = omega arith
+widths_small (w ∷ ws) h zero = omega (arith, h.0)
+widths_small (w ∷ ws) h (suc k) = widths_small ws h.1 k

@@ -12,12 +12,12 @@ use Rattle.card.specs.inner.Runs.{Leads, arcs_before, transition_run, runs, Runs
 use Rattle.card.specs.Card.{subnet_fields, place_fields, transition_fields, arc_fields}
 use Rattle.card.proofs.Sums.{sum_mono}
 
-pub runs-suc : (from n : ℕ) (run : ℕ → List ℕ) → runs from (suc n) run ≡ runs from n run ++ run (from + n)
+pub runs_suc : (from n : ℕ) (run : ℕ → List ℕ) → runs from (suc n) run ≡ runs from n run ++ run (from + n)
 unfolding runs table flatten
-runs-suc from zero run = append-nil (run from) ∙ ap run (sym (add-zero from))
-runs-suc from (suc n) run =
+runs_suc from zero run = append-nil (run from) ∙ ap run (sym (add-zero from))
+runs_suc from (suc n) run =
     let e : suc from + n ≡ from + suc n = omega arith in
-    ap (λ xs. run from ++ xs) (unfold runs in runs-suc (suc from) n run)
+    ap (λ xs. run from ++ xs) (unfold runs in runs_suc (suc from) n run)
     ∙ sym (append_assoc (run from) (flatten (table (suc from) n run)) (run (suc from + n)))
     ∙ ap (λ (i : ℕ). (run from ++ flatten (table (suc from) n run)) ++ run i) e
 
@@ -32,27 +32,27 @@ module _ (transitions arcs old : List ℕ) (n first count arc : ℕ) (r : RunsIn
     pub long : length numbers ≡ length old
     pub leads : (xs : List ℕ) → Leads xs old n → Leads (xs ++ runs first (t - first) run) numbers m
 
-  pub place-start : Placing old n arc first
+  pub place_start : Placing old n arc first
   unfolding runs table flatten
-  place-start =
+  place_start =
       let e : first - first ≡ 0 = omega arith in
       record { low = omega arith; high = omega arith; is = r.begins; long = refl; leads = λ xs h. rw (e, append-nil xs) h }
 
   module _ (numbers : List ℕ) (m b t : ℕ) (x : Placing numbers m b t) where
     -- what the next transition takes lies within the slices
-    pub place-rows : t < first + count → transition_fields * t + transition_fields ≤ length transitions
-    place-rows l = omega (arith, r.rows)
+    pub place_rows : t < first + count → transition_fields * t + transition_fields ≤ length transitions
+    place_rows l = omega (arith, r.rows)
 
-    pub place-arcs : t < first + count → arc_fields * (b + entry transitions transition_fields t 1) ≤ length arcs
-    place-arcs l =
+    pub place_arcs : t < first + count → arc_fields * (b + entry transitions transition_fields t 1) ≤ length arcs
+    place_arcs l =
         let q : sum_to (suc t) (λ u. entry transitions transition_fields u 1) ≡ arcs_before transitions t + entry transitions transition_fields t 1 = unfold sum_to in refl in
         omega (arith, x.is, q, r.ends, sum_mono (suc t) (first + count) (λ u. entry transitions transition_fields u 1) l)
 
-    pub place-more : t < first + count → (one two s1 s2 : List ℕ) (m1 m2 k : ℕ) → k ≡ entry transitions transition_fields t 1 → s1 ≡ take transition_fields (drop (transition_fields * t) transitions) → s2 ≡ take (arc_fields * k) (drop (arc_fields * b) arcs)
+    pub place_more : t < first + count → (one two s1 s2 : List ℕ) (m1 m2 k : ℕ) → k ≡ entry transitions transition_fields t 1 → s1 ≡ take transition_fields (drop (transition_fields * t) transitions) → s2 ≡ take (arc_fields * k) (drop (arc_fields * b) arcs)
         → length one ≡ length numbers → length two ≡ length one → ((ys : List ℕ) → Leads ys numbers m → Leads (ys ++ s1) one m1) → ((ys : List ℕ) → Leads ys one m1 → Leads (ys ++ s2) two m2)
         → Placing two m2 (b + k) (t + 1)
     unfolding transition_run
-    place-more l one two s1 s2 m1 m2 k ek e1 e2 l1 l2 f g =
+    place_more l one two s1 s2 m1 m2 k ek e1 e2 l1 l2 f g =
         let q : sum_to (suc t) (λ u. entry transitions transition_fields u 1) ≡ arcs_before transitions t + entry transitions transition_fields t 1 = unfold sum_to in refl in
         let z : t + 1 ≡ suc t = add-one t in
         let d : t + 1 - first ≡ suc (t - first) = omega (arith, x.low) in
@@ -67,12 +67,12 @@ module _ (transitions arcs old : List ℕ) (n first count arc : ℕ) (r : RunsIn
               let p : ((xs ++ runs first (t - first) run) ++ s1) ++ s2 ≡ xs ++ runs first (t + 1 - first) run =
               append_assoc (xs ++ runs first (t - first) run) s1 s2
               ∙ append_assoc xs (runs first (t - first) run) (s1 ++ s2)
-              ∙ ap (λ ys. xs ++ ys) (ap (λ ys. runs first (t - first) run ++ ys) (sym s ∙ ap run (sym w)) ∙ sym (runs-suc first (t - first) run) ∙ ap (λ (i : ℕ). runs first i run) (sym d)) in
+              ∙ ap (λ ys. xs ++ ys) (ap (λ ys. runs first (t - first) run ++ ys) (sym s ∙ ap run (sym w)) ∙ sym (runs_suc first (t - first) run) ∙ ap (λ (i : ℕ). runs first i run) (sym d)) in
               subst (λ ys. Leads ys two m2) p (g _ (f _ (x.leads xs h)));
         }
 
-    pub place-done : first + count ≤ t → (t ≡ first + count) × ((xs : List ℕ) → Leads xs old n → Leads (xs ++ runs first count run) numbers m)
-    place-done l =
+    pub place_done : first + count ≤ t → (t ≡ first + count) × ((xs : List ℕ) → Leads xs old n → Leads (xs ++ runs first count run) numbers m)
+    place_done l =
         let e : t - first ≡ count = omega (arith, x.high) in
         (omega (arith, x.high), λ xs h. rw e at (x.leads xs h))
 
@@ -88,21 +88,21 @@ module _ (subnets places transitions arcs old : List ℕ) (n : ℕ) (r : TablesI
     pub long : length numbers ≡ length old
     pub leads : (xs : List ℕ) → Leads xs old n → Leads (xs ++ runs 0 s net_run) numbers m
 
-  pub lay-start : Laying old n 0 0 0 0
+  pub lay_start : Laying old n 0 0 0 0
   unfolding runs table flatten sum_to
-  lay-start = record { inside = omega arith; is_place = refl; is_transition = refl; is_arc = refl; long = refl; leads = λ xs h. rw (append-nil xs) h }
+  lay_start = record { inside = omega arith; is_place = refl; is_transition = refl; is_arc = refl; long = refl; leads = λ xs h. rw (append-nil xs) h }
 
   module _ (numbers : List ℕ) (m place transition arc s : ℕ) (x : Laying numbers m place transition arc s) where
-    pub lay-rows : s < length subnets / subnet_fields → subnet_fields * s + subnet_fields ≤ length subnets
-    lay-rows l = omega arith
+    pub lay_rows : s < length subnets / subnet_fields → subnet_fields * s + subnet_fields ≤ length subnets
+    lay_rows l = omega arith
 
-    pub lay-places : s < length subnets / subnet_fields → place_fields * (place + entry subnets subnet_fields s 2) ≤ length places
-    lay-places l =
+    pub lay_places : s < length subnets / subnet_fields → place_fields * (place + entry subnets subnet_fields s 2) ≤ length places
+    lay_places l =
         let q : sum_to (suc s) (λ u. entry subnets subnet_fields u 2) ≡ places_before subnets s + entry subnets subnet_fields s 2 = unfold sum_to in refl in
         omega (arith, x.is_place, q, r.place_rows, sum_mono (suc s) (length subnets / subnet_fields) (λ u. entry subnets subnet_fields u 2) l)
 
-    pub lay-inside : s < length subnets / subnet_fields → (k : ℕ) → k ≡ entry subnets subnet_fields s 3 → RunsInside transitions arcs transition k arc
-    lay-inside l k e =
+    pub lay_inside : s < length subnets / subnet_fields → (k : ℕ) → k ≡ entry subnets subnet_fields s 3 → RunsInside transitions arcs transition k arc
+    lay_inside l k e =
         let q : sum_to (suc s) (λ u. entry subnets subnet_fields u 3) ≡ transitions_before subnets s + entry subnets subnet_fields s 3 = unfold sum_to in refl in
         let w : transition + k ≤ transitions_before subnets (length subnets / subnet_fields) = omega (arith, x.is_transition, q, e, sum_mono (suc s) (length subnets / subnet_fields) (λ u. entry subnets subnet_fields u 3) l) in
         record {
@@ -111,13 +111,13 @@ module _ (subnets places transitions arcs old : List ℕ) (n : ℕ) (r : TablesI
           ends = omega (arith, r.arc_rows, sum_mono (transition + k) (transitions_before subnets (length subnets / subnet_fields)) (λ u. entry transitions transition_fields u 1) w);
         }
 
-    pub lay-more : s < length subnets / subnet_fields → (one two three s1 s2 : List ℕ) (m1 m2 m3 p k end : ℕ) → p ≡ entry subnets subnet_fields s 2 → k ≡ entry subnets subnet_fields s 3 → s1 ≡ take subnet_fields (drop (subnet_fields * s) subnets)
+    pub lay_more : s < length subnets / subnet_fields → (one two three s1 s2 : List ℕ) (m1 m2 m3 p k end : ℕ) → p ≡ entry subnets subnet_fields s 2 → k ≡ entry subnets subnet_fields s 3 → s1 ≡ take subnet_fields (drop (subnet_fields * s) subnets)
         → s2 ≡ take (place_fields * p) (drop (place_fields * place) places) → end ≡ arcs_before transitions (transition + k)
         → length one ≡ length numbers → length two ≡ length one → length three ≡ length two
         → ((ys : List ℕ) → Leads ys numbers m → Leads (ys ++ s1) one m1) → ((ys : List ℕ) → Leads ys one m1 → Leads (ys ++ s2) two m2)
         → ((ys : List ℕ) → Leads ys two m2 → Leads (ys ++ runs transition k (transition_run transitions arcs)) three m3) → Laying three m3 (place + p) (transition + k) end (s + 1)
     unfolding subnet_run
-    lay-more l one two three s1 s2 m1 m2 m3 p k end ep ek e1 e2 ee l1 l2 l3 f g h =
+    lay_more l one two three s1 s2 m1 m2 m3 p k end ep ek e1 e2 ee l1 l2 l3 f g h =
         let q : sum_to (suc s) (λ u. entry subnets subnet_fields u 2) ≡ places_before subnets s + entry subnets subnet_fields s 2 = unfold sum_to in refl in
         let t : sum_to (suc s) (λ u. entry subnets subnet_fields u 3) ≡ transitions_before subnets s + entry subnets subnet_fields s 3 = unfold sum_to in refl in
         let z : s + 1 ≡ suc s = add-one s in
@@ -133,7 +133,7 @@ module _ (subnets places transitions arcs old : List ℕ) (n : ℕ) (r : TablesI
               append_assoc ((xs ++ runs 0 s net_run) ++ s1) s2 _
               ∙ append_assoc (xs ++ runs 0 s net_run) s1 _
               ∙ append_assoc xs (runs 0 s net_run) _
-              ∙ ap (λ ys. xs ++ ys) (ap (λ ys. runs 0 s net_run ++ ys) (sym w ∙ ap net_run (sym (zero-add s))) ∙ sym (runs-suc 0 s net_run) ∙ ap (λ (i : ℕ). runs 0 i net_run) (sym z)) in
+              ∙ ap (λ ys. xs ++ ys) (ap (λ ys. runs 0 s net_run ++ ys) (sym w ∙ ap net_run (sym (zero-add s))) ∙ sym (runs_suc 0 s net_run) ∙ ap (λ (i : ℕ). runs 0 i net_run) (sym z)) in
               subst (λ ys. Leads ys three m3) v (h _ (g _ (f _ (x.leads xs a))));
         }
 

@@ -17,7 +17,7 @@ use Rattle.card.specs.declared.layout.Layout.{Layout}
 use Rattle.card.specs.declared.Counts.{Counts}
 use Rattle.card.specs.declared.layout.Move.{Move}
 use Rattle.card.specs.declared.layout.Move.TheVariants.{More, Done, Bad}
-use Rattle.card.proofs.Decides.{le_is, and_is, some_unless-is}
+use Rattle.card.proofs.Decides.{le_is, and_is, some_unless_is}
 use Rattle.card.proofs.Shape.{One, strip, times, arc_s, place_s, transition_s, subnet_s, subnets_s, card_s}
 
 -- what comes after the subnet, the transitions, the places and the arcs at hand
@@ -105,15 +105,15 @@ less_one : (n : ℕ) → 1 ≤ n → n ≡ suc (n - 1)
 less_one n h = omega arith
 
 -- behind an arc
-after-subnet : (l : Layout) (b : Bool) → ltb 0 l.subnets ≡ b
+after_subnet : (l : Layout) (b : Bool) → ltb 0 l.subnets ≡ b
     → rest_subnets l l.places l.transitions
     ≡ move_f (pick b (More (layout_at Parent l.version l.signals (l.subnets - 1) (l.subnet + 1) l.places l.transitions l.place_rows l.transition_rows l.arc_rows l.capacity))
     (Done (record { subnets = l.subnet + 1; places = l.places; transitions = l.transitions })))
 unfolding subnets_s
-after-subnet l true e =
+after_subnet l true e =
     ap (λ (n : ℕ). subnets_s l.version l.signals n (suc l.subnet) l.places l.transitions) (less_one l.subnets (ltb-true 0 l.subnets e))
     ∙ ap (λ (s : ℕ). subnets_s l.version l.signals (suc (l.subnets - 1)) s l.places l.transitions) (sym (add-one l.subnet))
-after-subnet l false e =
+after_subnet l false e =
     let z : l.subnets ≡ 0 = omega (arith, ltb-false 0 l.subnets e) in
     ap (λ (n : ℕ). subnets_s l.version l.signals n (suc l.subnet) l.places l.transitions) z
     ∙ ap (λ (s : ℕ). subnets_s l.version l.signals 0 s l.places l.transitions) (sym (add-one l.subnet))
@@ -126,20 +126,20 @@ times_more n one k x y false e f g =
     let z : n ≡ 0 = omega (arith, ltb-false 0 n e) in
     ap (λ (i : ℕ). times i one k) z ∙ g refl
 
-after-transition : (l : Layout) → rest_transitions l ≡ move_f (pick (ltb 0 l.transition_rows)
+after_transition : (l : Layout) → rest_transitions l ≡ move_f (pick (ltb 0 l.transition_rows)
     (More (layout_at Signal l.version l.signals l.subnets l.subnet l.places l.transitions l.place_rows (l.transition_rows - 1) l.arc_rows l.capacity))
     (pick (ltb 0 l.subnets)
     (More (layout_at Parent l.version l.signals (l.subnets - 1) (l.subnet + 1) l.places l.transitions l.place_rows l.transition_rows l.arc_rows l.capacity))
     (Done (record { subnets = l.subnet + 1; places = l.places; transitions = l.transitions }))))
-after-transition l =
+after_transition l =
     times_more l.transition_rows (transition_s l.version l.signals) (rest_subnets l l.places l.transitions) _ _ (ltb 0 l.transition_rows) refl (λ e. refl)
-    (λ e. after-subnet l (ltb 0 l.subnets) refl)
+    (λ e. after_subnet l (ltb 0 l.subnets) refl)
 
-after-arc : (l : Layout) (v : ℕ) → rest_arcs l ≡ move_f (move_at Weight l v)
-after-arc l v = times_more l.arc_rows arc_s (rest_transitions l) _ _ (ltb 0 l.arc_rows) refl (λ e. refl) (λ e. after-transition l)
+after_arc : (l : Layout) (v : ℕ) → rest_arcs l ≡ move_f (move_at Weight l v)
+after_arc l v = times_more l.arc_rows arc_s (rest_transitions l) _ _ (ltb 0 l.arc_rows) refl (λ e. refl) (λ e. after_transition l)
 
-after-place : (l : Layout) (v : ℕ) → rest_places l ≡ move_f (move_at Tokens l v)
-after-place l v =
+after_place : (l : Layout) (v : ℕ) → rest_places l ≡ move_f (move_at Tokens l v)
+after_place l v =
     times_more l.place_rows (place_s l.subnet) (transition_s l.version l.signals (rest_transitions l)) _ _ (ltb 0 l.place_rows) refl (λ e. refl) (λ e. refl)
 
 -- a number that is not at fault leads where the grammar goes on
@@ -147,7 +147,7 @@ pub sim : (p : Phase) (l : Layout) (v : ℕ) → fault_at p l v ≡ none → nex
 unfolding header subnet place transition arc subnets_s
 sim Version l v e = refl
 sim SubnetCount l v e =
-    let h = (some_unless-is _ _ _ (and_is _ _ _ _ (le_is 1 v) (le_is v max_subnets))).0 e in
+    let h = (some_unless_is _ _ _ (and_is _ _ _ _ (le_is 1 v) (le_is v max_subnets))).0 e in
     ap (λ (n : ℕ). fed (head_s l) (l.version ∷ n ∷ [])) (less_one v h.0)
 sim SignalCount l v e = refl
 sim Limit l v e = refl
@@ -155,25 +155,25 @@ sim Scale l v e = refl
 sim Parent l v e = refl
 sim SubnetType l v e = refl
 sim PlaceCount l v e =
-    let h = (some_unless-is _ _ _ (and_is _ _ _ _ (le_is 1 v) (le_is (l.places + v) max_count))).0 e in
+    let h = (some_unless_is _ _ _ (and_is _ _ _ _ (le_is 1 v) (le_is (l.places + v) max_count))).0 e in
     ap (λ (n : ℕ). fed (strip (subnet l.subnet 0 l.transitions) >>= (λ r. times n (place_s l.subnet) (times r.transitions (transition_s l.version l.signals) (rest_subnets l (l.places + v) (l.transitions + r.transitions))))) (0 ∷ 0 ∷ 0 ∷ []))
     (less_one v h.0)
 sim TransitionCount l v e =
-    let h = (some_unless-is _ _ _ (and_is _ _ _ _ (le_is 1 v) (le_is (l.transitions + v) max_count))).0 e in
+    let h = (some_unless_is _ _ _ (and_is _ _ _ _ (le_is 1 v) (le_is (l.transitions + v) max_count))).0 e in
     ap (λ (n : ℕ). times (suc l.place_rows) (place_s l.subnet) (times n (transition_s l.version l.signals) (rest_subnets l l.places (l.transitions + v)))) (less_one v h.0)
 sim Kind l v e = refl
 sim Capacity l v e = refl
-sim Tokens l v e = after-place l v
+sim Tokens l v e = after_place l v
 sim Signal l v e = refl
 sim ArcCount l v e =
-    let h = (some_unless-is _ _ _ (le_is 1 v)).0 e in
+    let h = (some_unless_is _ _ _ (le_is 1 v)).0 e in
     ap (λ (n : ℕ). fed (transition_s l.version l.signals (rest_transitions l)) (0 ∷ n ∷ [])) (less_one v h)
 sim Rank l v e = refl
 sim Direction l v e = refl
 sim ArcSubnet l v e = refl
 sim ArcPlace l v e = refl
-sim Weight l v e = after-arc l v
+sim Weight l v e = after_arc l v
 
-pub denote-start : denote start_of ≡ card_s
+pub denote_start : denote start_of ≡ card_s
 unfolding card_s
-denote-start = refl
+denote_start = refl

@@ -15,81 +15,81 @@ use Rattle.card.specs.inner.Runs.{column_sum, Tells, HeaderFits}
 use Rattle.card.specs.inner.Layout.{width_at}
 use Rattle.card.specs.declared.layout.Phase.TheVariants.{Version, SubnetCount, SignalCount, Limit, Scale}
 use Rattle.card.specs.declared.Head.{Head}
-use Rattle.card.proofs.Sums.{table-length, table_at, sum_same}
+use Rattle.card.proofs.Sums.{table_length, table_at, sum_same}
 
-pub not-false : (b : Bool) → not b ≡ false → b ≡ true
-not-false true e = refl
-not-false false e = sym e
+pub not_false : (b : Bool) → not b ≡ false → b ≡ true
+not_false true e = refl
+not_false false e = sym e
 
-pub not-true : (b : Bool) → not b ≡ true → b ≡ false
-not-true true e = sym e
-not-true false e = refl
+pub not_true : (b : Bool) → not b ≡ true → b ≡ false
+not_true true e = sym e
+not_true false e = refl
 
-pub no-yes : {P : Type 0} → false ≡ true → P
-no-yes z = absurd (let y : ◌≡◌ {A = ℕ} 0 1 = cc in omega arith)
+pub no_yes : {P : Type 0} → false ≡ true → P
+no_yes z = absurd (let y : ◌≡◌ {A = ℕ} 0 1 = cc in omega arith)
 
 -- an answer no, because of a part or of a number; and what it takes for a yes
-pub tells-not : {P Q : Type 0} (b : Bool) → Tells b Q → b ≡ false → (P → Q) → Tells false P
-tells-not b t e f = (no-yes, λ p. sym e ∙ t.1 (f p))
+pub tells_not : {P Q : Type 0} (b : Bool) → Tells b Q → b ≡ false → (P → Q) → Tells false P
+tells_not b t e f = (no_yes, λ p. sym e ∙ t.1 (f p))
 
-pub tells-no : {P : Type 0} → (P → ◌≤◌ 1 0) → Tells false P
-tells-no f = (no-yes, λ p. absurd (omega (arith, f p)))
+pub tells_no : {P : Type 0} → (P → ◌≤◌ 1 0) → Tells false P
+tells_no f = (no_yes, λ p. absurd (omega (arith, f p)))
 
-pub tells-header : (h : Head) (s n : ℕ) → h.version < 2 ^ width_at Version h.version → h.signals < 2 ^ width_at SignalCount h.version → h.limit < 2 ^ width_at Limit h.version
+pub tells_header : (h : Head) (s n : ℕ) → h.version < 2 ^ width_at Version h.version → h.signals < 2 ^ width_at SignalCount h.version → h.limit < 2 ^ width_at Limit h.version
     → h.scale < 2 ^ width_at Scale h.version → n ≡ 2 ^ width_at SubnetCount h.version → Tells (ltb s n) (HeaderFits h s)
-tells-header h s n a b d f e =
+tells_header h s n a b d f e =
     (λ t. record { version = a; subnets = rw e at (ltb-true s n t); signals = b; limit = d; scale = f }, λ x. lt-ltb s n (rw (← e) at x.subnets))
 
 module _ (head : Head) (subnets places transitions arcs : List ℕ) where
   abbrev c : Card
   c = tables_in head subnets places transitions arcs
 
-  pub subnet-row : (s : ℕ) → s < length subnets / subnet_fields → subnet_at c s ≡ subnet_in subnets s
+  pub subnet_row : (s : ℕ) → s < length subnets / subnet_fields → subnet_at c s ≡ subnet_in subnets s
   unfolding tables_in
-  subnet-row s l = table_at (length subnets / subnet_fields) _ _ s l
+  subnet_row s l = table_at (length subnets / subnet_fields) _ _ s l
 
-  pub place-row : (p : ℕ) → p < length places / place_fields → place_at c p ≡ place_in places p
+  pub place_row : (p : ℕ) → p < length places / place_fields → place_at c p ≡ place_in places p
   unfolding tables_in
-  place-row p l = table_at (length places / place_fields) _ _ p l
+  place_row p l = table_at (length places / place_fields) _ _ p l
 
-  pub transition-row : (t : ℕ) → t < length transitions / transition_fields → transition_at c t ≡ transition_in transitions t
+  pub transition_row_is : (t : ℕ) → t < length transitions / transition_fields → transition_at c t ≡ transition_in transitions t
   unfolding tables_in
-  transition-row t l = table_at (length transitions / transition_fields) _ _ t l
+  transition_row_is t l = table_at (length transitions / transition_fields) _ _ t l
 
-  pub arc-row : (a : ℕ) → a < length arcs / arc_fields → get_or c.arcs a no_arc ≡ arc_in arcs a
+  pub arc_row : (a : ℕ) → a < length arcs / arc_fields → get_or c.arcs a no_arc ≡ arc_in arcs a
   unfolding tables_in
-  arc-row a l = table_at (length arcs / arc_fields) _ _ a l
+  arc_row a l = table_at (length arcs / arc_fields) _ _ a l
 
-  pub subnet-count : length c.subnets ≡ length subnets / subnet_fields
+  pub subnet_count : length c.subnets ≡ length subnets / subnet_fields
   unfolding tables_in
-  subnet-count = table-length 0 (length subnets / subnet_fields) _
+  subnet_count = table_length 0 (length subnets / subnet_fields) _
 
-  pub place-count : length c.places ≡ length places / place_fields
+  pub place_count : length c.places ≡ length places / place_fields
   unfolding tables_in
-  place-count = table-length 0 (length places / place_fields) _
+  place_count = table_length 0 (length places / place_fields) _
 
-  pub transition-count : length c.transitions ≡ length transitions / transition_fields
+  pub transition_count : length c.transitions ≡ length transitions / transition_fields
   unfolding tables_in
-  transition-count = table-length 0 (length transitions / transition_fields) _
+  transition_count = table_length 0 (length transitions / transition_fields) _
 
-  pub arc-count : length c.arcs ≡ length arcs / arc_fields
+  pub arc_count : length c.arcs ≡ length arcs / arc_fields
   unfolding tables_in
-  arc-count = table-length 0 (length arcs / arc_fields) _
+  arc_count = table_length 0 (length arcs / arc_fields) _
 
   -- the first numbers are sums of columns
-  pub place-sum : (s : ℕ) → s ≤ length subnets / subnet_fields → first_place c s ≡ sum_to s (λ i. entry subnets subnet_fields i 2)
+  pub place_sum : (s : ℕ) → s ≤ length subnets / subnet_fields → first_place c s ≡ sum_to s (λ i. entry subnets subnet_fields i 2)
   unfolding first_place
-  place-sum s l = sum_same s _ _ (λ i m. ap (λ (r : Subnet). r.places) (subnet-row i (omega arith)))
+  place_sum s l = sum_same s _ _ (λ i m. ap (λ (r : Subnet). r.places) (subnet_row i (omega arith)))
 
-  pub transition-sum : (s : ℕ) → s ≤ length subnets / subnet_fields → first_transition c s ≡ sum_to s (λ i. entry subnets subnet_fields i 3)
+  pub transition_sum : (s : ℕ) → s ≤ length subnets / subnet_fields → first_transition c s ≡ sum_to s (λ i. entry subnets subnet_fields i 3)
   unfolding first_transition
-  transition-sum s l = sum_same s _ _ (λ i m. ap (λ (r : Subnet). r.transitions) (subnet-row i (omega arith)))
+  transition_sum s l = sum_same s _ _ (λ i m. ap (λ (r : Subnet). r.transitions) (subnet_row i (omega arith)))
 
-  pub arc-sum : (t : ℕ) → t ≤ length transitions / transition_fields → first_arc c t ≡ sum_to t (λ i. entry transitions transition_fields i 1)
+  pub arc_sum : (t : ℕ) → t ≤ length transitions / transition_fields → first_arc c t ≡ sum_to t (λ i. entry transitions transition_fields i 1)
   unfolding first_arc
-  arc-sum t l = sum_same t _ _ (λ i m. ap (λ (r : Transition). r.arcs) (transition-row i (omega arith)))
+  arc_sum t l = sum_same t _ _ (λ i m. ap (λ (r : Transition). r.arcs) (transition_row_is i (omega arith)))
 
-  pub counted-sums : counted c ≡ eqb (length places / place_fields) (column_sum subnets subnet_fields 2) && eqb (length transitions / transition_fields) (column_sum subnets subnet_fields 3) && eqb (length arcs / arc_fields) (column_sum transitions transition_fields 1)
+  pub counted_sums : counted c ≡ eqb (length places / place_fields) (column_sum subnets subnet_fields 2) && eqb (length transitions / transition_fields) (column_sum subnets subnet_fields 3) && eqb (length arcs / arc_fields) (column_sum transitions transition_fields 1)
   unfolding counted
-  counted-sums =
-      rw (place-count, transition-count, arc-count, subnet-count, place-sum (length subnets / subnet_fields) (omega arith), transition-sum (length subnets / subnet_fields) (omega arith), arc-sum (length transitions / transition_fields) (omega arith))
+  counted_sums =
+      rw (place_count, transition_count, arc_count, subnet_count, place_sum (length subnets / subnet_fields) (omega arith), transition_sum (length subnets / subnet_fields) (omega arith), arc_sum (length transitions / transition_fields) (omega arith))

@@ -28,10 +28,10 @@ use Rattle.card.specs.declared.layout.Move.TheVariants.{More, Done, Bad}
 use Rattle.card.specs.inner.Reader.{arc_head_width, IsArcHead}
 use Rattle.card.specs.declared.reader.ArcHead.{ArcHead}
 use Rattle.card.specs.Tables.{table_size, card_bits, has_room}
-use Rattle.card.proofs.Yields.{bit-small, field-small}
+use Rattle.card.proofs.Yields.{bit_small, field_small}
 use Rattle.card.proofs.Shape.{One, numbers_in, card_s}
-use Rattle.card.proofs.Simulates.{denote, move_f, next_of, waits, sim, denote-start}
-use Rattle.card.proofs.Bounds.{Budget, budget-card, sane-step, sane-start}
+use Rattle.card.proofs.Simulates.{denote, move_f, next_of, waits, sim, denote_start}
+use Rattle.card.proofs.Bounds.{Budget, budget_card, sane_step, sane_start}
 
 -- a number that is not at fault leads on
 abbrev Good : Move → Type 0
@@ -39,30 +39,30 @@ Good (More m) = Unit {0}
 Good (Done k) = Unit {0}
 Good (Bad f) = ⊥
 
-good-pick : (b : Bool) (x y : Move) → Good x → Good y → Good (pick b x y)
-good-pick true x y h k = h
-good-pick false x y h k = k
+good_pick : (b : Bool) (x y : Move) → Good x → Good y → Good (pick b x y)
+good_pick true x y h k = h
+good_pick false x y h k = k
 
-good-move : (p : Phase) (l : Layout) (v : ℕ) → Good (move_at p l v)
-good-move Version l v = tt
-good-move SubnetCount l v = tt
-good-move SignalCount l v = tt
-good-move Limit l v = tt
-good-move Scale l v = tt
-good-move Parent l v = tt
-good-move SubnetType l v = tt
-good-move PlaceCount l v = tt
-good-move TransitionCount l v = tt
-good-move Kind l v = tt
-good-move Capacity l v = tt
-good-move Tokens l v = good-pick (ltb 0 l.place_rows) _ _ tt tt
-good-move Signal l v = tt
-good-move ArcCount l v = tt
-good-move Rank l v = tt
-good-move Direction l v = tt
-good-move ArcSubnet l v = tt
-good-move ArcPlace l v = tt
-good-move Weight l v = good-pick (ltb 0 l.arc_rows) _ _ tt (good-pick (ltb 0 l.transition_rows) _ _ tt (good-pick (ltb 0 l.subnets) _ _ tt tt))
+good_move : (p : Phase) (l : Layout) (v : ℕ) → Good (move_at p l v)
+good_move Version l v = tt
+good_move SubnetCount l v = tt
+good_move SignalCount l v = tt
+good_move Limit l v = tt
+good_move Scale l v = tt
+good_move Parent l v = tt
+good_move SubnetType l v = tt
+good_move PlaceCount l v = tt
+good_move TransitionCount l v = tt
+good_move Kind l v = tt
+good_move Capacity l v = tt
+good_move Tokens l v = good_pick (ltb 0 l.place_rows) _ _ tt tt
+good_move Signal l v = tt
+good_move ArcCount l v = tt
+good_move Rank l v = tt
+good_move Direction l v = tt
+good_move ArcSubnet l v = tt
+good_move ArcPlace l v = tt
+good_move Weight l v = good_pick (ltb 0 l.arc_rows) _ _ tt (good_pick (ltb 0 l.transition_rows) _ _ tt (good_pick (ltb 0 l.subnets) _ _ tt tt))
 
 -- what a field leads to
 abbrev pub Leads : Layout → ℕ → Move → Type 0
@@ -79,7 +79,7 @@ leads l v r e = go (fault_at l.phase l v) refl e
     move x (Bad f) p q g r = absurd (subst Good (sym r) g)
 
     go : (x : Option FormatFault) → fault_at l.phase l v ≡ x → r ≡ or_bad x (move_at l.phase l v) → Leads l v r
-    go none p q = move (move_at l.phase l v) r p (sim l.phase l v p) (good-move l.phase l v) q
+    go none p q = move (move_at l.phase l v) r p (sim l.phase l v p) (good_move l.phase l v) q
     go (some f) p q = subst (Leads l v) (sym q) p
 
 -- A field may have no bits; so many such fields may come, this one among them, before one that has some. Bits that were read before pay for them,
@@ -105,69 +105,69 @@ spare ArcSubnet = 0
 spare ArcPlace = 0
 spare Weight = 0
 
-pub spare-width : (p : Phase) (v : ℕ) → 1 ≤ width_at p v + spare p
+pub spare_width : (p : Phase) (v : ℕ) → 1 ≤ width_at p v + spare p
 unfolding header subnet place transition arc
-spare-width Version v = omega arith
-spare-width SubnetCount v = omega arith
-spare-width SignalCount v = omega arith
-spare-width Limit v = omega arith
-spare-width Scale v = omega arith
-spare-width Parent v = omega arith
-spare-width SubnetType v = omega arith
-spare-width PlaceCount v = omega arith
-spare-width TransitionCount v = omega arith
-spare-width Kind v = omega arith
-spare-width Capacity v = omega arith
-spare-width Tokens v = omega arith
-spare-width Signal v = omega arith
-spare-width ArcCount v = omega arith
-spare-width Rank v = omega arith
-spare-width Direction v = omega arith
-spare-width ArcSubnet v = omega arith
-spare-width ArcPlace v = omega arith
-spare-width Weight v = omega arith
+spare_width Version v = omega arith
+spare_width SubnetCount v = omega arith
+spare_width SignalCount v = omega arith
+spare_width Limit v = omega arith
+spare_width Scale v = omega arith
+spare_width Parent v = omega arith
+spare_width SubnetType v = omega arith
+spare_width PlaceCount v = omega arith
+spare_width TransitionCount v = omega arith
+spare_width Kind v = omega arith
+spare_width Capacity v = omega arith
+spare_width Tokens v = omega arith
+spare_width Signal v = omega arith
+spare_width ArcCount v = omega arith
+spare_width Rank v = omega arith
+spare_width Direction v = omega arith
+spare_width ArcSubnet v = omega arith
+spare_width ArcPlace v = omega arith
+spare_width Weight v = omega arith
 
 abbrev Spared : (w : ℕ) → Move → Type 0
 Spared w (More m) = suc (spare m.phase) ≤ w
 Spared w (Done k) = Unit {0}
 Spared w (Bad f) = Unit {0}
 
-spared-pick : (b : Bool) (x y : Move) (w : ℕ) → Spared w x → Spared w y → Spared w (pick b x y)
-spared-pick true x y w h k = h
-spared-pick false x y w h k = k
+spared_pick : (b : Bool) (x y : Move) (w : ℕ) → Spared w x → Spared w y → Spared w (pick b x y)
+spared_pick true x y w h k = h
+spared_pick false x y w h k = k
 
-spared-move : (p : Phase) (l : Layout) (v : ℕ) → Spared (width_at p l.version + spare p) (move_at p l v)
+spared_move : (p : Phase) (l : Layout) (v : ℕ) → Spared (width_at p l.version + spare p) (move_at p l v)
 unfolding header subnet place transition arc
-spared-move Version l v = omega arith
-spared-move SubnetCount l v = omega arith
-spared-move SignalCount l v = omega arith
-spared-move Limit l v = omega arith
-spared-move Scale l v = omega arith
-spared-move Parent l v = omega arith
-spared-move SubnetType l v = omega arith
-spared-move PlaceCount l v = omega arith
-spared-move TransitionCount l v = omega arith
-spared-move Kind l v = omega arith
-spared-move Capacity l v = omega arith
-spared-move Tokens l v = spared-pick (ltb 0 l.place_rows) _ _ _ (omega arith) (omega arith)
-spared-move Signal l v = omega arith
-spared-move ArcCount l v = omega arith
-spared-move Rank l v = omega arith
-spared-move Direction l v = omega arith
-spared-move ArcSubnet l v = omega arith
-spared-move ArcPlace l v = omega arith
-spared-move Weight l v = spared-pick (ltb 0 l.arc_rows) _ _ _ (omega arith) (spared-pick (ltb 0 l.transition_rows) _ _ _ (omega arith) (spared-pick (ltb 0 l.subnets) _ _ _ (omega arith) tt))
+spared_move Version l v = omega arith
+spared_move SubnetCount l v = omega arith
+spared_move SignalCount l v = omega arith
+spared_move Limit l v = omega arith
+spared_move Scale l v = omega arith
+spared_move Parent l v = omega arith
+spared_move SubnetType l v = omega arith
+spared_move PlaceCount l v = omega arith
+spared_move TransitionCount l v = omega arith
+spared_move Kind l v = omega arith
+spared_move Capacity l v = omega arith
+spared_move Tokens l v = spared_pick (ltb 0 l.place_rows) _ _ _ (omega arith) (omega arith)
+spared_move Signal l v = omega arith
+spared_move ArcCount l v = omega arith
+spared_move Rank l v = omega arith
+spared_move Direction l v = omega arith
+spared_move ArcSubnet l v = omega arith
+spared_move ArcPlace l v = omega arith
+spared_move Weight l v = spared_pick (ltb 0 l.arc_rows) _ _ _ (omega arith) (spared_pick (ltb 0 l.transition_rows) _ _ _ (omega arith) (spared_pick (ltb 0 l.subnets) _ _ _ (omega arith) tt))
 
-spare-step : (l m : Layout) (v : ℕ) → step_of l v ≡ More m → suc (spare m.phase) ≤ width_of l + spare l.phase
-spare-step l m v e = go (fault_at l.phase l v) e
+spare_step : (l m : Layout) (v : ℕ) → step_of l v ≡ More m → suc (spare m.phase) ≤ width_of l + spare l.phase
+spare_step l m v e = go (fault_at l.phase l v) e
   where
     go : (x : Option FormatFault) → or_bad x (move_at l.phase l v) ≡ More m → suc (spare m.phase) ≤ width_of l + spare l.phase
-    go none q = subst (Spared (width_of l + spare l.phase)) q (spared-move l.phase l v)
+    go none q = subst (Spared (width_of l + spare l.phase)) q (spared_move l.phase l v)
     go (some f) q = let z : ◌≡◌ {A = ℕ} 0 1 = cc in absurd (omega arith)
 
 -- a table of so many numbers has room for those of so many bytes
-pub room-is : (bytes size : ℕ) → has_room bytes size ≡ true → (table_size ≤ size) ⊎ (8 * bytes ≤ size)
-room-is bytes size e = go (leb table_size size) refl e
+pub room_is : (bytes size : ℕ) → has_room bytes size ≡ true → (table_size ≤ size) ⊎ (8 * bytes ≤ size)
+room_is bytes size e = go (leb table_size size) refl e
   where
     go : (b : Bool) → leb table_size size ≡ b → cond b true (leb bytes (size / 8)) ≡ true → (table_size ≤ size) ⊎ (8 * bytes ≤ size)
     go true q h = inl (leb-true table_size size q)
@@ -193,17 +193,17 @@ module _ (bytes : List ℕ) (size : ℕ) where
     pub inside : at ≤ 8 * length bytes
     pub few : n ≤ table_size
 
-  pub left-start : (t : List ℕ) → t ≡ replicate size 0 → has_room (length bytes) size ≡ true → Left start_of 0 0 t
-  left-start t e room =
+  pub left_start : (t : List ℕ) → t ≡ replicate size 0 → has_room (length bytes) size ≡ true → Left start_of 0 0 t
+  left_start t e room =
       record {
-        answer = ap (λ (m : Format One Counts). read bytes m 0) denote-start;
-        values = ap (λ (m : Format One Counts). numbers_in bytes m 0) denote-start;
+        answer = ap (λ (m : Format One Counts). read bytes m 0) denote_start;
+        values = ap (λ (m : Format One Counts). numbers_in bytes m 0) denote_start;
         zeros = λ i h. ap (λ xs. get_or xs i 0) e ∙ zero_in size i;
         long = ap length e ∙ length-replicate {A = ℕ} size 0;
         room = room;
         ahead = omega arith;
-        sane = sane-start;
-        budget = subst (λ (m : Format One Counts). Budget m table_size card_bits) (sym denote-start) budget-card;
+        sane = sane_start;
+        budget = subst (λ (m : Format One Counts). Budget m table_size card_bits) (sym denote_start) budget_card;
         low = omega arith;
         inside = omega arith;
         few = omega arith;
@@ -217,81 +217,81 @@ module _ (bytes : List ℕ) (size : ℕ) where
     waited = subst (λ (m : Format One Counts). Budget m (table_size - n) (card_bits - at)) wait h.budget
 
     -- there is room on the card, and in the largest card's table
-    pub left-room : (n < table_size) × (at + w ≤ card_bits)
-    left-room = go (table_size - n) refl waited
+    pub left_room : (n < table_size) × (at + w ≤ card_bits)
+    left_room = go (table_size - n) refl waited
       where
         go : (k : ℕ) → table_size - n ≡ k → Budget (get w (λ u. 0) (fault_at l.phase l) (next_of (denote l))) k (card_bits - at) → (n < table_size) × (at + w ≤ card_bits)
         go zero e b = absurd b
         go (suc k) e b = (omega arith, omega (arith, b.0, h.low))
 
     -- there is room in the table
-    pub left-fits : at + w ≤ 8 * length bytes → n < size
-    left-fits g = go (room-is (length bytes) size h.room)
+    pub left_fits : at + w ≤ 8 * length bytes → n < size
+    left_fits g = go (room_is (length bytes) size h.room)
       where
         go : (table_size ≤ size) ⊎ (8 * length bytes ≤ size) → n < size
-        go (inl m) = omega (arith, left-room.0)
-        go (inr m) = omega (arith, h.ahead, ew, spare-width l.phase l.version)
+        go (inl m) = omega (arith, left_room.0)
+        go (inr m) = omega (arith, h.ahead, ew, spare_width l.phase l.version)
 
     waiting : read bytes (get w (λ u. 0) (fault_at l.phase l) (next_of (denote l))) at ≡ read bytes card_s 0
     waiting = ap (λ (m : Format One Counts). read bytes m at) (sym wait) ∙ h.answer
 
-    pub left-ends : 8 * length bytes < at + w → read bytes card_s 0 ≡ refused (number Truncated) at
+    pub left_ends : 8 * length bytes < at + w → read bytes card_s 0 ≡ refused (number Truncated) at
     unfolding read
-    left-ends g = sym waiting ∙ rw (lt-ltb (8 * length bytes) (at + w) g)
+    left_ends g = sym waiting ∙ rw (lt-ltb (8 * length bytes) (at + w) g)
 
     module _ (v : ℕ) (r : Move) (g : at + w ≤ 8 * length bytes) (ev : v ≡ bit_field (bit bytes) at w) (er : r ≡ step_of l v) where
       on : (x : Option FormatFault) → fault_at l.phase l v ≡ x → read bytes (get w (λ u. 0) (fault_at l.phase l) (next_of (denote l))) at ≡ Rattle.card.specs.Parsing.unless_fault x at (read bytes (next_of (denote l) v) (at + w))
       unfolding read
       on x e = rw (le-ltb (8 * length bytes) (at + w) g, ← ev, e)
 
-      pub left-bad : (f : FormatFault) → r ≡ Bad f → read bytes card_s 0 ≡ refused (number f) at
-      left-bad f e =
+      pub left_bad : (f : FormatFault) → r ≡ Bad f → read bytes card_s 0 ≡ refused (number f) at
+      left_bad f e =
           let k = subst (Leads l v) e (leads l v r er) in
           sym waiting ∙ on (some f) k
 
       -- one number more in the table
-      more-values : (k : Format One Counts) → next_of (denote l) v ≡ k → take (n + 1) (set t n v) ++ numbers_in bytes k (at + w) ≡ numbers_in bytes card_s 0
-      more-values k e =
+      more_values : (k : Format One Counts) → next_of (denote l) v ≡ k → take (n + 1) (set t n v) ++ numbers_in bytes k (at + w) ≡ numbers_in bytes card_s 0
+      more_values k e =
           let a : numbers_in bytes (denote l) at ≡ v ∷ numbers_in bytes k (at + w) =
           ap (λ (m : Format One Counts). numbers_in bytes m at) wait ∙ rw (← ev, e) in
-          rw (add-one, take-suc-set t n v (omega (arith, h.long, left-fits g))) (append_snoc (take n t) v (numbers_in bytes k (at + w)) ∙ ap (λ xs. take n t ++ xs) (sym a) ∙ h.values)
+          rw (add-one, take-suc-set t n v (omega (arith, h.long, left_fits g))) (append_snoc (take n t) v (numbers_in bytes k (at + w)) ∙ ap (λ xs. take n t ++ xs) (sym a) ∙ h.values)
 
-      more-zeros : (i : ℕ) → n + 1 ≤ i → get_or (set t n v) i 0 ≡ 0
-      more-zeros i m = get_or-set_other t n i v 0 (λ e. omega arith) ∙ h.zeros i (omega arith)
+      more_zeros : (i : ℕ) → n + 1 ≤ i → get_or (set t n v) i 0 ≡ 0
+      more_zeros i m = get_or-set_other t n i v 0 (λ e. omega arith) ∙ h.zeros i (omega arith)
 
-      pub left-more : (m : Layout) → r ≡ More m → Left m (at + w) (n + 1) (set t n v)
-      left-more m e =
+      pub left_more : (m : Layout) → r ≡ More m → Left m (at + w) (n + 1) (set t n v)
+      left_more m e =
           let k = subst (Leads l v) e (leads l v r er) in
           record {
             answer = ap (λ (x : Format One Counts). read bytes x (at + w)) (sym k.1) ∙ sym (on none k.0) ∙ waiting;
-            values = more-values (denote m) k.1;
-            zeros = more-zeros;
+            values = more_values (denote m) k.1;
+            zeros = more_zeros;
             long = length-set t n v ∙ h.long;
             room = h.room;
-            ahead = omega (arith, h.ahead, ew, spare-step l m v (sym er ∙ e));
-            sane = sane-step l m v h.sane (sym er ∙ e);
+            ahead = omega (arith, h.ahead, ew, spare_step l m v (sym er ∙ e));
+            sane = sane_step l m v h.sane (sym er ∙ e);
             budget = subst (λ (x : Format One Counts). Budget x (table_size - (n + 1)) (card_bits - (at + w))) k.1 (spent k.0);
-            low = left-room.1;
+            low = left_room.1;
             inside = g;
-            few = omega (arith, left-room.0);
+            few = omega (arith, left_room.0);
           }
         where
           spent : fault_at l.phase l v ≡ none → Budget (next_of (denote l) v) (table_size - (n + 1)) (card_bits - (at + w))
           spent e =
-              let q : table_size - n ≡ suc (table_size - (n + 1)) = omega (arith, left-room.0) in
+              let q : table_size - n ≡ suc (table_size - (n + 1)) = omega (arith, left_room.0) in
               let p : card_bits - at - w ≡ card_bits - (at + w) = omega arith in
               let b : Budget (get w (λ u. 0) (fault_at l.phase l) (next_of (denote l))) (suc (table_size - (n + 1))) (card_bits - at) = rw q at waited in
-              rw p at (b.1 v (rw ev (field-small (bit bytes) (bit-small bytes) at w)) e)
+              rw p at (b.1 v (rw ev (field_small (bit bytes) (bit_small bytes) at w)) e)
 
-      pub left-done : (k : Counts) → r ≡ Done k → (read bytes card_s 0 ≡ whole k (at + w)) × (take (n + 1) (set t n v) ≡ numbers_in bytes card_s 0) × (length (set t n v) ≡ size)
+      pub left_done : (k : Counts) → r ≡ Done k → (read bytes card_s 0 ≡ whole k (at + w)) × (take (n + 1) (set t n v) ≡ numbers_in bytes card_s 0) × (length (set t n v) ≡ size)
           × ((i : ℕ) → n + 1 ≤ i → get_or (set t n v) i 0 ≡ 0)
       unfolding read
-      left-done k e =
+      left_done k e =
           let x = subst (Leads l v) e (leads l v r er) in (
             sym waiting ∙ on none x.0 ∙ ap (λ (y : Format One Counts). read bytes y (at + w)) x.1,
-            sym (append-nil (take (n + 1) (set t n v))) ∙ more-values (done k) x.1,
+            sym (append-nil (take (n + 1) (set t n v))) ∙ more_values (done k) x.1,
             length-set t n v ∙ h.long,
-            more-zeros,
+            more_zeros,
           )
 
   -- an arc's fields before the weight, read at once
@@ -301,23 +301,23 @@ module _ (bytes : List ℕ) (size : ℕ) where
 
     first : Left (to l ArcSubnet) (at + 1) (n + 1) (set t n x.direction)
     unfolding arc
-    first = left-more l at n t 1 h (sym (ap (λ (p : Phase). width_at p l.version) e)) x.direction (More (to l ArcSubnet)) (omega arith) ex.direction (untested Direction ArcSubnet x.direction e refl) (to l ArcSubnet) refl
+    first = left_more l at n t 1 h (sym (ap (λ (p : Phase). width_at p l.version) e)) x.direction (More (to l ArcSubnet)) (omega arith) ex.direction (untested Direction ArcSubnet x.direction e refl) (to l ArcSubnet) refl
 
     second : Left (to l ArcPlace) (at + 1 + 5) (n + 1 + 1) (set (set t n x.direction) (n + 1) x.subnet)
     unfolding arc
-    second = left-more (to l ArcSubnet) (at + 1) (n + 1) _ 5 first refl x.subnet (More (to l ArcPlace)) (omega arith) ex.subnet refl (to l ArcPlace) refl
+    second = left_more (to l ArcSubnet) (at + 1) (n + 1) _ 5 first refl x.subnet (More (to l ArcPlace)) (omega arith) ex.subnet refl (to l ArcPlace) refl
 
     third : Left (to l Weight) (at + 1 + 5 + 8) (n + 1 + 1 + 1) (set (set (set t n x.direction) (n + 1) x.subnet) (n + 1 + 1) x.place)
     unfolding arc
-    third = left-more (to l ArcPlace) (at + 1 + 5) (n + 1 + 1) _ 8 second refl x.place (More (to l Weight)) (omega arith) ex.place refl (to l Weight) refl
+    third = left_more (to l ArcPlace) (at + 1 + 5) (n + 1 + 1) _ 8 second refl x.place (More (to l Weight)) (omega arith) ex.place refl (to l Weight) refl
 
-    pub arc-room : (n + 2 < table_size) × (n + 2 < size)
+    pub arc_room : (n + 2 < table_size) × (n + 2 < size)
     unfolding arc
-    arc-room = (omega (arith, (left-room (to l ArcPlace) (at + 1 + 5) (n + 1 + 1) _ 8 second refl).0), omega (arith, left-fits (to l ArcPlace) (at + 1 + 5) (n + 1 + 1) _ 8 second refl (omega arith)))
+    arc_room = (omega (arith, (left_room (to l ArcPlace) (at + 1 + 5) (n + 1 + 1) _ 8 second refl).0), omega (arith, left_fits (to l ArcPlace) (at + 1 + 5) (n + 1 + 1) _ 8 second refl (omega arith)))
 
-    pub left-arc : Left (to l Weight) (at + arc_head_width) (n + 3) (set (set (set t n x.direction) (n + 1) x.subnet) (n + 2) x.place)
+    pub left_arc : Left (to l Weight) (at + arc_head_width) (n + 3) (set (set (set t n x.direction) (n + 1) x.subnet) (n + 2) x.place)
     unfolding arc
-    left-arc =
+    left_arc =
         let p : at + 1 + 5 + 8 ≡ at + 14 = omega arith in
         let q : n + 1 + 1 ≡ n + 2 = omega arith in
         let r : n + 1 + 1 + 1 ≡ n + 3 = omega arith in

@@ -31,14 +31,14 @@ use Rattle.card.specs.declared.layout.Move.{Move}
 use Rattle.card.specs.declared.layout.Move.TheVariants.{More, Done, Bad}
 use Rattle.card.specs.declared.writer.CardSpelt.{CardSpelt}
 use Rattle.card.specs.declared.writer.SpellAnswer.TheVariants.{Whole}
-use Rattle.card.proofs.Sums.{total-append, table-length, table_at}
+use Rattle.card.proofs.Sums.{total_append, table_length, table_at}
 use Rattle.card.proofs.Walk.{bits, walk, Spelt}
-use Rattle.card.proofs.BitLaws.{field-local, byte-field, lt-or-ge}
-use Rattle.card.proofs.Pack.{spell-fill, spell-length, spell-bytes, spell-spelt}
-use Rattle.card.proofs.RoundTrip.{read-encode, spelt-same, counted_is, walk-whole}
-use Rattle.card.proofs.Shape.{One, erase, counts_of, erase-card}
-use Rattle.card.proofs.Simulates.{denote, next_of, waits, denote-start}
-use Rattle.card.proofs.Bounds.{Budget, budget-card, sane-step, sane-start}
+use Rattle.card.proofs.BitLaws.{field_local, byte_field, lt_or_ge}
+use Rattle.card.proofs.Pack.{spell_fill, spell_length, spell_bytes, spell_spelt}
+use Rattle.card.proofs.RoundTrip.{read_encode, spelt_same, counted_is, walk_whole}
+use Rattle.card.proofs.Shape.{One, erase, counts_of, erase_card}
+use Rattle.card.proofs.Simulates.{denote, next_of, waits, denote_start}
+use Rattle.card.proofs.Bounds.{Budget, budget_card, sane_step, sane_start}
 use Rattle.card.proofs.Turn.{Leads, leads, zero_in}
 
 -- what is still to be spelt of c: a format, whose shape the layout has, and the fields that are spelt
@@ -83,23 +83,23 @@ and_split : (a b : Bool) → a && b ≡ true → (a ≡ true) × (b ≡ true)
 and_split true b e = (refl, e)
 and_split false b e = absurd (let z : ◌≡◌ {A = ℕ} 0 1 = cc in omega arith)
 
-fit-front : (front back : List Field) (f : Field) → all_fit (front ++ (f ∷ back)) ≡ true → f.value < 2 ^ f.width
+fit_front : (front back : List Field) (f : Field) → all_fit (front ++ (f ∷ back)) ≡ true → f.value < 2 ^ f.width
 unfolding all_fit
-fit-front [] back f e = ltb-true f.value (2 ^ f.width) (and_split (ltb f.value (2 ^ f.width)) (all_fit back) e).0
-fit-front (x ∷ front) back f e = fit-front front back f (and_split (ltb x.value (2 ^ x.width)) (all_fit (front ++ (f ∷ back))) e).1
+fit_front [] back f e = ltb-true f.value (2 ^ f.width) (and_split (ltb f.value (2 ^ f.width)) (all_fit back) e).0
+fit_front (x ∷ front) back f e = fit_front front back f (and_split (ltb x.value (2 ^ x.width)) (all_fit (front ++ (f ∷ back))) e).1
 
-value-front : (front back : List Field) (f : Field) → get_or (map (λ x. x.value) (front ++ (f ∷ back))) (length front) 0 ≡ f.value
-value-front [] back f = refl
-value-front (x ∷ front) back f = value-front front back f
+value_front : (front back : List Field) (f : Field) → get_or (map (λ x. x.value) (front ++ (f ∷ back))) (length front) 0 ≡ f.value
+value_front [] back f = refl
+value_front (x ∷ front) back f = value_front front back f
 
 length_front : (front back : List Field) (f : Field) → length front < length (map (λ x. x.value) (front ++ (f ∷ back)))
 length_front [] back f = omega arith
 length_front (x ∷ front) back f = omega (arith, length_front front back f)
 
 module _ (numbers : List ℕ) (c : Card) (k : Lines c numbers) (l : Layout) (at n : ℕ) (bytes : List ℕ) (w v : ℕ) (room : n < table_size) (ew : w ≡ width_of l) (ev : v ≡ get_or numbers n 0) where
-  pub next-of : Rest c l at n bytes → Next numbers c l at n bytes w v
+  pub next_of_rest : Rest c l at n bytes → Next numbers c l at n bytes w v
   unfolding fields numbers_of
-  next-of r = go r.format r.shape r.walks r.joined
+  next_of_rest r = go r.format r.shape r.walks r.joined
     where
       wait : denote l ≡ get w (λ u. 0) (fault_at l.phase l) (next_of (denote l))
       wait = waits l.phase l ∙ ap (λ (i : ℕ). get i (λ u. 0) (fault_at l.phase l) (next_of (denote l))) (sym ew)
@@ -111,8 +111,8 @@ module _ (numbers : List ℕ) (c : Card) (k : Lines c numbers) (l : Layout) (at 
           let l1 : n < length (numbers_of c) = rw (q, ← r.count) (length_front r.front _ _) in
           let e : value c ≡ v =
           sym (ev ∙ k.entries n room l1 ∙ ap (λ xs. get_or xs n 0) q ∙ ap (λ (i : ℕ). get_or (map (λ f. f.value) (r.front ++ (record { width = w; value = value c } ∷ fields (after (value c)) c))) i 0) (sym r.count)
-          ∙ value-front r.front _ _) in
-          let t : value c < 2 ^ w = fit-front r.front (fields (after (value c)) c) (record { width = w; value = value c }) (ap all_fit j ∙ k.fit) in
+          ∙ value_front r.front _ _) in
+          let t : value c < 2 ^ w = fit_front r.front (fields (after (value c)) c) (record { width = w; value = value c }) (ap all_fit j ∙ k.fit) in
           record {
             value = value;
             fault = fault;
@@ -144,59 +144,59 @@ zero_bit : (n i : ℕ) → bit (replicate n 0) i ≡ 0
 unfolding bit
 zero_bit n i = rw (zero_in n (i / 8), zero-div)
 
-pub behind-start : (numbers : List ℕ) → Behind numbers start_of 0 0 (replicate card_bytes 0)
-behind-start numbers =
+pub behind_start : (numbers : List ℕ) → Behind numbers start_of 0 0 (replicate card_bytes 0)
+behind_start numbers =
     record {
-      sane = sane-start;
-      budget = subst (λ (m : Format One Counts). Budget m table_size card_bits) (sym denote-start) budget-card;
+      sane = sane_start;
+      budget = subst (λ (m : Format One Counts). Budget m table_size card_bits) (sym denote_start) budget_card;
       low = omega arith;
       few = omega arith;
       long = length-replicate {A = ℕ} card_bytes 0;
       small = λ k. rw (zero_in card_bytes k) (omega arith);
       zeros = λ i h. zero_bit card_bytes i;
-      rest = λ c k. record { format = card; shape = erase-card ∙ sym denote-start; walks = refl; front = []; joined = refl; count = refl; wide = refl; spelt = tt };
+      rest = λ c k. record { format = card; shape = erase_card ∙ sym denote_start; walks = refl; front = []; joined = refl; count = refl; wide = refl; spelt = tt };
     }
 
 -- bytes that spell the fields of c, with zeros behind, are the bytes of its card
 module _ (c : Card) (bytes : List ℕ) (end : ℕ) (k : all_fit (fields card c) ≡ true) (e : end ≡ bits (fields card c))
     (long : length bytes ≡ card_bytes) (small : (i : ℕ) → get_or bytes i 0 < 256) (zeros : (i : ℕ) → end ≤ i → bit bytes i ≡ 0) (s : Spelt bytes 0 (fields card c)) where
-  whole-bit : (i : ℕ) → bit bytes i ≡ bit (encode c) i
+  whole_bit : (i : ℕ) → bit bytes i ≡ bit (encode c) i
   unfolding encode
-  whole-bit i = go (lt-or-ge i end)
+  whole_bit i = go (lt_or_ge i end)
     where
       go : (i < end) ⊎ (end ≤ i) → bit bytes i ≡ bit (encode c) i
-      go (inl h) = spelt-same bytes (encode c) 0 (fields card c) s (spell-spelt (fields card c) k) i (omega arith) (omega arith)
-      go (inr h) = zeros i h ∙ sym (spell-fill (fields card c) i (omega arith))
+      go (inl h) = spelt_same bytes (encode c) 0 (fields card c) s (spell_spelt (fields card c) k) i (omega arith) (omega arith)
+      go (inr h) = zeros i h ∙ sym (spell_fill (fields card c) i (omega arith))
 
-  whole-byte : (i : ℕ) → get_or bytes i 0 ≡ get_or (encode c) i 0
+  whole_byte : (i : ℕ) → get_or bytes i 0 ≡ get_or (encode c) i 0
   unfolding encode
-  whole-byte i =
-      byte-field bytes small i
-      ∙ field-local (bit bytes) (bit (encode c)) (8 * i) 8 (λ j a b. whole-bit j)
-      ∙ sym (byte-field (encode c) (spell-bytes (fields card c)) i)
+  whole_byte i =
+      byte_field bytes small i
+      ∙ field_local (bit bytes) (bit (encode c)) (8 * i) 8 (λ j a b. whole_bit j)
+      ∙ sym (byte_field (encode c) (spell_bytes (fields card c)) i)
 
-  whole-bytes : bytes ≡ table 0 card_bytes (λ i. get_or (encode c) i 0)
-  whole-bytes =
-      ext_get_or 0 bytes (table 0 card_bytes (λ i. get_or (encode c) i 0)) (long ∙ sym (table-length 0 card_bytes (λ i. get_or (encode c) i 0)))
-      (λ i l. whole-byte i ∙ sym (table_at card_bytes (λ j. get_or (encode c) j 0) 0 i (omega (arith, long))))
+  whole_bytes : bytes ≡ table 0 card_bytes (λ i. get_or (encode c) i 0)
+  whole_bytes =
+      ext_get_or 0 bytes (table 0 card_bytes (λ i. get_or (encode c) i 0)) (long ∙ sym (table_length 0 card_bytes (λ i. get_or (encode c) i 0)))
+      (λ i l. whole_byte i ∙ sym (table_at card_bytes (λ j. get_or (encode c) j 0) 0 i (omega (arith, long))))
 
-  pub whole-spelt : counted c ≡ true → (d : Card) → walk card c 0 ≡ whole d end → (r : CardSpelt) → r.answer ≡ Whole ((end + 7) / 8) → r.bytes ≡ bytes → IsSpelt (read_card (encode c)) r
+  pub whole_spelt : counted c ≡ true → (d : Card) → walk card c 0 ≡ whole d end → (r : CardSpelt) → r.answer ≡ Whole ((end + 7) / 8) → r.bytes ≡ bytes → IsSpelt (read_card (encode c)) r
   unfolding encode
-  whole-spelt n d w r ea eb =
-      let q : d ≡ c = (walk-whole c d end ((counted_is c).0 n) w).0 in
-      rw (read-encode c k, w, q) (record { answer = rw ea (ap Spelling.whole (omega (arith, spell-length (fields card c)))); bytes = eb ∙ whole-bytes })
+  whole_spelt n d w r ea eb =
+      let q : d ≡ c = (walk_whole c d end ((counted_is c).0 n) w).0 in
+      rw (read_encode c k, w, q) (record { answer = rw ea (ap Spelling.whole (omega (arith, spell_length (fields card c)))); bytes = eb ∙ whole_bytes })
 
 -- a field more
-spelt-keep : (old new : List ℕ) (at : ℕ) (fs : List Field) → ((i : ℕ) → i < at + bits fs → bit new i ≡ bit old i) → Spelt old at fs → Spelt new at fs
-spelt-keep old new at [] h s = tt
-spelt-keep old new at (f ∷ fs) h s =
-    (field-local (bit new) (bit old) at f.width (λ i a b. h i (omega arith)) ∙ s.0, spelt-keep old new (at + f.width) fs (λ i m. h i (omega arith)) s.1)
+spelt_keep : (old new : List ℕ) (at : ℕ) (fs : List Field) → ((i : ℕ) → i < at + bits fs → bit new i ≡ bit old i) → Spelt old at fs → Spelt new at fs
+spelt_keep old new at [] h s = tt
+spelt_keep old new at (f ∷ fs) h s =
+    (field_local (bit new) (bit old) at f.width (λ i a b. h i (omega arith)) ∙ s.0, spelt_keep old new (at + f.width) fs (λ i m. h i (omega arith)) s.1)
 
-spelt-snoc : (bytes : List ℕ) (at : ℕ) (fs : List Field) (f : Field) → Spelt bytes at fs → bit_field (bit bytes) (at + bits fs) f.width ≡ f.value → Spelt bytes at (fs ++ (f ∷ []))
-spelt-snoc bytes at [] f s e = (ap (λ (i : ℕ). bit_field (bit bytes) i f.width) (sym (add-zero at)) ∙ e, tt)
-spelt-snoc bytes at (x ∷ fs) f s e =
+spelt_snoc : (bytes : List ℕ) (at : ℕ) (fs : List Field) (f : Field) → Spelt bytes at fs → bit_field (bit bytes) (at + bits fs) f.width ≡ f.value → Spelt bytes at (fs ++ (f ∷ []))
+spelt_snoc bytes at [] f s e = (ap (λ (i : ℕ). bit_field (bit bytes) i f.width) (sym (add-zero at)) ∙ e, tt)
+spelt_snoc bytes at (x ∷ fs) f s e =
     let q : at + (x.width + bits fs) ≡ at + x.width + bits fs = omega arith in
-    (s.0, spelt-snoc bytes (at + x.width) fs f s.1 (ap (λ (i : ℕ). bit_field (bit bytes) i f.width) (sym q) ∙ e))
+    (s.0, spelt_snoc bytes (at + x.width) fs f s.1 (ap (λ (i : ℕ). bit_field (bit bytes) i f.width) (sym q) ∙ e))
 
 module _ (numbers : List ℕ) (l : Layout) (at n : ℕ) (bytes : List ℕ) (w v : ℕ) (b : Behind numbers l at n bytes) (ew : w ≡ width_of l) where
   wait : denote l ≡ get w (λ u. 0) (fault_at l.phase l) (next_of (denote l))
@@ -205,45 +205,45 @@ module _ (numbers : List ℕ) (l : Layout) (at n : ℕ) (bytes : List ℕ) (w v 
   waited : Budget (get w (λ u. 0) (fault_at l.phase l) (next_of (denote l))) (table_size - n) (card_bits - at)
   waited = subst (λ (m : Format One Counts). Budget m (table_size - n) (card_bits - at)) wait b.budget
 
-  pub behind-room : (n < table_size) × (at + w ≤ card_bits)
-  behind-room = go (table_size - n) refl waited
+  pub behind_room : (n < table_size) × (at + w ≤ card_bits)
+  behind_room = go (table_size - n) refl waited
     where
       go : (k : ℕ) → table_size - n ≡ k → Budget (get w (λ u. 0) (fault_at l.phase l) (next_of (denote l))) k (card_bits - at) → (n < table_size) × (at + w ≤ card_bits)
       go zero e h = absurd h
       go (suc k) e h = (omega arith, omega (arith, h.0, b.low))
 
   -- a number that does not fit is none of a card's
-  pub behind-wide : v ≡ get_or numbers n 0 → 2 ^ w ≤ v → (c : Card) → Lines c numbers → (r : CardSpelt) → IsSpelt (read_card (encode c)) r
-  behind-wide ev h c k r = let x = next-of numbers c k l at n bytes w v behind-room.0 ew ev (b.rest c k) in absurd (omega (arith, x.fits))
+  pub behind_wide : v ≡ get_or numbers n 0 → 2 ^ w ≤ v → (c : Card) → Lines c numbers → (r : CardSpelt) → IsSpelt (read_card (encode c)) r
+  behind_wide ev h c k r = let x = next_of_rest numbers c k l at n bytes w v behind_room.0 ew ev (b.rest c k) in absurd (omega (arith, x.fits))
 
   module _ (r : Move) (new : List ℕ) (ev : v ≡ get_or numbers n 0) (fits : v < 2 ^ w) (put : Put bytes at w v new) (er : r ≡ step_of l v) where
     next : (c : Card) → Lines c numbers → Next numbers c l at n bytes w v
-    next c k = next-of numbers c k l at n bytes w v behind-room.0 ew ev (b.rest c k)
+    next c k = next_of_rest numbers c k l at n bytes w v behind_room.0 ew ev (b.rest c k)
 
-    pub behind-bad : (f : FormatFault) → r ≡ Bad f → (c : Card) → Lines c numbers → (s : CardSpelt) → IsUnspelt f at s → IsSpelt (read_card (encode c)) s
-    behind-bad f e c k s u =
+    pub behind_bad : (f : FormatFault) → r ≡ Bad f → (c : Card) → Lines c numbers → (s : CardSpelt) → IsUnspelt f at s → IsSpelt (read_card (encode c)) s
+    behind_bad f e c k s u =
         let x = next c k in
         let y = subst (Leads l v) e (leads l v r er) in
         let q : walk card c 0 ≡ refused (number f) at = sym x.walks ∙ rw (x.right, x.faults, y) in
-        rw (read-encode c k.fit, q) (record { answer = rw u.answer; bytes = u.bytes })
+        rw (read_encode c k.fit, q) (record { answer = rw u.answer; bytes = u.bytes })
 
     -- the number is spelt behind the others
     abbrev field : Field
     field = record { width = w; value = v }
 
-    more-spelt : (front : List Field) → bits front ≡ at → Spelt bytes 0 front → Spelt new 0 (front ++ (field ∷ []))
-    more-spelt front e s =
-        spelt-snoc new 0 front field (spelt-keep bytes new 0 front (λ i m. put.outside i (inl (omega arith))) s)
+    more_spelt : (front : List Field) → bits front ≡ at → Spelt bytes 0 front → Spelt new 0 (front ++ (field ∷ []))
+    more_spelt front e s =
+        spelt_snoc new 0 front field (spelt_keep bytes new 0 front (λ i m. put.outside i (inl (omega arith))) s)
         (let q : 0 + bits front ≡ at = omega arith in rw q put.value)
 
     pub behind_more : (m : Layout) → r ≡ More m → Behind numbers m (at + w) (n + 1) new
     behind_more m e =
         let y = subst (Leads l v) e (leads l v r er) in
         record {
-          sane = sane-step l m v b.sane (sym er ∙ e);
+          sane = sane_step l m v b.sane (sym er ∙ e);
           budget = subst (λ (x : Format One Counts). Budget x (table_size - (n + 1)) (card_bits - (at + w))) y.1 (spent y.0);
-          low = behind-room.1;
-          few = omega (arith, behind-room.0);
+          low = behind_room.1;
+          few = omega (arith, behind_room.0);
           long = put.long ∙ b.long;
           small = put.small b.small;
           zeros = λ i h. put.outside i (inr h) ∙ b.zeros i (omega arith);
@@ -252,7 +252,7 @@ module _ (numbers : List ℕ) (l : Layout) (at n : ℕ) (bytes : List ℕ) (w v 
       where
         spent : fault_at l.phase l v ≡ none → Budget (next_of (denote l) v) (table_size - (n + 1)) (card_bits - (at + w))
         spent e =
-            let q : table_size - n ≡ suc (table_size - (n + 1)) = omega (arith, behind-room.0) in
+            let q : table_size - n ≡ suc (table_size - (n + 1)) = omega (arith, behind_room.0) in
             let p : card_bits - at - w ≡ card_bits - (at + w) = omega arith in
             let x : Budget (get w (λ u. 0) (fault_at l.phase l) (next_of (denote l))) (suc (table_size - (n + 1))) (card_bits - at) = rw q at waited in
             rw p at (x.1 v fits e)
@@ -266,14 +266,14 @@ module _ (numbers : List ℕ) (l : Layout) (at n : ℕ) (bytes : List ℕ) (w v 
               front = x.front ++ (field ∷ []);
               joined = append_snoc x.front field (fields (x.after v) c) ∙ x.joined;
               count = length-append x.front (field ∷ []) ∙ ap (λ (i : ℕ). i + 1) x.count;
-              wide = total-append (λ f. f.width) x.front (field ∷ []) ∙ omega (arith, x.wide);
-              spelt = more-spelt x.front x.wide x.spelt;
+              wide = total_append (λ f. f.width) x.front (field ∷ []) ∙ omega (arith, x.wide);
+              spelt = more_spelt x.front x.wide x.spelt;
             }
 
     -- the last number: what is spelt is the card
-    pub behind-done : (m : Counts) → r ≡ Done m → (c : Card) → Lines c numbers → (s : CardSpelt) → s.answer ≡ Whole ((at + w + 7) / 8) → s.bytes ≡ new → IsSpelt (read_card (encode c)) s
+    pub behind_done : (m : Counts) → r ≡ Done m → (c : Card) → Lines c numbers → (s : CardSpelt) → s.answer ≡ Whole ((at + w + 7) / 8) → s.bytes ≡ new → IsSpelt (read_card (encode c)) s
     unfolding fields
-    behind-done m e c k s ea eb = go (x.after v) refl
+    behind_done m e c k s ea eb = go (x.after v) refl
       where
         x : Next numbers c l at n bytes w v
         x = next c k
@@ -285,6 +285,6 @@ module _ (numbers : List ℕ) (l : Layout) (at n : ℕ) (bytes : List ℕ) (w v 
         go (get u value fault after) q = absurd (let p = ap (erase counts_of) (sym q) ∙ x.shape ∙ y.1 in let z : ◌≡◌ {A = ℕ} 0 1 = cc in omega arith)
         go (done d) q =
             let all : x.front ++ (field ∷ []) ≡ fields card c = rw q at x.joined in
-            let end : at + w ≡ bits (fields card c) = rw (← all) (sym (total-append (λ f. f.width) x.front (field ∷ []) ∙ omega (arith, x.wide))) in
-            whole-spelt c new (at + w) k.fit end (put.long ∙ b.long) (put.small b.small) (λ i h. put.outside i (inr h) ∙ b.zeros i (omega arith))
-            (rw (← all) (more-spelt x.front x.wide x.spelt)) k.counts d (sym x.walks ∙ rw (x.right, x.faults, y.0, q)) s ea eb
+            let end : at + w ≡ bits (fields card c) = rw (← all) (sym (total_append (λ f. f.width) x.front (field ∷ []) ∙ omega (arith, x.wide))) in
+            whole_spelt c new (at + w) k.fit end (put.long ∙ b.long) (put.small b.small) (λ i h. put.outside i (inr h) ∙ b.zeros i (omega arith))
+            (rw (← all) (more_spelt x.front x.wide x.spelt)) k.counts d (sym x.walks ∙ rw (x.right, x.faults, y.0, q)) s ea eb

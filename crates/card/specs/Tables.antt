@@ -15,7 +15,7 @@ use Rattle.card.specs.declared.reader.CardRead.{CardRead}
 abbrev pub table_size : ℕ
 table_size = header_fields + subnet_fields * max_subnets + place_fields * max_count + (transition_fields + arc_fields * max_arcs) * max_count
 
--- the most bits and bytes of a card, all of whose rows are there (`most-bits`, `bytes-few`)
+-- the most bits and bytes of a card, all of whose rows are there (`most_bits`, `bytes_few`)
 abbrev pub card_bits : ℕ
 card_bits = 182153
 

@@ -48,7 +48,7 @@ pub const TABLE: usize = HEADER_FIELDS
     + PLACE_FIELDS * MOST_PLACES
     + (TRANSITION_FIELDS + ARC_FIELDS * MOST_ARCS) * MOST_TRANSITIONS;
 
-// The most bytes of a card (`bytes-few` in proofs/Length.antt).
+// The most bytes of a card (`bytes_few` in proofs/Length.antt).
 pub const CARD_BYTES: usize = 22770;
 
 // Cards of up to so many bytes, a robot's among them, get by with a table of so many numbers: a card has at least a bit for each of its numbers.
@@ -56,7 +56,7 @@ pub const SMALL_CARD: usize = 256;
 
 pub const SMALL_TABLE: usize = 8 * SMALL_CARD;
 
-// Of a longer input as many bytes decide (`long-input` in proofs/LongInput.antt).
+// Of a longer input as many bytes decide (`long_input` in proofs/LongInput.antt).
 pub const INPUT_BYTES: usize = CARD_BYTES + 1;
 
 // The second table, column by column (specs/Index.antt): where each begins behind the rows of subnets, and where the last one ends.

@@ -12,8 +12,8 @@ use Rattle.console.specs.Cases.{number_at, IsNumbers}
 pub counts : (n : ℕ) (bytes : List ℕ) → n ≤ length bytes → IsPrefixLen n bytes
 counts n bytes l = (l, simp length-take (omega arith))
 
-pub counts-front : (n : ℕ) (front bytes : List ℕ) → length front ≡ length (take n bytes) → n ≤ length bytes → IsPrefixLen n (front ++ drop n bytes)
-counts-front n front bytes e l =
+pub counts_front : (n : ℕ) (front bytes : List ℕ) → length front ≡ length (take n bytes) → n ≤ length bytes → IsPrefixLen n (front ++ drop n bytes)
+counts_front n front bytes e l =
     let f : length front ≡ n = omega (arith, length-take n bytes) in
     counts n (front ++ drop n bytes) (omega (arith, length-append front (drop n bytes)))
 
@@ -31,13 +31,13 @@ module _ (bytes before table : List ℕ) where
         behind = λ k m. others k (λ q. omega arith) ∙ h.behind k (omega arith);
       }
 
-  pub filled-end : (i n : ℕ) → IsNumbers bytes before table i → i ≤ n → n ≤ i → IsNumbers bytes before table n
-  filled-end i n h l m =
+  pub filled_end : (i n : ℕ) → IsNumbers bytes before table i → i ≤ n → n ≤ i → IsNumbers bytes before table n
+  filled_end i n h l m =
       record {
         size = h.size;
         front = λ k q. h.front k (omega arith);
         behind = λ k q. h.behind k (omega arith);
       }
 
-  pub filled-counts : (i n : ℕ) → IsNumbers bytes before table i → n ≤ length before → IsPrefixLen n table
-  filled-counts i n h l = counts n table (omega (arith, h.size))
+  pub filled_counts : (i n : ℕ) → IsNumbers bytes before table i → n ≤ length before → IsPrefixLen n table
+  filled_counts i n h l = counts n table (omega (arith, h.size))

@@ -1,5 +1,5 @@
 // Reads a card from standard input and writes the flat card's bytes; of a refused card, one line: no, number, position. What is written is proved in
-// crate `programs`; here it is read and written. Of a longer input the first INPUT_BYTES decide (flatten-reads in programs/proofs/LongCard.antt), so
+// crate `programs`; here it is read and written. Of a longer input the first INPUT_BYTES decide (flatten_reads in programs/proofs/LongCard.antt), so
 // no more are read.
 #![tactic(auto)]
 

@@ -14,21 +14,21 @@ use Rattle.card.specs.Grammar.{header, subnet, place, transition, arc}
 use Rattle.card.specs.Index.{subnet_row, transition_row, place_field, arc_field, PlaceThere, TransitionThere, ArcThere, Lists, Laid}
 use Rattle.card.specs.Tables.{numbers_of, table_size}
 use Rattle.card.specs.Wellformed.{Wellformed}
-use Rattle.card.proofs.BitLaws.{lt-or-ge}
-use Rattle.card.proofs.Sums.{map-length}
-use Rattle.card.proofs.RowNumbers.{numbers-rows}
-use Rattle.card.proofs.Positions.{counted, laid, numbers-long, arcs-few}
+use Rattle.card.proofs.BitLaws.{lt_or_ge}
+use Rattle.card.proofs.Sums.{map_length}
+use Rattle.card.proofs.RowNumbers.{numbers_rows}
+use Rattle.card.proofs.Positions.{counted, laid, numbers_long, arcs_few}
 use Rattle.hierarchy.specs.Conditions.{Meets}
 use Rattle.flattening.specs.Flattening.{flat_place_row, flat_arc, flatten}
 use Rattle.flattening.specs.inner.FlatNumbers.{flat_number, place_position, transition_position, arc_position, put_three, put_four, Filled}
-use Rattle.flattening.proofs.FlatLaws.{place-flat, arc-flat, transition-flat, flat-meets}
+use Rattle.flattening.proofs.FlatLaws.{place_flat, arc_flat, transition_flat, flat_meets}
 
 -- ONE MORE NUMBER IS STORED; past the table's end none is, and none is owed
 pub fill : (c : Card) (n k : ℕ) (out : List ℕ) (v : ℕ) → Filled c n out → k ≡ n + 1 → v ≡ flat_number c n → Filled c k (set out n v)
 fill c n k out v h ek ev =
     record {
       room = omega (arith, h.room, length-set out n v);
-      stored = λ i l. at i (omega arith) (lt-or-ge i n);
+      stored = λ i l. at i (omega arith) (lt_or_ge i n);
       empty = λ i l. get_or-set_other out n i v 0 (λ e. omega arith) ∙ h.empty i (omega arith);
     }
   where
@@ -38,62 +38,62 @@ fill c n k out v h ek ev =
 
     at : (i : ℕ) → i < n + 1 → (i < n) ⊎ (n ≤ i) → get_or (set out n v) i 0 ≡ flat_number c i
     at i l (inl b) = get_or-set_other out n i v 0 (λ e. omega arith) ∙ h.stored i b
-    at i l (inr b) = let e : n ≡ i = omega arith in subst (λ (j : ℕ). get_or (set out n v) j 0 ≡ flat_number c j) e (there (lt-or-ge n (length out)))
+    at i l (inr b) = let e : n ≡ i = omega arith in subst (λ (j : ℕ). get_or (set out n v) j 0 ≡ flat_number c j) e (there (lt_or_ge n (length out)))
 
-pub three-long : (out : List ℕ) (n a b d : ℕ) → length (put_three out n a b d) ≡ length out
-three-long out n a b d = length-set (set (set out n a) (n + 1) b) (n + 2) d ∙ length-set (set out n a) (n + 1) b ∙ length-set out n a
+pub three_long : (out : List ℕ) (n a b d : ℕ) → length (put_three out n a b d) ≡ length out
+three_long out n a b d = length-set (set (set out n a) (n + 1) b) (n + 2) d ∙ length-set (set out n a) (n + 1) b ∙ length-set out n a
 
-pub four-long : (out : List ℕ) (n a b d e : ℕ) → length (put_four out n a b d e) ≡ length out
-four-long out n a b d e = length-set (put_three out n a b d) (n + 3) e ∙ three-long out n a b d
+pub four_long : (out : List ℕ) (n a b d e : ℕ) → length (put_four out n a b d e) ≡ length out
+four_long out n a b d e = length-set (put_three out n a b d) (n + 3) e ∙ three_long out n a b d
 
 module _ (c : Card) (n : ℕ) (out : List ℕ) (a b d : ℕ) where
-  pub fill-three : (k : ℕ) → Filled c n out → k ≡ n + 3 → a ≡ flat_number c n → b ≡ flat_number c (n + 1) → d ≡ flat_number c (n + 2) → Filled c k (put_three out n a b d)
-  fill-three k h ek ea eb ed =
+  pub fill_three : (k : ℕ) → Filled c n out → k ≡ n + 3 → a ≡ flat_number c n → b ≡ flat_number c (n + 1) → d ≡ flat_number c (n + 2) → Filled c k (put_three out n a b d)
+  fill_three k h ek ea eb ed =
       let h₁ = fill c n (n + 1) out a h refl ea in
       let h₂ = fill c (n + 1) (n + 2) (set out n a) b h₁ (omega arith) eb in
       fill c (n + 2) k (set (set out n a) (n + 1) b) d h₂ (omega arith) ed
 
-  pub fill-four : (e k : ℕ) → Filled c n out → k ≡ n + 4 → a ≡ flat_number c n → b ≡ flat_number c (n + 1) → d ≡ flat_number c (n + 2) → e ≡ flat_number c (n + 3) → Filled c k (put_four out n a b d e)
-  fill-four e k h ek ea eb ed ee = fill c (n + 3) k (put_three out n a b d) e (fill-three (n + 3) h refl ea eb ed) (omega arith) ee
+  pub fill_four : (e k : ℕ) → Filled c n out → k ≡ n + 4 → a ≡ flat_number c n → b ≡ flat_number c (n + 1) → d ≡ flat_number c (n + 2) → e ≡ flat_number c (n + 3) → Filled c k (put_four out n a b d e)
+  fill_four e k h ek ea eb ed ee = fill c (n + 3) k (put_three out n a b d) e (fill_three (n + 3) h refl ea eb ed) (omega arith) ee
 
 -- where the rows of the flat card stand
-main-row : (c : Card) → subnet_row (flatten c) 0 ≡ 5
+main_row : (c : Card) → subnet_row (flatten c) 0 ≡ 5
 unfolding subnet_row first_place first_transition first_arc sum_to count header subnet place transition arc
-main-row c = refl
+main_row c = refl
 
-place-field : (c : Card) (p k : ℕ) → place_field (subnet_row (flatten c) 0) p k ≡ place_position p + k
+place_field_is : (c : Card) (p k : ℕ) → place_field (subnet_row (flatten c) 0) p k ≡ place_position p + k
 unfolding place_field count subnet place
-place-field c p k = omega (arith, main-row c)
+place_field_is c p k = omega (arith, main_row c)
 
-main-places : (c : Card) → first_place (flatten c) 1 ≡ length c.places
+main_places : (c : Card) → first_place (flatten c) 1 ≡ length c.places
 unfolding flatten first_place sum_to
-main-places c = zero-add (length c.places)
+main_places c = zero-add (length c.places)
 
-main-transitions : (c : Card) → first_transition (flatten c) 1 ≡ length c.transitions
+main_transitions : (c : Card) → first_transition (flatten c) 1 ≡ length c.transitions
 unfolding flatten first_transition sum_to
-main-transitions c = zero-add (length c.transitions)
+main_transitions c = zero-add (length c.transitions)
 
-main-arcs : (c : Card) (t : ℕ) → first_arc (flatten c) t ≡ first_arc c t
+main_arcs : (c : Card) (t : ℕ) → first_arc (flatten c) t ≡ first_arc c t
 unfolding flatten first_arc sum_to
-main-arcs c t = refl
+main_arcs c t = refl
 
-transition-row : (c : Card) (t : ℕ) → transition_row (flatten c) 0 t ≡ transition_position c t
+transition_row_is : (c : Card) (t : ℕ) → transition_row (flatten c) 0 t ≡ transition_position c t
 unfolding transition_row count header subnet place transition arc
-transition-row c t = omega (arith, main-places c, main-arcs c t)
+transition_row_is c t = omega (arith, main_places c, main_arcs c t)
 
-arc-field : (c : Card) (t j k : ℕ) → arc_field (transition_row (flatten c) 0 t) j k ≡ arc_position c t j + k
+arc_field_is : (c : Card) (t j k : ℕ) → arc_field (transition_row (flatten c) 0 t) j k ≡ arc_position c t j + k
 unfolding arc_field count transition arc
-arc-field c t j k = omega (arith, transition-row c t)
+arc_field_is c t j k = omega (arith, transition_row_is c t)
 
 module _ (c : Card) (m : Meets c) where
   whole : Wellformed (flatten c)
-  whole = (flat-meets c m).wellformed
+  whole = (flat_meets c m).wellformed
 
   number_at : (i j v : ℕ) → get_or (numbers_of (flatten c)) i 0 ≡ v → i ≡ j → v ≡ flat_number c j
   number_at i j v e q = sym e ∙ ap (flat_number c) q
 
-  laid-flat : Laid (flatten c) (numbers_of (flatten c))
-  laid-flat = laid (flatten c) whole (numbers_of (flatten c)) (λ i. refl)
+  laid_flat : Laid (flatten c) (numbers_of (flatten c))
+  laid_flat = laid (flatten c) whole (numbers_of (flatten c)) (λ i. refl)
 
   -- WHAT THE NUMBERS OF THE FLAT CARD ARE: header and subnet
   pub record HeadNumbers : Type 0 where
@@ -107,17 +107,17 @@ module _ (c : Card) (m : Meets c) where
     pub places : length c.places ≡ flat_number c 7
     pub transitions : length c.transitions ≡ flat_number c 8
 
-  pub head-numbers : HeadNumbers
+  pub head_numbers : HeadNumbers
   unfolding flatten
-  head-numbers =
-      let r = laid-flat.subnet 0 (omega arith) in
-      let e = main-row c in
+  head_numbers =
+      let r = laid_flat.subnet 0 (omega arith) in
+      let e = main_row c in
       record {
-        version = number_at 0 0 c.version laid-flat.version refl;
-        subnets = sym (ap (λ xs. get_or xs 1 0) (numbers-rows (flatten c) (counted (flatten c) whole)));
-        signals = number_at 2 2 c.signals laid-flat.signals refl;
-        limit = number_at 3 3 c.limit laid-flat.limit refl;
-        scale = number_at 4 4 c.scale laid-flat.scale refl;
+        version = number_at 0 0 c.version laid_flat.version refl;
+        subnets = sym (ap (λ xs. get_or xs 1 0) (numbers_rows (flatten c) (counted (flatten c) whole)));
+        signals = number_at 2 2 c.signals laid_flat.signals refl;
+        limit = number_at 3 3 c.limit laid_flat.limit refl;
+        scale = number_at 4 4 c.scale laid_flat.scale refl;
         parent = number_at (subnet_row (flatten c) 0) 5 0 r.parent e;
         type = number_at (subnet_row (flatten c) 0 + 1) 6 0 r.type (omega (arith, e));
         places = number_at (subnet_row (flatten c) 0 + 2) 7 (length c.places) r.places (omega (arith, e));
@@ -126,68 +126,68 @@ module _ (c : Card) (m : Meets c) where
 
   -- a place
   module _ (p : ℕ) (l : p < length c.places) where
-    place-there : PlaceThere (numbers_of (flatten c)) (subnet_row (flatten c) 0) p (flat_place_row (place_at c p))
-    place-there =
+    place_there : PlaceThere (numbers_of (flatten c)) (subnet_row (flatten c) 0) p (flat_place_row (place_at c p))
+    place_there =
         let z : first_place (flatten c) 0 + p ≡ p = (unfold first_place sum_to in zero-add p) in
-        rw (z, place-flat c p) at (laid-flat.place 0 p (unfold flatten in omega arith) (unfold flatten in l))
+        rw (z, place_flat c p) at (laid_flat.place 0 p (unfold flatten in omega arith) (unfold flatten in l))
 
-    pub place-kind : 0 ≡ flat_number c (place_position p)
-    place-kind = number_at (place_field (subnet_row (flatten c) 0) p 0) (place_position p) 0 place-there.kind (omega (arith, place-field c p 0))
+    pub place_kind : 0 ≡ flat_number c (place_position p)
+    place_kind = number_at (place_field (subnet_row (flatten c) 0) p 0) (place_position p) 0 place_there.kind (omega (arith, place_field_is c p 0))
 
-    pub place-capacity : (place_at c p).capacity ≡ flat_number c (place_position p + 1)
-    place-capacity = number_at (place_field (subnet_row (flatten c) 0) p 1) (place_position p + 1) (place_at c p).capacity place-there.capacity (place-field c p 1)
+    pub place_capacity : (place_at c p).capacity ≡ flat_number c (place_position p + 1)
+    place_capacity = number_at (place_field (subnet_row (flatten c) 0) p 1) (place_position p + 1) (place_at c p).capacity place_there.capacity (place_field_is c p 1)
 
-    pub place-tokens : (place_at c p).tokens ≡ flat_number c (place_position p + 2)
-    place-tokens = number_at (place_field (subnet_row (flatten c) 0) p 2) (place_position p + 2) (place_at c p).tokens place-there.tokens (place-field c p 2)
+    pub place_tokens : (place_at c p).tokens ≡ flat_number c (place_position p + 2)
+    place_tokens = number_at (place_field (subnet_row (flatten c) 0) p 2) (place_position p + 2) (place_at c p).tokens place_there.tokens (place_field_is c p 2)
 
   -- a transition
   module _ (t : ℕ) (l : t < length c.transitions) where
-    lists-flat : Lists (flatten c) 0 t
-    lists-flat = record { subnet = (unfold flatten in omega arith); first = (unfold first_transition sum_to in omega arith); last = omega (arith, main-transitions c) }
+    lists_flat : Lists (flatten c) 0 t
+    lists_flat = record { subnet = (unfold flatten in omega arith); first = (unfold first_transition sum_to in omega arith); last = omega (arith, main_transitions c) }
 
-    transition-there : TransitionThere (numbers_of (flatten c)) (transition_row (flatten c) 0 t) (transition_at c t)
-    transition-there = rw (transition-flat c t) at (laid-flat.transition 0 t lists-flat)
+    transition_there : TransitionThere (numbers_of (flatten c)) (transition_row (flatten c) 0 t) (transition_at c t)
+    transition_there = rw (transition_flat c t) at (laid_flat.transition 0 t lists_flat)
 
-    pub transition-signal : (transition_at c t).signal ≡ flat_number c (transition_position c t)
-    transition-signal = number_at (transition_row (flatten c) 0 t) (transition_position c t) (transition_at c t).signal transition-there.signal (transition-row c t)
+    pub transition_signal : (transition_at c t).signal ≡ flat_number c (transition_position c t)
+    transition_signal = number_at (transition_row (flatten c) 0 t) (transition_position c t) (transition_at c t).signal transition_there.signal (transition_row_is c t)
 
-    pub transition-arcs : (transition_at c t).arcs ≡ flat_number c (transition_position c t + 1)
-    transition-arcs = number_at (transition_row (flatten c) 0 t + 1) (transition_position c t + 1) (transition_at c t).arcs transition-there.arcs (omega (arith, transition-row c t))
+    pub transition_arcs : (transition_at c t).arcs ≡ flat_number c (transition_position c t + 1)
+    transition_arcs = number_at (transition_row (flatten c) 0 t + 1) (transition_position c t + 1) (transition_at c t).arcs transition_there.arcs (omega (arith, transition_row_is c t))
 
-    pub transition-rank : (transition_at c t).rank ≡ flat_number c (transition_position c t + 2)
-    transition-rank = number_at (transition_row (flatten c) 0 t + 2) (transition_position c t + 2) (transition_at c t).rank transition-there.rank (omega (arith, transition-row c t))
+    pub transition_rank : (transition_at c t).rank ≡ flat_number c (transition_position c t + 2)
+    transition_rank = number_at (transition_row (flatten c) 0 t + 2) (transition_position c t + 2) (transition_at c t).rank transition_there.rank (omega (arith, transition_row_is c t))
 
     -- an arc
     module _ (j : ℕ) (b : j < (transition_at c t).arcs) where
-      arc-there : ArcThere (numbers_of (flatten c)) (transition_row (flatten c) 0 t) j (flat_arc c (arc_at c t j))
-      arc-there = rw (arc-flat c t j) at (laid-flat.arc 0 t j lists-flat (unfold flatten in b))
+      arc_there : ArcThere (numbers_of (flatten c)) (transition_row (flatten c) 0 t) j (flat_arc c (arc_at c t j))
+      arc_there = rw (arc_flat c t j) at (laid_flat.arc 0 t j lists_flat (unfold flatten in b))
 
-      pub arc-direction : (arc_at c t j).direction ≡ flat_number c (arc_position c t j)
-      arc-direction = number_at (arc_field (transition_row (flatten c) 0 t) j 0) (arc_position c t j) (arc_at c t j).direction arc-there.direction (omega (arith, arc-field c t j 0))
+      pub arc_direction : (arc_at c t j).direction ≡ flat_number c (arc_position c t j)
+      arc_direction = number_at (arc_field (transition_row (flatten c) 0 t) j 0) (arc_position c t j) (arc_at c t j).direction arc_there.direction (omega (arith, arc_field_is c t j 0))
 
-      pub arc-subnet : 0 ≡ flat_number c (arc_position c t j + 1)
-      arc-subnet = number_at (arc_field (transition_row (flatten c) 0 t) j 1) (arc_position c t j + 1) 0 arc-there.subnet (arc-field c t j 1)
+      pub arc_subnet : 0 ≡ flat_number c (arc_position c t j + 1)
+      arc_subnet = number_at (arc_field (transition_row (flatten c) 0 t) j 1) (arc_position c t j + 1) 0 arc_there.subnet (arc_field_is c t j 1)
 
-      pub arc-place : flat_place c (arc_at c t j) ≡ flat_number c (arc_position c t j + 2)
-      arc-place = number_at (arc_field (transition_row (flatten c) 0 t) j 2) (arc_position c t j + 2) (flat_place c (arc_at c t j)) arc-there.place (arc-field c t j 2)
+      pub arc_place : flat_place c (arc_at c t j) ≡ flat_number c (arc_position c t j + 2)
+      arc_place = number_at (arc_field (transition_row (flatten c) 0 t) j 2) (arc_position c t j + 2) (flat_place c (arc_at c t j)) arc_there.place (arc_field_is c t j 2)
 
-      pub arc-weight : (arc_at c t j).weight ≡ flat_number c (arc_position c t j + 3)
-      arc-weight = number_at (arc_field (transition_row (flatten c) 0 t) j 3) (arc_position c t j + 3) (arc_at c t j).weight arc-there.weight (arc-field c t j 3)
+      pub arc_weight : (arc_at c t j).weight ≡ flat_number c (arc_position c t j + 3)
+      arc_weight = number_at (arc_field (transition_row (flatten c) 0 t) j 3) (arc_position c t j + 3) (arc_at c t j).weight arc_there.weight (arc_field_is c t j 3)
 
   -- how many numbers there are
-  pub flat-long : transition_position c (length c.transitions) ≡ length (numbers_of (flatten c))
-  flat-long =
-      let e = numbers-long (flatten c) (counted (flatten c) whole) in
+  pub flat_long : transition_position c (length c.transitions) ≡ length (numbers_of (flatten c))
+  flat_long =
+      let e = numbers_long (flatten c) (counted (flatten c) whole) in
       let s : length (flatten c).subnets ≡ 1 = (unfold flatten in refl) in
-      let p : length (flatten c).places ≡ length c.places = (unfold flatten in map-length flat_place_row c.places) in
+      let p : length (flatten c).places ≡ length c.places = (unfold flatten in map_length flat_place_row c.places) in
       let t : length (flatten c).transitions ≡ length c.transitions = (unfold flatten in refl) in
-      let a : length (flatten c).arcs ≡ length c.arcs = (unfold flatten in map-length (flat_arc c) c.arcs) in
+      let a : length (flatten c).arcs ≡ length c.arcs = (unfold flatten in map_length (flat_arc c) c.arcs) in
       omega (arith, e, s, p, t, a, m.wellformed.rows.arc_count)
 
   pub inside : (t : ℕ) → t ≤ length c.transitions → transition_position c t ≤ table_size
-  inside t l = omega (arith, arcs-few c t m.wellformed.rows.transitions l, m.wellformed.rows.few_places, m.wellformed.rows.few_transitions)
+  inside t l = omega (arith, arcs_few c t m.wellformed.rows.transitions l, m.wellformed.rows.few_places, m.wellformed.rows.few_transitions)
 
 -- the flat card has no more numbers than the card
-pub flat-few : (c : Card) → Meets c → length (numbers_of (flatten c)) ≤ length (numbers_of c)
-flat-few c m =
-    omega (arith, flat-long c m, numbers-long c (counted c m.wellformed), m.wellformed.rows.arc_count, m.wellformed.some_subnets)
+pub flat_few : (c : Card) → Meets c → length (numbers_of (flatten c)) ≤ length (numbers_of c)
+flat_few c m =
+    omega (arith, flat_long c m, numbers_long c (counted c m.wellformed), m.wellformed.rows.arc_count, m.wellformed.some_subnets)

@@ -11,80 +11,80 @@ use Rattle.card.specs.Index.{Loaded}
 use Rattle.card.specs.Parsing.{Parsing, read_card}
 use Rattle.card.specs.Tables.{IsTable}
 use Rattle.card.specs.Writing.{encode, read_tables}
-use Rattle.card.proofs.Ranges.{read-wellformed}
-use Rattle.card.proofs.ReadLaws.{read-loaded}
-use Rattle.card.proofs.RoundTrip.{read-write, write_read, wellformed-reads, wellformed-tables}
+use Rattle.card.proofs.Ranges.{read_wellformed}
+use Rattle.card.proofs.ReadLaws.{read_loaded}
+use Rattle.card.proofs.RoundTrip.{read_write, write_read, wellformed_reads, wellformed_tables}
 use Rattle.hierarchy.specs.Conditions.{Meets}
 use Rattle.hierarchy.specs.Check.{Found, check}
 use Rattle.hierarchy.specs.Judgement.{Judgement, accepted, refused, checked, judged, judge, judge_tables, outcome_of, IsChecked}
 use Rattle.hierarchy.specs.Numbers.{check_outcome}
 use Rattle.hierarchy.specs.declared.Answer.{Answer}
 use Rattle.hierarchy.specs.declared.check.CheckedCard.{CheckedCard}
-use Rattle.hierarchy.proofs.Agree.{check-is}
+use Rattle.hierarchy.proofs.Agree.{check_is}
 
-pub not-accepted : (n at : ℕ) (c : Card) → refused n at ≡ accepted c → ⊥
-not-accepted n at c e = let z : ◌≡◌ {A = ℕ} 0 1 = cc in omega arith
+pub not_accepted : (n at : ℕ) (c : Card) → refused n at ≡ accepted c → ⊥
+not_accepted n at c e = let z : ◌≡◌ {A = ℕ} 0 1 = cc in omega arith
 
-pub accepted-meets : (bytes : List ℕ) (c : Card) → judge bytes ≡ accepted c → Meets c
+pub accepted_meets : (bytes : List ℕ) (c : Card) → judge bytes ≡ accepted c → Meets c
 unfolding judge
-accepted-meets bytes c e = go (read_card bytes) refl e
+accepted_meets bytes c e = go (read_card bytes) refl e
   where
     found : (d : Card) (end : ℕ) (x : Option Found) → read_card bytes ≡ Parsing.whole d end → check d ≡ x → checked x d ≡ accepted c → Meets c
-    found d end (some f) p q r = absurd (not-accepted _ _ _ r)
+    found d end (some f) p q r = absurd (not_accepted _ _ _ r)
     found d end none p q r =
         let s : d ≡ c = cc in
-        subst Meets s (record { wellformed = read-wellformed bytes d end p; conditions = (check-is d).0 q })
+        subst Meets s (record { wellformed = read_wellformed bytes d end p; conditions = (check_is d).0 q })
 
     go : (x : Parsing Card) → read_card bytes ≡ x → judged x ≡ accepted c → Meets c
-    go (Parsing.refused n at) p q = absurd (not-accepted _ _ _ q)
+    go (Parsing.refused n at) p q = absurd (not_accepted _ _ _ q)
     go (Parsing.whole d end) p q = found d end (check d) p refl q
 
 -- the card's bytes, where they are accepted
-accepted-bytes : (bytes : List ℕ) → ((k : ℕ) → get_or bytes k 0 < 256) → (c : Card) → judge bytes ≡ accepted c → encode c ≡ bytes
+accepted_bytes : (bytes : List ℕ) → ((k : ℕ) → get_or bytes k 0 < 256) → (c : Card) → judge bytes ≡ accepted c → encode c ≡ bytes
 unfolding judge
-accepted-bytes bytes small c e = go (read_card bytes) refl e
+accepted_bytes bytes small c e = go (read_card bytes) refl e
   where
     found : (d : Card) (end : ℕ) (x : Option Found) → read_card bytes ≡ Parsing.whole d end → checked x d ≡ accepted c → encode c ≡ bytes
-    found d end (some f) p r = absurd (not-accepted _ _ _ r)
+    found d end (some f) p r = absurd (not_accepted _ _ _ r)
     found d end none p r = let s : d ≡ c = cc in subst (λ (x : Card). encode x ≡ bytes) s (write_read bytes small d end p)
 
     go : (x : Parsing Card) → read_card bytes ≡ x → judged x ≡ accepted c → encode c ≡ bytes
-    go (Parsing.refused n at) p q = absurd (not-accepted _ _ _ q)
+    go (Parsing.refused n at) p q = absurd (not_accepted _ _ _ q)
     go (Parsing.whole d end) p q = found d end (check d) p q
 
 -- A CARD THAT MEETS ALL THAT IS ASKED IS ACCEPTED, from its bytes and from its tables
-pub meets-accepted : (c : Card) → Meets c → judge (encode c) ≡ accepted c
+pub meets_accepted : (c : Card) → Meets c → judge (encode c) ≡ accepted c
 unfolding judge
-meets-accepted c m = rw (wellformed-reads c m.wellformed, (check-is c).1 m.conditions)
+meets_accepted c m = rw (wellformed_reads c m.wellformed, (check_is c).1 m.conditions)
 
-pub meets-written : (c : Card) → Meets c → judge_tables c ≡ accepted c
+pub meets_written : (c : Card) → Meets c → judge_tables c ≡ accepted c
 unfolding judge_tables
-meets-written c m = rw (wellformed-tables c m.wellformed, (check-is c).1 m.conditions)
+meets_written c m = rw (wellformed_tables c m.wellformed, (check_is c).1 m.conditions)
 
--- `accepted-iff`: BYTES ARE ACCEPTED JUST WHERE THEY ARE THE ENCODING OF A CARD THAT MEETS ALL THAT IS ASKED
-pub accepted-iff : (bytes : List ℕ) → ((k : ℕ) → get_or bytes k 0 < 256) → (c : Card) → (judge bytes ≡ accepted c) ↔ (Meets c × (encode c ≡ bytes))
-accepted-iff bytes small c =
-    (λ e. (accepted-meets bytes c e, accepted-bytes bytes small c e), λ h. subst (λ (b : List ℕ). judge b ≡ accepted c) h.1 (meets-accepted c h.0))
+-- `accepted_iff`: BYTES ARE ACCEPTED JUST WHERE THEY ARE THE ENCODING OF A CARD THAT MEETS ALL THAT IS ASKED
+pub accepted_iff : (bytes : List ℕ) → ((k : ℕ) → get_or bytes k 0 < 256) → (c : Card) → (judge bytes ≡ accepted c) ↔ (Meets c × (encode c ≡ bytes))
+accepted_iff bytes small c =
+    (λ e. (accepted_meets bytes c e, accepted_bytes bytes small c e), λ h. subst (λ (b : List ℕ). judge b ≡ accepted c) h.1 (meets_accepted c h.0))
 
 -- `write_read` for accepted cards: the tables of a card that the check accepts are accepted, and make its bytes
-pub accepted-written : (bytes : List ℕ) → ((k : ℕ) → get_or bytes k 0 < 256) → (c : Card) → judge bytes ≡ accepted c → (encode c ≡ bytes) × (judge_tables c ≡ accepted c)
-accepted-written bytes small c e = (accepted-bytes bytes small c e, meets-written c (accepted-meets bytes c e))
+pub accepted_written : (bytes : List ℕ) → ((k : ℕ) → get_or bytes k 0 < 256) → (c : Card) → judge bytes ≡ accepted c → (encode c ≡ bytes) × (judge_tables c ≡ accepted c)
+accepted_written bytes small c e = (accepted_bytes bytes small c e, meets_written c (accepted_meets bytes c e))
 
--- `read-write` for accepted cards: the bytes of tables that the writer accepts are accepted, as the card that the tables are
-pub written-accepted : (c d : Card) → judge_tables c ≡ accepted d → (d ≡ c) × (judge (encode c) ≡ accepted c)
+-- `read_write` for accepted cards: the bytes of tables that the writer accepts are accepted, as the card that the tables are
+pub written_accepted : (c d : Card) → judge_tables c ≡ accepted d → (d ≡ c) × (judge (encode c) ≡ accepted c)
 unfolding judge judge_tables
-written-accepted c d e = go (read_tables c) refl e
+written_accepted c d e = go (read_tables c) refl e
   where
     found : (x : Card) (end : ℕ) (y : Option Found) → read_tables c ≡ Parsing.whole x end → check x ≡ y → checked y x ≡ accepted d → (d ≡ c) × (judged (read_card (encode c)) ≡ accepted c)
-    found x end (some f) p q r = absurd (not-accepted _ _ _ r)
+    found x end (some f) p q r = absurd (not_accepted _ _ _ r)
     found x end none p q r =
         let s : x ≡ d = cc in
-        let w = read-write c x end p in
+        let w = read_write c x end p in
         let k : check c ≡ none = ap check (sym w.0) ∙ q in
         (sym s ∙ w.0, rw (w.1.reads, k))
 
     go : (x : Parsing Card) → read_tables c ≡ x → judged x ≡ accepted d → (d ≡ c) × (judged (read_card (encode c)) ≡ accepted c)
-    go (Parsing.refused n at) p q = absurd (not-accepted _ _ _ q)
+    go (Parsing.refused n at) p q = absurd (not_accepted _ _ _ q)
     go (Parsing.whole x end) p q = found x end (check x) p refl q
 
 -- the check's answer to a card's bytes, and the tables that it left
@@ -92,16 +92,16 @@ pub record Checked (j : Judgement) (a : Answer) (numbers starts : List ℕ) : Ty
   pub answer : check_outcome a ≡ outcome_of j
   pub loaded : (c : Card) → j ≡ accepted c → Loaded c numbers starts
 
--- `accepted-loaded`: THE TABLES THAT THE CHECK LEAVES HOLD AN ACCEPTED CARD'S ROWS
-pub accepted-loaded : (bytes : List ℕ) (k : CheckedCard) (size : ℕ) (numbers : List ℕ) → IsChecked bytes k → IsTable (read_card bytes) size numbers
+-- `accepted_loaded`: THE TABLES THAT THE CHECK LEAVES HOLD AN ACCEPTED CARD'S ROWS
+pub accepted_loaded : (bytes : List ℕ) (k : CheckedCard) (size : ℕ) (numbers : List ℕ) → IsChecked bytes k → IsTable (read_card bytes) size numbers
     → Checked (judge bytes) k.answer numbers k.starts
 unfolding judge
-accepted-loaded bytes k size numbers h t = record { answer = h.answer; loaded = λ c e. go c (read_card bytes) refl e }
+accepted_loaded bytes k size numbers h t = record { answer = h.answer; loaded = λ c e. go c (read_card bytes) refl e }
   where
     found : (c d : Card) (end : ℕ) (x : Option Found) → read_card bytes ≡ Parsing.whole d end → checked x d ≡ accepted c → Loaded c numbers k.starts
-    found c d end (some f) p r = absurd (not-accepted _ _ _ r)
-    found c d end none p r = let s : d ≡ c = cc in subst (λ (x : Card). Loaded x numbers k.starts) s (read-loaded bytes d end size numbers k.starts p h.starts t)
+    found c d end (some f) p r = absurd (not_accepted _ _ _ r)
+    found c d end none p r = let s : d ≡ c = cc in subst (λ (x : Card). Loaded x numbers k.starts) s (read_loaded bytes d end size numbers k.starts p h.starts t)
 
     go : (c : Card) (x : Parsing Card) → read_card bytes ≡ x → judged x ≡ accepted c → Loaded c numbers k.starts
-    go c (Parsing.refused n at) p q = absurd (not-accepted _ _ _ q)
+    go c (Parsing.refused n at) p q = absurd (not_accepted _ _ _ q)
     go c (Parsing.whole d end) p q = found c d end (check d) p q

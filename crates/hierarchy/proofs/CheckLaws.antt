@@ -16,8 +16,8 @@ use Rattle.card.specs.declared.FormatFault.{FormatFault}
 use Rattle.card.specs.declared.reader.CardRead.{CardRead}
 use Rattle.card.specs.declared.reader.ReadAnswer.{ReadAnswer}
 use Rattle.card.specs.declared.reader.ReadAnswer.TheVariants.{Whole, Refused as NotRead}
-use Rattle.card.proofs.Ranges.{read-wellformed}
-use Rattle.card.proofs.ReadLaws.{read-loaded}
+use Rattle.card.proofs.Ranges.{read_wellformed}
+use Rattle.card.proofs.ReadLaws.{read_loaded}
 use Rattle.hierarchy.specs.Check.{Found, finding_of, check}
 use Rattle.hierarchy.specs.Numbers.{check_outcome}
 use Rattle.hierarchy.specs.Judgement.{judge, judged, answer, IsReadInto}
@@ -33,11 +33,11 @@ module _ (r : Finding) (a b : Option Found) (h : finding_of r ≡ a) where
   pub found_first : (f : CardFault) (at : ℕ) → r ≡ Fault f at → finding_of r ≡ a otherwise b
   found_first f at e = rw (← h, e)
 
-  pub found-later : r ≡ Nothing → (x : Option Found) → x ≡ b → x ≡ a otherwise b
-  found-later e x q = rw (← h, e) q
+  pub found_later : r ≡ Nothing → (x : Option Found) → x ≡ b → x ≡ a otherwise b
+  found_later e x q = rw (← h, e) q
 
-same-counts : (a b d x y z : ℕ) → a ≡ x → b ≡ y → d ≡ z → Rattle.hierarchy.specs.Numbers.CheckOutcome.accepted a b d ≡ Rattle.hierarchy.specs.Numbers.CheckOutcome.accepted x y z
-same-counts a b d x y z p q r = rw (p, q, r)
+same_counts : (a b d x y z : ℕ) → a ≡ x → b ≡ y → d ≡ z → Rattle.hierarchy.specs.Numbers.CheckOutcome.accepted a b d ≡ Rattle.hierarchy.specs.Numbers.CheckOutcome.accepted x y z
+same_counts a b d x y z p q r = rw (p, q, r)
 
 -- a card that was read, with its counts
 record Read (bytes : List ℕ) (k : Counts) : Type 0 where
@@ -60,9 +60,9 @@ module _ (bytes : List ℕ) (a : ReadAnswer) (numbers starts : List ℕ) (h : Is
       go (Parsing.refused n at) p q = absurd (let z : ◌≡◌ {A = ℕ} 0 1 = cc in omega arith)
       go (Parsing.whole c end) p q = record { card = c; end = end; is = p; subnets = cc; places = cc; transitions = cc }
 
-  pub answer-unread : (f : FormatFault) (at : ℕ) → a ≡ NotRead f at → check_outcome (Refused (Format f) at) ≡ answer bytes
+  pub answer_unread : (f : FormatFault) (at : ℕ) → a ≡ NotRead f at → check_outcome (Refused (Format f) at) ≡ answer bytes
   unfolding judge
-  answer-unread f at e = go (read_card bytes) (sym (ap read_outcome e) ∙ h.answer)
+  answer_unread f at e = go (read_card bytes) (sym (ap read_outcome e) ∙ h.answer)
     where
       go : (x : Parsing Card) → read_outcome (NotRead f at) ≡ outcome_of x → check_outcome (Refused (Format f) at) ≡ Judgement.outcome_of (judged x)
       go (Parsing.refused n i) q =
@@ -75,19 +75,19 @@ module _ (bytes : List ℕ) (a : ReadAnswer) (numbers starts : List ℕ) (h : Is
     found : (r : Finding) → Finds numbers starts k.subnets r → finding_of r ≡ check (read_whole k e).card
     found r g =
         let x = read_whole k e in
-        g x.card (read-loaded bytes x.card x.end _ numbers starts x.is h.rows h.table) x.subnets (read-wellformed bytes x.card x.end x.is).few_subnets
+        g x.card (read_loaded bytes x.card x.end _ numbers starts x.is h.rows h.table) x.subnets (read_wellformed bytes x.card x.end x.is).few_subnets
 
-    pub answer-refused : (f : CardFault) (at : ℕ) → Finds numbers starts k.subnets (Fault f at) → check_outcome (Refused f at) ≡ answer bytes
+    pub answer_refused : (f : CardFault) (at : ℕ) → Finds numbers starts k.subnets (Fault f at) → check_outcome (Refused f at) ≡ answer bytes
     unfolding judge
-    answer-refused f at g = rw ((read_whole k e).is, ← found (Fault f at) g)
+    answer_refused f at g = rw ((read_whole k e).is, ← found (Fault f at) g)
 
-    pub answer-accepted : Finds numbers starts k.subnets Nothing → check_outcome (Accepted k.subnets k.places k.transitions) ≡ answer bytes
+    pub answer_accepted : Finds numbers starts k.subnets Nothing → check_outcome (Accepted k.subnets k.places k.transitions) ≡ answer bytes
     unfolding judge
-    answer-accepted g =
+    answer_accepted g =
         let x = read_whole k e in
-        rw (x.is, ← found Nothing g) (same-counts _ _ _ _ _ _ x.subnets x.places x.transitions)
+        rw (x.is, ← found Nothing g) (same_counts _ _ _ _ _ _ x.subnets x.places x.transitions)
 
 -- what was read into a lent table with room
-pub read-into : (bytes : List ℕ) (r : CardRead) (before after : List ℕ) → IsRead (read_card bytes) r → length after ≡ length before → IsTable (read_card bytes) (length before) after
+pub read_into : (bytes : List ℕ) (r : CardRead) (before after : List ℕ) → IsRead (read_card bytes) r → length after ≡ length before → IsTable (read_card bytes) (length before) after
     → IsReadInto bytes r.answer after r.starts
-read-into bytes r before after h long t = record { answer = h.answer; rows = h.starts; table = rw long t }
+read_into bytes r before after h long t = record { answer = h.answer; rows = h.starts; table = rw long t }

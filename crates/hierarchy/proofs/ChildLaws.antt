@@ -11,8 +11,8 @@ use lib.Dec.{ltb, eqb}
 use borrow.Author.Tests.{ltb-true, lt-ltb, le-ltb, eqb-true, eqb-false, eq-eqb, ne_eqb}
 use Rattle.card.specs.Finite.{sum_to, table, keep}
 use Rattle.card.specs.Card.{Card, subnet_at}
-use Rattle.card.proofs.Sums.{sum_same, sum-front, sum_below}
-use Rattle.card.proofs.Decides.{Decides, Some, and_is, eq_is, any-is}
+use Rattle.card.proofs.Sums.{sum_same, sum_front, sum_below}
+use Rattle.card.proofs.Decides.{Decides, Some, and_is, eq_is, any_is}
 use Rattle.hierarchy.specs.Conditions.{is_child, children, child}
 use Rattle.card.specs.Finite.{one}
 use Rattle.hierarchy.specs.inner.Ordinals.{ordinal, AllOrdinals}
@@ -28,20 +28,20 @@ module _ (test : ℕ → Bool) where
   abbrev kept : (from n : ℕ) → List ℕ
   kept from n = keep test (table from n (λ j. j))
 
-  passing-sum : (from n : ℕ) → passing from n ≡ sum_to n (λ i. one (test (from + i)))
+  passing_sum : (from n : ℕ) → passing from n ≡ sum_to n (λ i. one (test (from + i)))
   unfolding sum_to
-  passing-sum from zero = refl
-  passing-sum from (suc n) =
+  passing_sum from zero = refl
+  passing_sum from (suc n) =
       let a : ℕ → ℕ = λ i. one (test (from + i)) in
-      let p : passing (suc from) n ≡ sum_to n (λ i. one (test (suc from + i))) = passing-sum (suc from) n in
+      let p : passing (suc from) n ≡ sum_to n (λ i. one (test (suc from + i))) = passing_sum (suc from) n in
       let q : sum_to n (λ i. one (test (suc from + i))) ≡ sum_to n (λ i. a (suc i)) = sum_same n _ _ (λ i l. ap (λ (k : ℕ). one (test k)) (omega arith)) in
       let z : a 0 ≡ one (test from) = ap (λ (k : ℕ). one (test k)) (omega arith) in
-      omega (arith, p, q, z, sum-front n a)
+      omega (arith, p, q, z, sum_front n a)
 
-  kept-length : (from n : ℕ) → length (kept from n) ≡ passing from n
+  kept_length : (from n : ℕ) → length (kept from n) ≡ passing from n
   unfolding keep table
-  kept-length from zero = refl
-  kept-length from (suc n) = go (test from) (kept-length (suc from) n)
+  kept_length from zero = refl
+  kept_length from (suc n) = go (test from) (kept_length (suc from) n)
     where
       go : (b : Bool) → length (kept (suc from) n) ≡ passing (suc from) n → length (cond b (from ∷ kept (suc from) n) (kept (suc from) n)) ≡ one b + passing (suc from) n
       go true e = omega (arith, e)
@@ -78,61 +78,61 @@ module _ (test : ℕ → Bool) where
       go true e (suc k) l f = let z : 1 + k ≡ suc k = omega arith in rw z at (later true e k (f k (omega (arith, l))))
       go false e k l f = let z : 0 + k ≡ k = omega arith in rw z at (later false e k (f k l))
 
-ordinal-passing : (c : Card) (i j : ℕ) → ordinal c i j ≡ passing (is_child c i) 0 j
+ordinal_passing : (c : Card) (i j : ℕ) → ordinal c i j ≡ passing (is_child c i) 0 j
 unfolding ordinal
-ordinal-passing c i j = sym (passing-sum (is_child c i) 0 j ∙ sum_same j _ _ (λ h l. ap (λ (k : ℕ). one (is_child c i k)) (zero-add h)))
+ordinal_passing c i j = sym (passing_sum (is_child c i) 0 j ∙ sum_same j _ _ (λ h l. ap (λ (k : ℕ). one (is_child c i k)) (zero-add h)))
 
 -- as many children as there are below the number of subnets
-pub child-count : (c : Card) (i : ℕ) → length (children c i) ≡ ordinal c i (length c.subnets)
+pub child_count : (c : Card) (i : ℕ) → length (children c i) ≡ ordinal c i (length c.subnets)
 unfolding children
-child-count c i = kept-length (is_child c i) 0 (length c.subnets) ∙ sym (ordinal-passing c i (length c.subnets))
+child_count c i = kept_length (is_child c i) 0 (length c.subnets) ∙ sym (ordinal_passing c i (length c.subnets))
 
 pub and_parts : (a b : Bool) → (a && b) ≡ true → (a ≡ true) × (b ≡ true)
 and_parts true b e = (refl, e)
 and_parts false b e = absurd (false≢true e)
 
-pub child-below : (c : Card) (i j : ℕ) → is_child c i j ≡ true → j < length c.subnets
-child-below c i j e =
+pub child_below : (c : Card) (i j : ℕ) → is_child c i j ≡ true → j < length c.subnets
+child_below c i j e =
     let other : Bool = not (eqb j i) in
     let there : Bool = ltb j (length c.subnets) in
     ltb-true j (length c.subnets) (and_parts other there (and_parts (other && there) (eqb (subnet_at c j).parent i) e).0).1
 
-child-parent : (c : Card) (i j : ℕ) → is_child c i j ≡ true → (subnet_at c j).parent ≡ i
-child-parent c i j e = eqb-true (subnet_at c j).parent i (and_parts (not (eqb j i) && ltb j (length c.subnets)) (eqb (subnet_at c j).parent i) e).1
+child_parent : (c : Card) (i j : ℕ) → is_child c i j ≡ true → (subnet_at c j).parent ≡ i
+child_parent c i j e = eqb-true (subnet_at c j).parent i (and_parts (not (eqb j i) && ltb j (length c.subnets)) (eqb (subnet_at c j).parent i) e).1
 
 -- a child is the one of its ordinal
-pub child-at : (c : Card) (i j : ℕ) → is_child c i j ≡ true → child c i (ordinal c i j) ≡ j
+pub child_at : (c : Card) (i j : ℕ) → is_child c i j ≡ true → child c i (ordinal c i j) ≡ j
 unfolding children
-child-at c i j e =
-    rw (ordinal-passing c i j) (kept_at (is_child c i) 0 (length c.subnets) j (child-below c i j e) (subst (λ (k : ℕ). is_child c i k ≡ true) (sym (zero-add j)) e) ∙ zero-add j)
+child_at c i j e =
+    rw (ordinal_passing c i j) (kept_at (is_child c i) 0 (length c.subnets) j (child_below c i j e) (subst (λ (k : ℕ). is_child c i k ≡ true) (sym (zero-add j)) e) ∙ zero-add j)
 
-pub ordinal-below : (c : Card) (i j : ℕ) → is_child c i j ≡ true → ordinal c i j < length (children c i)
+pub ordinal_below : (c : Card) (i j : ℕ) → is_child c i j ≡ true → ordinal c i j < length (children c i)
 unfolding ordinal
-ordinal-below c i j e =
+ordinal_below c i j e =
     let f : ℕ → ℕ = λ h. one (is_child c i h) in
     let z : f j ≡ 1 = ap one e in
-    omega (arith, child-count c i, sum_below (length c.subnets) f j 0 (child-below c i j e) (omega (arith, z)))
+    omega (arith, child_count c i, sum_below (length c.subnets) f j 0 (child_below c i j e) (omega (arith, z)))
 
 -- the k-th child is a child, and its ordinal is k
 pub record Kth (c : Card) (i k j : ℕ) : Type 0 where
   pub child : is_child c i j ≡ true
   pub ordinal : ordinal c i j ≡ k
 
-pub child-is : (c : Card) (i k : ℕ) → k < length (children c i) → Kth c i k (child c i k)
+pub child_is : (c : Card) (i k : ℕ) → k < length (children c i) → Kth c i k (child c i k)
 unfolding children
-child-is c i k l = go (kept_of (is_child c i) 0 (length c.subnets) k l)
+child_is c i k l = go (kept_of (is_child c i) 0 (length c.subnets) k l)
   where
     found : (j : ℕ) → is_child c i j ≡ true → ordinal c i j ≡ k → Kth c i k (child c i k)
-    found j e r = let q : child c i k ≡ j = ap (λ (m : ℕ). child c i m) (sym r) ∙ child-at c i j e in subst (λ (m : ℕ). Kth c i k m) (sym q) (record { child = e; ordinal = r })
+    found j e r = let q : child c i k ≡ j = ap (λ (m : ℕ). child c i m) (sym r) ∙ child_at c i j e in subst (λ (m : ℕ). Kth c i k m) (sym q) (record { child = e; ordinal = r })
 
     go : Some (length c.subnets) (λ j. (is_child c i (0 + j) ≡ true) × (passing (is_child c i) 0 j ≡ k)) → Kth c i k (child c i k)
-    go h = found h.0 (subst (λ (m : ℕ). is_child c i m ≡ true) (zero-add h.0) h.2.0) (ordinal-passing c i h.0 ∙ h.2.1)
+    go h = found h.0 (subst (λ (m : ℕ). is_child c i m ≡ true) (zero-add h.0) h.2.0) (ordinal_passing c i h.0 ∙ h.2.1)
 
 -- by their ordinals
-pub both-kth : (c : Card) (r s a b : ℕ) → length (children c r) ≡ length (children c s)
+pub both_kth_is : (c : Card) (r s a b : ℕ) → length (children c r) ≡ length (children c s)
     → both_kth c r s a b ≡ is_child c r a && (is_child c s b && eqb (ordinal c s b) (ordinal c r a))
-both-kth c r s a b e =
-    same_test _ _ _ _ (any-is (length (children c r)) _ _ (λ k. and_is _ _ _ _ (eq_is a (child c r k)) (eq_is b (child c s k))))
+both_kth_is c r s a b e =
+    same_test _ _ _ _ (any_is (length (children c r)) _ _ (λ k. and_is _ _ _ _ (eq_is a (child c r k)) (eq_is b (child c s k))))
     (and_is _ _ _ _ (itself (is_child c r a)) (and_is _ _ _ _ (itself (is_child c s b)) (eq_is (ordinal c s b) (ordinal c r a)))) forth back
   where
     itself : (t : Bool) → Decides t (t ≡ true)
@@ -151,67 +151,67 @@ both-kth c r s a b e =
 
     forth : Kept → AllOrdinals
     forth (k, l, p) =
-        let x : Kth c r k a = subst (λ (m : ℕ). Kth c r k m) (sym p.0) (child-is c r k l) in
-        let y : Kth c s k b = subst (λ (m : ℕ). Kth c s k m) (sym p.1) (child-is c s k (omega (arith, e, l))) in
+        let x : Kth c r k a = subst (λ (m : ℕ). Kth c r k m) (sym p.0) (child_is c r k l) in
+        let y : Kth c s k b = subst (λ (m : ℕ). Kth c s k m) (sym p.1) (child_is c s k (omega (arith, e, l))) in
         (x.child, (y.child, y.ordinal ∙ sym x.ordinal))
 
     back : AllOrdinals → Kept
-    back (x, (y, z)) = (ordinal c r a, ordinal-below c r a x, (sym (child-at c r a x), rw (← z) (sym (child-at c s b y))))
+    back (x, (y, z)) = (ordinal c r a, ordinal_below c r a x, (sym (child_at c r a x), rw (← z) (sym (child_at c s b y))))
 
 -- counting a ordinal
-pub one-le : (b : Bool) → one b ≤ 1
-one-le true = omega arith
-one-le false = omega arith
+pub one_le : (b : Bool) → one b ≤ 1
+one_le true = omega arith
+one_le false = omega arith
 
-pub ordinal-start : (c : Card) (i : ℕ) → 0 ≡ ordinal c i 0
+pub ordinal_start : (c : Card) (i : ℕ) → 0 ≡ ordinal c i 0
 unfolding ordinal sum_to
-ordinal-start c i = refl
+ordinal_start c i = refl
 
-pub ordinal-more : (c : Card) (i h n m : ℕ) (b : Bool) → n ≡ ordinal c i h → b ≡ is_child c i h → m ≡ one b → n + m ≡ ordinal c i (h + 1)
+pub ordinal_more : (c : Card) (i h n m : ℕ) (b : Bool) → n ≡ ordinal c i h → b ≡ is_child c i h → m ≡ one b → n + m ≡ ordinal c i (h + 1)
 unfolding ordinal sum_to
-ordinal-more c i h n m b e f g = let s : h + 1 ≡ suc h = omega arith in rw (s, ← f) (omega (arith, e, g))
+ordinal_more c i h n m b e f g = let s : h + 1 ≡ suc h = omega arith in rw (s, ← f) (omega (arith, e, g))
 
-pub ordinal-last : (c : Card) (i j h n : ℕ) → n ≡ ordinal c i h → h ≡ j → n ≡ ordinal c i j
-ordinal-last c i j h n e q = e ∙ ap (λ (k : ℕ). ordinal c i k) q
+pub ordinal_last : (c : Card) (i j h n : ℕ) → n ≡ ordinal c i h → h ≡ j → n ≡ ordinal c i j
+ordinal_last c i j h n e q = e ∙ ap (λ (k : ℕ). ordinal c i k) q
 
-pub child-counted : (c : Card) (n i x : ℕ) → n ≡ length c.subnets → x ≡ ordinal c i n → x ≡ length (children c i)
-child-counted c n i x e f = f ∙ ap (λ (k : ℕ). ordinal c i k) e ∙ sym (child-count c i)
+pub child_counted : (c : Card) (n i x : ℕ) → n ≡ length c.subnets → x ≡ ordinal c i n → x ≡ length (children c i)
+child_counted c n i x e f = f ∙ ap (λ (k : ℕ). ordinal c i k) e ∙ sym (child_count c i)
 
 -- looking for the k-th child
 abbrev pub is_kth : Card → (i k j : ℕ) → Bool
 is_kth c i k j = is_child c i j && eqb (ordinal c i j) k
 
-pub kth-found : (c : Card) (i k j : ℕ) → is_kth c i k j ≡ true → j ≡ child c i k
-kth-found c i k j e =
+pub kth_found : (c : Card) (i k j : ℕ) → is_kth c i k j ≡ true → j ≡ child c i k
+kth_found c i k j e =
     let h : (is_child c i j ≡ true) × (eqb (ordinal c i j) k ≡ true) = and_parts (is_child c i j) (eqb (ordinal c i j) k) e in
-    sym (child-at c i j h.0) ∙ ap (λ (m : ℕ). child c i m) (eqb-true (ordinal c i j) k h.1)
+    sym (child_at c i j h.0) ∙ ap (λ (m : ℕ). child c i m) (eqb-true (ordinal c i j) k h.1)
 
-pub kth-below : (c : Card) (i k x : ℕ) → k < length (children c i) → x ≡ child c i k → x < length c.subnets
-kth-below c i k x l e = rw e (child-below c i (child c i k) (child-is c i k l).child)
+pub kth_below : (c : Card) (i k x : ℕ) → k < length (children c i) → x ≡ child c i k → x < length c.subnets
+kth_below c i k x l e = rw e (child_below c i (child c i k) (child_is c i k l).child)
 
-pub kth-passed : (c : Card) (n i k j : ℕ) → n ≡ length c.subnets → k < length (children c i) → n ≤ j → Below j (is_kth c i k) false → 0 ≡ child c i k
-kth-passed c n i k j e l m h =
+pub kth_passed : (c : Card) (n i k j : ℕ) → n ≡ length c.subnets → k < length (children c i) → n ≤ j → Below j (is_kth c i k) false → 0 ≡ child c i k
+kth_passed c n i k j e l m h =
     let x : ℕ = child c i k in
-    let p : Kth c i k x = child-is c i k l in
+    let p : Kth c i k x = child_is c i k l in
     let q : is_kth c i k x ≡ true = rw (p.child, eq-eqb (ordinal c i x) k p.ordinal) in
-    absurd (false≢true (sym (h x (omega (arith, e, m, kth-below c i k x l refl))) ∙ q))
+    absurd (false≢true (sym (h x (omega (arith, e, m, kth_below c i k x l refl))) ∙ q))
 
 -- a table of ordinals, filled below j
 abbrev pub OrdinalsTo : Card → List ℕ → ℕ → Type 0
 OrdinalsTo c ordinals j = (i h : ℕ) → h < j → is_child c i h ≡ true → get_or ordinals h 0 ≡ ordinal c i h
 
-pub ordinals-more : (c : Card) (ordinals : List ℕ) (j p x : ℕ) → OrdinalsTo c ordinals j → j < length ordinals → p ≡ (subnet_at c j).parent → x ≡ ordinal c p j → OrdinalsTo c (set ordinals j x) (j + 1)
-ordinals-more c ordinals j p x w l e f i h m q = go (eqb h j) refl
+pub ordinals_more : (c : Card) (ordinals : List ℕ) (j p x : ℕ) → OrdinalsTo c ordinals j → j < length ordinals → p ≡ (subnet_at c j).parent → x ≡ ordinal c p j → OrdinalsTo c (set ordinals j x) (j + 1)
+ordinals_more c ordinals j p x w l e f i h m q = go (eqb h j) refl
   where
     go : (t : Bool) → eqb h j ≡ t → get_or (set ordinals j x) h 0 ≡ ordinal c i h
     go true z =
         let s : h ≡ j = eqb-true h j z in
-        let u : p ≡ i = e ∙ ap (λ (k : ℕ). (subnet_at c k).parent) (sym s) ∙ child-parent c i h q in
+        let u : p ≡ i = e ∙ ap (λ (k : ℕ). (subnet_at c k).parent) (sym s) ∙ child_parent c i h q in
         rw s (get_or-set_same ordinals j x 0 l ∙ f ∙ ap (λ (k : ℕ). ordinal c k j) u)
     go false z = get_or-set_other ordinals j h x 0 (eqb-false h j z) ∙ w i h (omega (arith, eqb-false h j z)) q
 
-pub ordinals-end : (c : Card) (ordinals : List ℕ) (j : ℕ) → OrdinalsTo c ordinals j → length c.subnets ≤ j → AllOrdinals c ordinals
-ordinals-end c ordinals j w l i h e = w i h (omega (arith, child-below c i h e)) e
+pub ordinals_end : (c : Card) (ordinals : List ℕ) (j : ℕ) → OrdinalsTo c ordinals j → length c.subnets ≤ j → AllOrdinals c ordinals
+ordinals_end c ordinals j w l i h e = w i h (omega (arith, child_below c i h e)) e
 
 -- testing for a child
 pub not_itself : (c : Card) (i j : ℕ) → j ≡ i → false ≡ is_child c i j
@@ -220,5 +220,5 @@ not_itself c i j e = rw (eq-eqb j i e)
 pub not_there : (c : Card) (n i j : ℕ) → n ≡ length c.subnets → n ≤ j → false ≡ is_child c i j
 not_there c n i j e l = rw (le-ltb j (length c.subnets) (omega arith), and_no (not (eqb j i)))
 
-pub child-named : (c : Card) (n i j x : ℕ) → n ≡ length c.subnets → (j ≡ i → ⊥) → j < n → x ≡ (subnet_at c j).parent → eqb x i ≡ is_child c i j
-child-named c n i j x e d l f = rw (ne_eqb j i d, lt-ltb j (length c.subnets) (omega arith), f)
+pub child_named : (c : Card) (n i j x : ℕ) → n ≡ length c.subnets → (j ≡ i → ⊥) → j < n → x ≡ (subnet_at c j).parent → eqb x i ≡ is_child c i j
+child_named c n i j x e d l f = rw (ne_eqb j i d, lt-ltb j (length c.subnets) (omega arith), f)

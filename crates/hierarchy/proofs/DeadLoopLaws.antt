@@ -19,7 +19,7 @@ use Rattle.hierarchy.specs.Check.{seen, directed, weighted, single, loops_fit, h
 use Rattle.hierarchy.specs.Judgement.{refused, checked, judged, judge}
 use Rattle.hierarchy.specs.declared.CardFault.{CardFault}
 use Rattle.hierarchy.specs.declared.CardFault.TheVariants.{Unseen, Direction, Weight, Repeated, DeadLoop, NoUnit, NoInterface, Unlike}
-use Rattle.hierarchy.proofs.Accepted.{not-accepted}
+use Rattle.hierarchy.proofs.Accepted.{not_accepted}
 
 -- an arc of a transition fails the test of 26, and its first bit is at
 pub record DeadAt (c : Card) (at : ℕ) : Type 0 where
@@ -60,9 +60,9 @@ module _ (x : Found) (n : number x.why ≡ 26) (bit : ℕ) where
   beyond false why b z e = absurd (z (told false why e).1.0)
 
 module _ (c : Card) (x : Found) (n : number x.why ≡ 26) where
-  arc-dead : (i t j : ℕ) → arc_fault c i t j ≡ some x → (loops_fit c t j ≡ false) × (arc_bit c i t j ≡ x.bit)
+  arc_dead : (i t j : ℕ) → arc_fault c i t j ≡ some x → (loops_fit c t j ≡ false) × (arc_bit c i t j ≡ x.bit)
   unfolding arc_fault
-  arc-dead i t j e =
+  arc_dead i t j e =
       let at = arc_bit c i t j in
       let a = arc_at c t j in
       let e₁ = beyond x n at (seen c i a) Unseen _ (λ z. omega (arith, z)) e in
@@ -72,26 +72,26 @@ module _ (c : Card) (x : Found) (n : number x.why ≡ 26) where
       let r = told x n at (loops_fit c t j) DeadLoop e₄ in
       (r.0, r.1.1)
 
-  transition-dead : (i t : ℕ) → Lists c i t → transition_fault c i t ≡ some x → DeadAt c x.bit
+  transition_dead : (i t : ℕ) → Lists c i t → transition_fault c i t ≡ some x → DeadAt c x.bit
   unfolding transition_fault
-  transition-dead i t l e = go (either (first_of 0 (transition_at c t).arcs (arc_fault c i t)) _ x e)
+  transition_dead i t l e = go (either (first_of 0 (transition_at c t).arcs (arc_fault c i t)) _ x e)
     where
       go : (first_of 0 (transition_at c t).arcs (arc_fault c i t) ≡ some x) ⊎ (fault_unless (transition_bit c i t) (has_unit c t) NoUnit ≡ some x) → DeadAt c x.bit
       go (inl q) =
           let r = first_some 0 (transition_at c t).arcs (arc_fault c i t) x q in
-          let d = arc-dead i t r.0 r.2 in
+          let d = arc_dead i t r.0 r.2 in
           record { subnet = i; transition = t; arc = r.0; lists = l; there = omega (arith, r.1.1); fails = d.0; bit = sym d.1 }
       go (inr q) = absurd (omega (arith, (told x n (transition_bit c i t) (has_unit c t) NoUnit q).1.0))
 
-  subnet-dead : (i : ℕ) → i < length c.subnets → subnet_fault c i ≡ some x → DeadAt c x.bit
+  subnet_dead : (i : ℕ) → i < length c.subnets → subnet_fault c i ≡ some x → DeadAt c x.bit
   unfolding subnet_fault first_transition sum_to
-  subnet-dead i l e =
+  subnet_dead i l e =
       let r = first_some (first_transition c i) (subnet_at c i).transitions (transition_fault c i) x e in
-      transition-dead i r.0 (record { subnet = l; first = r.1.0; last = r.1.1 }) r.2
+      transition_dead i r.0 (record { subnet = l; first = r.1.0; last = r.1.1 }) r.2
 
-  check-dead : check c ≡ some x → DeadAt c x.bit
+  check_dead : check c ≡ some x → DeadAt c x.bit
   unfolding check
-  check-dead e = go (either (first_of 0 (length c.subnets) (subnet_fault c)) _ x e)
+  check_dead e = go (either (first_of 0 (length c.subnets) (subnet_fault c)) _ x e)
     where
       Interfaces : Option Found
       Interfaces = first_of 0 (length c.subnets) (λ i. fault_unless (subnet_bit c i) (eqb i 0 || has_interface c i) NoInterface)
@@ -108,17 +108,17 @@ module _ (c : Card) (x : Found) (n : number x.why ≡ 26) where
           omega (arith, (told x n (subnet_bit c r.0) (like_lower c r.0) Unlike r.2).1.0)
 
       go : (first_of 0 (length c.subnets) (subnet_fault c) ≡ some x) ⊎ ((Interfaces otherwise Types) ≡ some x) → DeadAt c x.bit
-      go (inl q) = let r = first_some 0 (length c.subnets) (subnet_fault c) x q in subnet-dead r.0 (omega (arith, r.1.1)) r.2
+      go (inl q) = let r = first_some 0 (length c.subnets) (subnet_fault c) x q in subnet_dead r.0 (omega (arith, r.1.1)) r.2
       go (inr q) = absurd (rest (either Interfaces Types x q))
 
 -- THE ANSWER 26 TELLS AN ARC THAT FAILS THE TEST
-pub told-26 : (bytes : List ℕ) (c : Card) (end at : ℕ) → read_card bytes ≡ Parsing.whole c end → judge bytes ≡ refused 26 at → DeadAt c at
+pub told_26 : (bytes : List ℕ) (c : Card) (end at : ℕ) → read_card bytes ≡ Parsing.whole c end → judge bytes ≡ refused 26 at → DeadAt c at
 unfolding judge
-told-26 bytes c end at p e = go (check c) refl (ap judged (sym p) ∙ e)
+told_26 bytes c end at p e = go (check c) refl (ap judged (sym p) ∙ e)
   where
     go : (x : Option Found) → check c ≡ x → checked x c ≡ refused 26 at → DeadAt c at
-    go none q e = absurd (not-accepted 26 at c (sym e))
+    go none q e = absurd (not_accepted 26 at c (sym e))
     go (some f) q e =
         let n : number f.why ≡ 26 = cc in
         let b : f.bit ≡ at = cc in
-        subst (DeadAt c) b (check-dead c f n q)
+        subst (DeadAt c) b (check_dead c f n q)

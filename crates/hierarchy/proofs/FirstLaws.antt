@@ -6,7 +6,7 @@ use mathlib.Core.Option.{Option, none, some}
 use native.Mathlib.Omega.{arith}
 use native.Mathlib.Numerals.{add-one}
 use Rattle.card.specs.Finite.{any, first_of}
-use Rattle.card.proofs.Decides.{first_of-is}
+use Rattle.card.proofs.Decides.{first_of_is}
 
 -- what a search finds is what it finds from k on, up to end
 pub record Walked {A : Type 0} (whole : Option A) (f : ℕ → Option A) (end k : ℕ) : Type 0 where
@@ -16,23 +16,23 @@ pub walk_start : {A : Type 0} (f : ℕ → Option A) (from n end : ℕ) → n �
 walk_start f from n end e = record { left = ap (λ (m : ℕ). first_of from m f) e }
 
 module _ {A : Type 0} {whole : Option A} {f : ℕ → Option A} {end k : ℕ} (h : Walked whole f end k) where
-  pub walk-on : k < end → none ≡ f k → Walked whole f end (k + 1)
+  pub walk_on : k < end → none ≡ f k → Walked whole f end (k + 1)
   unfolding first_of
-  walk-on l e = let q : end - k ≡ suc (end - (k + 1)) = omega arith in record { left = h.left ∙ rw (q, ← e, add-one) }
+  walk_on l e = let q : end - k ≡ suc (end - (k + 1)) = omega arith in record { left = h.left ∙ rw (q, ← e, add-one) }
 
-  pub walk-found : {x : A} → k < end → some x ≡ f k → some x ≡ whole
+  pub walk_found : {x : A} → k < end → some x ≡ f k → some x ≡ whole
   unfolding first_of
-  walk-found l e = let q : end - k ≡ suc (end - (k + 1)) = omega arith in sym (h.left ∙ rw (q, ← e))
+  walk_found l e = let q : end - k ≡ suc (end - (k + 1)) = omega arith in sym (h.left ∙ rw (q, ← e))
 
   pub walk_end : end ≤ k → none ≡ whole
   unfolding first_of
   walk_end l = let q : end - k ≡ 0 = omega arith in sym (h.left ∙ rw q)
 
 -- where a search finds nothing, there is nothing at each number
-pub none-at : {A : Type 0} (from n : ℕ) (f : ℕ → Option A) → first_of from n f ≡ none → (k : ℕ) → from ≤ k → k < from + n → f k ≡ none
-none-at from n f e = (first_of-is from n f (λ k. f k ≡ none) (λ k. (λ h. h, λ h. h))).0 e
+pub none_at : {A : Type 0} (from n : ℕ) (f : ℕ → Option A) → first_of from n f ≡ none → (k : ℕ) → from ≤ k → k < from + n → f k ≡ none
+none_at from n f e = (first_of_is from n f (λ k. f k ≡ none) (λ k. (λ h. h, λ h. h))).0 e
 
 -- a test of some number below k, and of k
-pub any-more : (k : ℕ) (f : ℕ → Bool) → any k f ≡ false → f k ≡ false → any (k + 1) f ≡ false
+pub any_more : (k : ℕ) (f : ℕ → Bool) → any k f ≡ false → f k ≡ false → any (k + 1) f ≡ false
 unfolding any
-any-more k f h e = rw (add-one, h, e)
+any_more k f h e = rw (add-one, h, e)

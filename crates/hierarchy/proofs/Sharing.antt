@@ -10,10 +10,10 @@ use Rattle.hierarchy.specs.Conditions.{Child, Interface, Sees}
 Shared : Card → (i k n : ℕ) → Type 0
 Shared c i k n = Child c i k × Interface c k n
 
-pub equation-6 : (c : Card) (i j k n : ℕ) → i ≢ j
+pub equation_6 : (c : Card) (i j k n : ℕ) → i ≢ j
     → (Sees c i k n × Sees c j k n) ↔ (((k ≡ i) × (Child c j k × Interface c k n)) ⊎ ((k ≡ j) × (Child c i k × Interface c k n)))
 unfolding Shared
-equation-6 c i j k n d = (λ h. forth h.0 h.1, back)
+equation_6 c i j k n d = (λ h. forth h.0 h.1, back)
   where
     Meet : Type 0
     Meet = ((k ≡ i) × Shared c j k n) ⊎ ((k ≡ j) × Shared c i k n)

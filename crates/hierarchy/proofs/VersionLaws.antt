@@ -19,33 +19,33 @@ use Rattle.card.specs.Parsing.{Parsing, read, unless_fault, excess, closed, ende
 use Rattle.card.specs.Writing.{subnet_bit, transition_bit, arc_bit}
 use Rattle.card.specs.declared.FormatFault.{FormatFault}
 use Rattle.card.specs.declared.FormatFault.TheVariants.{Truncated}
-use Rattle.card.proofs.BitLaws.{field-local}
+use Rattle.card.proofs.BitLaws.{field_local}
 use Rattle.card.proofs.Bounds.{since_none}
-use Rattle.card.proofs.LongInput.{first-same}
-use Rattle.card.proofs.Ranges.{read-wellformed}
-use Rattle.card.proofs.Shape.{One, erase, part, read-erase, then-then}
-use Rattle.card.proofs.Yields.{not-whole}
+use Rattle.card.proofs.LongInput.{first_same}
+use Rattle.card.proofs.Ranges.{read_wellformed}
+use Rattle.card.proofs.Shape.{One, erase, part, read_erase, then_then}
+use Rattle.card.proofs.Yields.{not_whole}
 use Rattle.hierarchy.specs.Conditions.{children}
 use Rattle.hierarchy.specs.Check.{Found, seen, directed, weighted, single, loops_fit, has_unit, has_interface, alike, like_lower, fault_unless, arc_fault, transition_fault, subnet_fault, check}
 use Rattle.hierarchy.specs.Judgement.{Judgement, accepted, refused, checked, judged, judge, outcome_of, answer}
 use Rattle.hierarchy.specs.declared.CardFault.TheVariants.{NoUnit}
 
-get-same : {U A : Type 0} (w : ℕ) (value : U → ℕ) (fault : ℕ → Option FormatFault) (k l : ℕ → Format U A) → ((v : ℕ) → k v ≡ l v) → get w value fault k ≡ get w value fault l
-get-same w value fault k l h = ap (get w value fault) (fun_ext h)
+get_same : {U A : Type 0} (w : ℕ) (value : U → ℕ) (fault : ℕ → Option FormatFault) (k l : ℕ → Format U A) → ((v : ℕ) → k v ≡ l v) → get w value fault k ≡ get w value fault l
+get_same w value fault k l h = ap (get w value fault) (fun_ext h)
 
 -- THE GRAMMAR: neither version has a rank, a limit or a scale
 module _ (a b : ℕ) (la : a ≤ 2) (lb : b ≤ 2) where
-  transition-version : (g : ℕ) → transition a g ≡ transition b g
+  transition_version : (g : ℕ) → transition a g ≡ transition b g
   unfolding transition
-  transition-version g = rw (since_none 3 8 a (omega arith), since_none 3 8 b (omega arith)) refl
+  transition_version g = rw (since_none 3 8 a (omega arith), since_none 3 8 b (omega arith)) refl
 
-  whole-version : (g : ℕ) → whole_transition a g ≡ whole_transition b g
+  whole_version : (g : ℕ) → whole_transition a g ≡ whole_transition b g
   unfolding whole_transition
-  whole-version g = fun_ext (λ t. rw (transition-version g) refl)
+  whole_version g = fun_ext (λ t. rw (transition_version g) refl)
 
-  header-size : size_from a header ≡ size_from b header
+  header_size : size_from a header ≡ size_from b header
   unfolding header size
-  header-size = rw (since_none 4 8 a (omega arith), since_none 4 8 b (omega arith), since_none 5 14 a (omega arith), since_none 5 14 b (omega arith)) refl
+  header_size = rw (since_none 4 8 a (omega arith), since_none 4 8 b (omega arith), since_none 5 14 a (omega arith), since_none 5 14 b (omega arith)) refl
 
 -- a subnet, and what comes behind it
 module _ {B : Type 0} (c : Card) where
@@ -58,29 +58,29 @@ module _ {B : Type 0} (c : Card) where
   opens : (k : Card → Format Card B) → whole_subnet c >>= k ≡ opened (whole_transition c.version c.signals) (λ r ps ts. k (with c r ps ts))
   unfolding whole_subnet
   opens k =
-      then-then (of (λ (d : Card). subnet_at d (length c.subnets)) (subnet (length c.subnets) (length c.places) (length c.transitions))) _ k
+      then_then (of (λ (d : Card). subnet_at d (length c.subnets)) (subnet (length c.subnets) (length c.places) (length c.transitions))) _ k
       ∙ ap (λ (x : Subnet → Format Card B). of (λ (d : Card). subnet_at d (length c.subnets)) (subnet (length c.subnets) (length c.places) (length c.transitions)) >>= x)
-      (fun_ext (λ r. then-then (each (length c.places) r.places (λ i. of (λ (d : Card). place_at d i) (place (length c.subnets)))) _ k
+      (fun_ext (λ r. then_then (each (length c.places) r.places (λ i. of (λ (d : Card). place_at d i) (place (length c.subnets)))) _ k
       ∙ ap (λ (x : List Place → Format Card B). each (length c.places) r.places (λ i. of (λ (d : Card). place_at d i) (place (length c.subnets))) >>= x)
-      (fun_ext (λ ps. then-then (each (length c.transitions) r.transitions (whole_transition c.version c.signals)) _ k))))
+      (fun_ext (λ ps. then_then (each (length c.transitions) r.transitions (whole_transition c.version c.signals)) _ k))))
 
-  opened-same : (one two : ℕ → Format Card (Transition × List Arc)) (k l : Subnet → List Place → List (Transition × List Arc) → Format Card B) → one ≡ two
+  opened_same : (one two : ℕ → Format Card (Transition × List Arc)) (k l : Subnet → List Place → List (Transition × List Arc) → Format Card B) → one ≡ two
       → ((r : Subnet) (ps : List Place) (ts : List (Transition × List Arc)) → k r ps ts ≡ l r ps ts) → opened one k ≡ opened two l
-  opened-same one two k l e h =
+  opened_same one two k l e h =
       ap₂ (λ (x : ℕ → Format Card (Transition × List Arc)) (y : Subnet → List Place → List (Transition × List Arc) → Format Card B). opened x y) e
       (fun_ext (λ r. fun_ext (λ ps. fun_ext (λ ts. h r ps ts))))
 
 abbrev tagged : (version : ℕ) → Card → Format Card Card
 tagged v d = done (with_version v d)
 
-grow-version : (v n : ℕ) (c : Card) → c.version ≤ 2 → v ≤ 2 → grow n whole_subnet c >>= tagged v ≡ grow n whole_subnet (with_version v c)
+grow_version : (v n : ℕ) (c : Card) → c.version ≤ 2 → v ≤ 2 → grow n whole_subnet c >>= tagged v ≡ grow n whole_subnet (with_version v c)
 unfolding grow
-grow-version v zero c a b = refl
-grow-version v (suc n) c a b =
-    then-then (whole_subnet c) (grow n whole_subnet) (tagged v)
+grow_version v zero c a b = refl
+grow_version v (suc n) c a b =
+    then_then (whole_subnet c) (grow n whole_subnet) (tagged v)
     ∙ opens c (λ d. grow n whole_subnet d >>= tagged v)
-    ∙ opened-same c (whole_transition c.version c.signals) (whole_transition v c.signals) (λ r ps ts. grow n whole_subnet (with c r ps ts) >>= tagged v) (λ r ps ts. grow n whole_subnet (with_version v (with c r ps ts)))
-    (whole-version c.version v a b c.signals) (λ r ps ts. grow-version v n (with c r ps ts) a b)
+    ∙ opened_same c (whole_transition c.version c.signals) (whole_transition v c.signals) (λ r ps ts. grow n whole_subnet (with c r ps ts) >>= tagged v) (λ r ps ts. grow n whole_subnet (with_version v (with c r ps ts)))
+    (whole_version c.version v a b c.signals) (λ r ps ts. grow_version v n (with c r ps ts) a b)
     ∙ sym (opens (with_version v c) (grow n whole_subnet))
 
 -- what comes behind the version
@@ -88,40 +88,40 @@ abbrev behind : {U A : Type 0} → Format U A → (v : ℕ) → Format U A
 behind (done a) v = done a
 behind (get w value fault next) v = next v
 
-card-version : (a b : ℕ) → a ≤ 2 → b ≤ 2 → behind card a >>= tagged b ≡ behind card b
+card_version : (a b : ℕ) → a ≤ 2 → b ≤ 2 → behind card a >>= tagged b ≡ behind card b
 unfolding card header
-card-version a b la lb =
+card_version a b la lb =
     rw (since_none 4 8 a (omega arith), since_none 4 8 b (omega arith), since_none 5 14 a (omega arith), since_none 5 14 b (omega arith))
-    (get-same _ _ _ _ _ (λ s. get-same _ _ _ _ _ (λ g. get-same _ _ _ _ _ (λ m. get-same _ _ _ _ _ (λ q.
-    grow-version b s (header_alone (record { version = a; subnets = s; signals = g; limit = m; scale = q })) la lb)))))
+    (get_same _ _ _ _ _ (λ s. get_same _ _ _ _ _ (λ g. get_same _ _ _ _ _ (λ m. get_same _ _ _ _ _ (λ q.
+    grow_version b s (header_alone (record { version = a; subnets = s; signals = g; limit = m; scale = q })) la lb)))))
 
 -- READING
-id-part : {A : Type 0} (r : Parsing A) → part (λ a. a) r ≡ r
-id-part (Parsing.refused n at) = refl
-id-part (Parsing.whole a end) = refl
+id_part : {A : Type 0} (r : Parsing A) → part (λ a. a) r ≡ r
+id_part (Parsing.refused n at) = refl
+id_part (Parsing.whole a end) = refl
 
 module _ {U A B : Type 0} (f : A → B) where
-  erase-then-done : (m : Format U A) → erase (λ (b : B). b) (m >>= (λ a. done (f a))) ≡ erase f m
-  erase-then-done (done a) = refl
-  erase-then-done (get w value fault next) = ap (get w (λ u. 0) fault) (fun_ext (λ v. erase-then-done (next v)))
+  erase_then_done : (m : Format U A) → erase (λ (b : B). b) (m >>= (λ a. done (f a))) ≡ erase f m
+  erase_then_done (done a) = refl
+  erase_then_done (get w value fault next) = ap (get w (λ u. 0) fault) (fun_ext (λ v. erase_then_done (next v)))
 
-  read-then-done : (bytes : List ℕ) (m : Format U A) (at : ℕ) → read bytes (m >>= (λ a. done (f a))) at ≡ part f (read bytes m at)
-  read-then-done bytes m at =
-      sym (id-part (read bytes (m >>= (λ a. done (f a))) at)) ∙ sym (read-erase (λ (b : B). b) bytes (m >>= (λ a. done (f a))) at)
-      ∙ ap (λ (x : Format One B). read bytes x at) (erase-then-done m) ∙ read-erase f bytes m at
+  read_then_done : (bytes : List ℕ) (m : Format U A) (at : ℕ) → read bytes (m >>= (λ a. done (f a))) at ≡ part f (read bytes m at)
+  read_then_done bytes m at =
+      sym (id_part (read bytes (m >>= (λ a. done (f a))) at)) ∙ sym (read_erase (λ (b : B). b) bytes (m >>= (λ a. done (f a))) at)
+      ∙ ap (λ (x : Format One B). read bytes x at) (erase_then_done m) ∙ read_erase f bytes m at
 
 -- it goes forward
-read-later : {U A : Type 0} (bytes : List ℕ) (m : Format U A) (at end : ℕ) (a : A) → read bytes m at ≡ Parsing.whole a end → at ≤ end
+read_later : {U A : Type 0} (bytes : List ℕ) (m : Format U A) (at end : ℕ) (a : A) → read bytes m at ≡ Parsing.whole a end → at ≤ end
 unfolding read
-read-later bytes (done b) at end a e = let q : at ≡ end = cc in omega (arith, q)
-read-later {U} {A} bytes (get w value fault next) at end a e =
+read_later bytes (done b) at end a e = let q : at ≡ end = cc in omega (arith, q)
+read_later {U} {A} bytes (get w value fault next) at end a e =
     let v = bit_field (bit bytes) at w in
-    go (ltb (8 * length bytes) (at + w)) (fault v) (read bytes (next v) (at + w)) (read-later bytes (next v) (at + w) end a) e
+    go (ltb (8 * length bytes) (at + w)) (fault v) (read bytes (next v) (at + w)) (read_later bytes (next v) (at + w) end a) e
   where
     go : (b : Bool) (y : Option FormatFault) (r : Parsing A) → (r ≡ Parsing.whole a end → at + w ≤ end)
         → cond b (Parsing.refused (Numbers.number Truncated) at) (unless_fault y at r) ≡ Parsing.whole a end → at ≤ end
-    go true y r ih q = absurd (not-whole _ _ _ _ q)
-    go false (some g) r ih q = absurd (not-whole _ _ _ _ q)
+    go true y r ih q = absurd (not_whole _ _ _ _ q)
+    go false (some g) r ih q = absurd (not_whole _ _ _ _ q)
     go false none r ih q = omega (arith, ih q)
 
 -- the version, and what comes behind it
@@ -145,13 +145,13 @@ module _ (x y : List ℕ) (long : length x ≡ length y) (same : (i : ℕ) → 4
   read_same (done a) at l = refl
   read_same (get w value fault next) at l =
       let v = bit_field (bit y) at w in
-      rw (long, field-local (bit x) (bit y) at w (λ i a b. same i (omega arith)), read_same (next v) (at + w) (omega arith)) refl
+      rw (long, field_local (bit x) (bit y) at w (λ i a b. same i (omega arith)), read_same (next v) (at + w) (omega arith)) refl
 
-  excess-same : (end : ℕ) → 4 ≤ end → excess x end ≡ excess y end
+  excess_same : (end : ℕ) → 4 ≤ end → excess x end ≡ excess y end
   unfolding excess
-  excess-same end l =
+  excess_same end l =
       rw long (ap (λ (z : Option ℕ). z otherwise some_if (ltb (bytes_for end) (length y)) (8 * bytes_for end))
-      (first-same end (8 * bytes_for end - end) _ _ (λ i a b. ap (λ (z : ℕ). some_if (eqb z 1) i) (same i (omega arith)))))
+      (first_same end (8 * bytes_for end - end) _ _ (λ i a b. ap (λ (z : ℕ). some_if (eqb z 1) i) (same i (omega arith)))))
 
   module _ (known : Known x) (knows : Known y) where
     abbrev u : ℕ
@@ -159,8 +159,8 @@ module _ (x y : List ℕ) (long : length x ≡ length y) (same : (i : ℕ) → 4
 
     inner : read y (behind card u) 4 ≡ part (with_version u) (read x (behind card (version_in x)) 4)
     inner =
-        sym (read_same (behind card u) 4 (omega arith)) ∙ ap (λ (m : Format Card Card). read x m 4) (sym (card-version (version_in x) u known.1 knows.1))
-        ∙ read-then-done (with_version u) x (behind card (version_in x)) 4
+        sym (read_same (behind card u) 4 (omega arith)) ∙ ap (λ (m : Format Card Card). read x m 4) (sym (card_version (version_in x) u known.1 knows.1))
+        ∙ read_then_done (with_version u) x (behind card (version_in x)) 4
 
     fronted : (r : Parsing Card) → front y (part (with_version u) r) ≡ part (with_version u) (front x r)
     fronted r = rw long (go (ltb (8 * length y) 4))
@@ -169,66 +169,66 @@ module _ (x y : List ℕ) (long : length x ≡ length y) (same : (i : ℕ) → 4
         go true = refl
         go false = refl
 
-    read-version : read y card 0 ≡ part (with_version u) (read x card 0)
-    read-version =
+    read_version : read y card 0 ≡ part (with_version u) (read x card 0)
+    read_version =
         first_read y knows ∙ ap (front y) inner ∙ fronted (read x (behind card (version_in x)) 4) ∙ ap (part (with_version u)) (sym (first_read x known))
 
-    end-behind : (c : Card) (end : ℕ) → read x card 0 ≡ Parsing.whole c end → 4 ≤ end
-    end-behind c end e = go (ltb (8 * length x) 4) (sym (first_read x known) ∙ e)
+    end_behind : (c : Card) (end : ℕ) → read x card 0 ≡ Parsing.whole c end → 4 ≤ end
+    end_behind c end e = go (ltb (8 * length x) 4) (sym (first_read x known) ∙ e)
       where
         go : (b : Bool) → cond b (Parsing.refused (Numbers.number Truncated) 0) (read x (behind card (version_in x)) 4) ≡ Parsing.whole c end → 4 ≤ end
-        go true q = absurd (not-whole _ _ _ _ q)
-        go false q = read-later x (behind card (version_in x)) 4 end c q
+        go true q = absurd (not_whole _ _ _ _ q)
+        go false q = read_later x (behind card (version_in x)) 4 end c q
 
-    ended-version : (r : Parsing Card) → read x card 0 ≡ r → ended y (part (with_version u) r) ≡ part (with_version u) (ended x r)
-    ended-version (Parsing.refused n at) e = refl
-    ended-version (Parsing.whole c end) e = rw (excess-same end (end-behind c end e)) (go (excess y end))
+    ended_version : (r : Parsing Card) → read x card 0 ≡ r → ended y (part (with_version u) r) ≡ part (with_version u) (ended x r)
+    ended_version (Parsing.refused n at) e = refl
+    ended_version (Parsing.whole c end) e = rw (excess_same end (end_behind c end e)) (go (excess y end))
       where
         go : (z : Option ℕ) → closed z (with_version u c) end ≡ part (with_version u) (closed z c end)
         go none = refl
         go (some i) = refl
 
-    pub card-read-version : read_card y ≡ part (with_version u) (read_card x)
+    pub card_read_version : read_card y ≡ part (with_version u) (read_card x)
     unfolding read_card
-    card-read-version = ap (ended y) read-version ∙ ended-version (read x card 0) refl
+    card_read_version = ap (ended y) read_version ∙ ended_version (read x card 0) refl
 
 -- THE CHECK
 module _ (c : Card) (v : ℕ) (a : c.version ≤ 2) (b : v ≤ 2) where
-  transition-size : size (transition v 0) ≡ size (transition c.version 0)
-  transition-size = ap size (transition-version v c.version b a 0)
+  transition_size : size (transition v 0) ≡ size (transition c.version 0)
+  transition_size = ap size (transition_version v c.version b a 0)
 
-  subnet-bit : (s : ℕ) → subnet_bit (with_version v c) s ≡ subnet_bit c s
+  subnet_bit_is : (s : ℕ) → subnet_bit (with_version v c) s ≡ subnet_bit c s
   unfolding subnet_bit first_place first_transition first_arc
-  subnet-bit s = rw (header-size v c.version b a, transition-size) refl
+  subnet_bit_is s = rw (header_size v c.version b a, transition_size) refl
 
-  transition-bit : (s t : ℕ) → transition_bit (with_version v c) s t ≡ transition_bit c s t
+  transition_bit_is : (s t : ℕ) → transition_bit (with_version v c) s t ≡ transition_bit c s t
   unfolding transition_bit first_place first_arc
-  transition-bit s t = rw (header-size v c.version b a, transition-size) refl
+  transition_bit_is s t = rw (header_size v c.version b a, transition_size) refl
 
-  arc-bit : (s t j : ℕ) → arc_bit (with_version v c) s t j ≡ arc_bit c s t j
+  arc_bit_is : (s t j : ℕ) → arc_bit (with_version v c) s t j ≡ arc_bit c s t j
   unfolding arc_bit
-  arc-bit s t j = rw (transition-bit s t, transition-size) refl
+  arc_bit_is s t j = rw (transition_bit_is s t, transition_size) refl
 
-  arc-version : (i t j : ℕ) → arc_fault (with_version v c) i t j ≡ arc_fault c i t j
+  arc_version : (i t j : ℕ) → arc_fault (with_version v c) i t j ≡ arc_fault c i t j
   unfolding arc_fault seen directed weighted single loops_fit first_place first_arc
-  arc-version i t j = rw (arc-bit i t j) refl
+  arc_version i t j = rw (arc_bit_is i t j) refl
 
-  fault-version : (i t : ℕ) → transition_fault (with_version v c) i t ≡ transition_fault c i t
+  fault_version : (i t : ℕ) → transition_fault (with_version v c) i t ≡ transition_fault c i t
   unfolding transition_fault has_unit first_place first_arc
-  fault-version i t =
-      ap₂ (λ (x y : Option Found). x otherwise y) (first-same 0 (transition_at c t).arcs (arc_fault (with_version v c) i t) (arc_fault c i t) (λ j l k. arc-version i t j))
-      (ap (λ (n : ℕ). fault_unless n (has_unit c t) NoUnit) (transition-bit i t))
+  fault_version i t =
+      ap₂ (λ (x y : Option Found). x otherwise y) (first_same 0 (transition_at c t).arcs (arc_fault (with_version v c) i t) (arc_fault c i t) (λ j l k. arc_version i t j))
+      (ap (λ (n : ℕ). fault_unless n (has_unit c t) NoUnit) (transition_bit_is i t))
 
-  subnet-version : (i : ℕ) → subnet_fault (with_version v c) i ≡ subnet_fault c i
+  subnet_version : (i : ℕ) → subnet_fault (with_version v c) i ≡ subnet_fault c i
   unfolding subnet_fault first_transition
-  subnet-version i = first-same (first_transition c i) (subnet_at c i).transitions (transition_fault (with_version v c) i) (transition_fault c i) (λ t l k. fault-version i t)
+  subnet_version i = first_same (first_transition c i) (subnet_at c i).transitions (transition_fault (with_version v c) i) (transition_fault c i) (λ t l k. fault_version i t)
 
-  pub check-version : check (with_version v c) ≡ check c
+  pub check_version : check (with_version v c) ≡ check c
   unfolding check has_interface like_lower alike children first_place first_transition first_arc
-  check-version =
-      ap₂ (λ (x y : Option Found). x otherwise y) (first-same 0 (length c.subnets) (subnet_fault (with_version v c)) (subnet_fault c) (λ i l k. subnet-version i))
-      (ap₂ (λ (x y : Option Found). x otherwise y) (first-same 0 (length c.subnets) _ _ (λ i l k. rw (subnet-bit i) refl))
-      (first-same 0 (length c.subnets) _ _ (λ s l k. rw (subnet-bit s) refl)))
+  check_version =
+      ap₂ (λ (x y : Option Found). x otherwise y) (first_same 0 (length c.subnets) (subnet_fault (with_version v c)) (subnet_fault c) (λ i l k. subnet_version i))
+      (ap₂ (λ (x y : Option Found). x otherwise y) (first_same 0 (length c.subnets) _ _ (λ i l k. rw (subnet_bit_is i) refl))
+      (first_same 0 (length c.subnets) _ _ (λ s l k. rw (subnet_bit_is s) refl)))
 
 -- a judgement, of the card as another version
 abbrev pub judged_as : (version : ℕ) → Judgement → Judgement
@@ -237,9 +237,9 @@ judged_as v (refused n at) = refused n at
 
 module _ (x y : List ℕ) (long : length x ≡ length y) (same : (i : ℕ) → 4 ≤ i → bit x i ≡ bit y i) (known : Known x) (knows : Known y) where
   -- BYTES THAT DIFFER IN THE VERSION ALONE ARE ONE CARD IN TWO VERSIONS, accepted or refused as one
-  pub judge-version : judge y ≡ judged_as (version_in y) (judge x)
+  pub judge_version : judge y ≡ judged_as (version_in y) (judge x)
   unfolding judge
-  judge-version = ap judged (card-read-version x y long same known knows) ∙ go (read_card x) refl
+  judge_version = ap judged (card_read_version x y long same known knows) ∙ go (read_card x) refl
     where
       found : (c : Card) (z : Option Found) → checked z (with_version (version_in y) c) ≡ judged_as (version_in y) (checked z c)
       found c none = refl
@@ -247,11 +247,11 @@ module _ (x y : List ℕ) (long : length x ≡ length y) (same : (i : ℕ) → 4
 
       go : (r : Parsing Card) → read_card x ≡ r → judged (part (with_version (version_in y)) r) ≡ judged_as (version_in y) (judged r)
       go (Parsing.refused n at) e = refl
-      go (Parsing.whole c end) e = rw (check-version c (version_in y) (read-wellformed x c end e).version.1 knows.1) (found c (check c))
+      go (Parsing.whole c end) e = rw (check_version c (version_in y) (read_wellformed x c end e).version.1 knows.1) (found c (check c))
 
-  -- `answer-version`: THE CHECK GIVES BOTH ONE ANSWER
-  pub answer-version : answer y ≡ answer x
-  answer-version = ap outcome_of judge-version ∙ go (judge x)
+  -- `answer_version`: THE CHECK GIVES BOTH ONE ANSWER
+  pub answer_version : answer y ≡ answer x
+  answer_version = ap outcome_of judge_version ∙ go (judge x)
     where
       go : (j : Judgement) → outcome_of (judged_as (version_in y) j) ≡ outcome_of j
       go (accepted c) = refl

@@ -16,8 +16,8 @@ use Rattle.hierarchy.specs.declared.Finding.TheVariants.{Nothing, Fault}
 abbrev pub Below : {A : Type 0} → (n : ℕ) → (ℕ → A) → A → Type 0
 Below n f y = (k : ℕ) → k < n → f k ≡ y
 
-pub below-start : {A : Type 0} (f : ℕ → A) (y : A) → Below 0 f y
-below-start f y k l = absurd (omega arith)
+pub below_start : {A : Type 0} (f : ℕ → A) (y : A) → Below 0 f y
+below_start f y k l = absurd (omega arith)
 
 pub below_more : {A : Type 0} (n : ℕ) (f : ℕ → A) (y : A) → Below n f y → f n ≡ y → Below (n + 1) f y
 below_more n f y h e k l = go (eqb k n) refl
@@ -40,25 +40,25 @@ and_no true = refl
 and_no false = refl
 
 -- every
-pub every-none : (n i : ℕ) (f : ℕ → Bool) → i < n → f i ≡ false → every n f ≡ false
+pub every_none : (n i : ℕ) (f : ℕ → Bool) → i < n → f i ≡ false → every n f ≡ false
 unfolding every
-every-none zero i f l e = absurd (omega arith)
-every-none (suc n) i f l e = go (eqb i n) refl (λ m. every-none n i f m e)
+every_none zero i f l e = absurd (omega arith)
+every_none (suc n) i f l e = go (eqb i n) refl (λ m. every_none n i f m e)
   where
     go : (t : Bool) → eqb i n ≡ t → (i < n → every n f ≡ false) → (every n f && f n) ≡ false
     go true q w = let z : f n ≡ false = subst (λ (k : ℕ). f k ≡ false) (eqb-true i n q) e in rw z (and_no (every n f))
     go false q w = rw (w (omega (arith, eqb-false i n q)))
 
-pub every-all : (n i : ℕ) (f : ℕ → Bool) → Below i f true → n ≤ i → every n f ≡ true
+pub every_all : (n i : ℕ) (f : ℕ → Bool) → Below i f true → n ≤ i → every n f ≡ true
 unfolding every
-every-all zero i f h l = refl
-every-all (suc n) i f h l = rw (every-all n i f h (omega arith), h n (omega arith))
+every_all zero i f h l = refl
+every_all (suc n) i f h l = rw (every_all n i f h (omega arith), h n (omega arith))
 
 -- any
-pub any-one : (n i : ℕ) (f : ℕ → Bool) → i < n → f i ≡ true → any n f ≡ true
+pub any_one : (n i : ℕ) (f : ℕ → Bool) → i < n → f i ≡ true → any n f ≡ true
 unfolding any
-any-one zero i f l e = absurd (omega arith)
-any-one (suc n) i f l e = go (eqb i n) refl (λ m. any-one n i f m e)
+any_one zero i f l e = absurd (omega arith)
+any_one (suc n) i f l e = go (eqb i n) refl (λ m. any_one n i f m e)
   where
     go : (t : Bool) → eqb i n ≡ t → (i < n → any n f ≡ true) → (any n f || f n) ≡ true
     go true q w = let z : f n ≡ true = subst (λ (k : ℕ). f k ≡ true) (eqb-true i n q) e in rw z (or_yes (any n f))
@@ -70,17 +70,17 @@ any_none zero i f h l = refl
 any_none (suc n) i f h l = rw (any_none n i f h (omega arith), h n (omega arith))
 
 -- first_of
-first-from : {A : Type 0} (from n i : ℕ) (f : ℕ → Option A) (x : A) → ((k : ℕ) → from ≤ k → k < from + i → f k ≡ none) → i < n → f (from + i) ≡ some x → first_of from n f ≡ some x
+first_from : {A : Type 0} (from n i : ℕ) (f : ℕ → Option A) (x : A) → ((k : ℕ) → from ≤ k → k < from + i → f k ≡ none) → i < n → f (from + i) ≡ some x → first_of from n f ≡ some x
 unfolding first_of
-first-from from zero i f x h l e = absurd (omega arith)
-first-from from (suc n) zero f x h l e =
+first_from from zero i f x h l e = absurd (omega arith)
+first_from from (suc n) zero f x h l e =
     let q : from + zero ≡ from = omega arith in
     let z : f from ≡ some x = subst (λ (k : ℕ). f k ≡ some x) q e in
     rw z
-first-from from (suc n) (suc i) f x h l e =
+first_from from (suc n) (suc i) f x h l e =
     let q : from + suc i ≡ suc from + i = omega arith in
     let z : f (suc from + i) ≡ some x = subst (λ (k : ℕ). f k ≡ some x) q e in
-    rw (h from (omega arith) (omega arith)) (first-from (suc from) n i f x (λ k a b. h k (omega arith) (omega arith)) (omega arith) z)
+    rw (h from (omega arith) (omega arith)) (first_from (suc from) n i f x (λ k a b. h k (omega arith) (omega arith)) (omega arith) z)
 
 none_from : {A : Type 0} (from n : ℕ) (f : ℕ → Option A) → ((k : ℕ) → from ≤ k → k < from + n → f k ≡ none) → first_of from n f ≡ none
 unfolding first_of
@@ -88,17 +88,17 @@ none_from from zero f h = refl
 none_from from (suc n) f h = rw (h from (omega arith) (omega arith)) (none_from (suc from) n f (λ k a b. h k (omega arith) (omega arith)))
 
 pub first_found : {A : Type 0} (n i : ℕ) (f : ℕ → Option A) (x : A) → Below i f none → i < n → f i ≡ some x → first_of 0 n f ≡ some x
-first_found n i f x h l e = first-from 0 n i f x (λ k a b. h k (omega arith)) l (subst (λ (k : ℕ). f k ≡ some x) (omega arith) e)
+first_found n i f x h l e = first_from 0 n i f x (λ k a b. h k (omega arith)) l (subst (λ (k : ℕ). f k ≡ some x) (omega arith) e)
 
-pub first-none : {A : Type 0} (n i : ℕ) (f : ℕ → Option A) → Below i f none → n ≤ i → first_of 0 n f ≡ none
-first-none n i f h l = none_from 0 n f (λ k a b. h k (omega arith))
+pub first_none : {A : Type 0} (n i : ℕ) (f : ℕ → Option A) → Below i f none → n ≤ i → first_of 0 n f ≡ none
+first_none n i f h l = none_from 0 n f (λ k a b. h k (omega arith))
 
 -- the parts of a test
-pub part-fails : (a b : Bool) → false ≡ a → false ≡ a && b
-part-fails a b e = rw (← e)
+pub part_fails : (a b : Bool) → false ≡ a → false ≡ a && b
+part_fails a b e = rw (← e)
 
-pub part-holds : (y a b : Bool) → true ≡ a → y ≡ b → y ≡ a && b
-part-holds y a b e f = rw (← e, f)
+pub part_holds : (y a b : Bool) → true ≡ a → y ≡ b → y ≡ a && b
+part_holds y a b e f = rw (← e, f)
 
 -- As many, and each two alike: both counts a and b are n, and the test has held at each number below i.
 pub record Compared (a b n i : ℕ) (f : ℕ → Bool) : Type 0 where
@@ -106,28 +106,28 @@ pub record Compared (a b n i : ℕ) (f : ℕ → Bool) : Type 0 where
   pub second : n ≡ b
   pub held : Below i f true
 
-pub counts-differ : (a b x y : ℕ) (f : ℕ → Bool) → x ≡ a → y ≡ b → (x ≡ y → ⊥) → false ≡ eqb a b && every a f
-counts-differ a b x y f e g d = rw (← e, ← g, ne_eqb x y d)
+pub counts_differ : (a b x y : ℕ) (f : ℕ → Bool) → x ≡ a → y ≡ b → (x ≡ y → ⊥) → false ≡ eqb a b && every a f
+counts_differ a b x y f e g d = rw (← e, ← g, ne_eqb x y d)
 
-pub compared-start : (a b n m : ℕ) (f : ℕ → Bool) → n ≡ a → m ≡ b → n ≡ m → Compared a b n 0 f
-compared-start a b n m f e g q = record { first = e; second = q ∙ g; held = below-start f true }
+pub compared_start : (a b n m : ℕ) (f : ℕ → Bool) → n ≡ a → m ≡ b → n ≡ m → Compared a b n 0 f
+compared_start a b n m f e g q = record { first = e; second = q ∙ g; held = below_start f true }
 
-pub compared-more : (a b n i : ℕ) (f : ℕ → Bool) → Compared a b n i f → f i ≡ true → Compared a b n (i + 1) f
-compared-more a b n i f w e = record { first = w.first; second = w.second; held = below_more i f true w.held e }
+pub compared_more : (a b n i : ℕ) (f : ℕ → Bool) → Compared a b n i f → f i ≡ true → Compared a b n (i + 1) f
+compared_more a b n i f w e = record { first = w.first; second = w.second; held = below_more i f true w.held e }
 
-pub compared-fails : (a b n i : ℕ) (f : ℕ → Bool) → Compared a b n i f → i < n → f i ≡ false → false ≡ eqb a b && every a f
-compared-fails a b n i f w l e = rw (every-none a i f (omega (arith, w.first)) e) (sym (and_no (eqb a b)))
+pub compared_fails : (a b n i : ℕ) (f : ℕ → Bool) → Compared a b n i f → i < n → f i ≡ false → false ≡ eqb a b && every a f
+compared_fails a b n i f w l e = rw (every_none a i f (omega (arith, w.first)) e) (sym (and_no (eqb a b)))
 
-pub compared-end : (a b n i : ℕ) (f : ℕ → Bool) → Compared a b n i f → n ≤ i → true ≡ eqb a b && every a f
-compared-end a b n i f w l = rw (every-all a i f w.held (omega (arith, w.first)), eq-eqb a b (sym w.first ∙ w.second))
+pub compared_end : (a b n i : ℕ) (f : ℕ → Bool) → Compared a b n i f → n ≤ i → true ≡ eqb a b && every a f
+compared_end a b n i f w l = rw (every_all a i f w.held (omega (arith, w.first)), eq-eqb a b (sym w.first ∙ w.second))
 
 -- the first fault, by a test at each number
-pub first-fails : (n i : ℕ) (bit : ℕ → ℕ) (ok : ℕ → Bool) (why : CardFault) (x : ℕ) → Below i ok true → i < n → ok i ≡ false → x ≡ bit i
+pub first_fails : (n i : ℕ) (bit : ℕ → ℕ) (ok : ℕ → Bool) (why : CardFault) (x : ℕ) → Below i ok true → i < n → ok i ≡ false → x ≡ bit i
     → finding_of (Fault why x) ≡ first_of 0 n (λ k. fault_unless (bit k) (ok k) why)
-first-fails n i bit ok why x h l e f =
+first_fails n i bit ok why x h l e f =
     let z : fault_unless (bit i) (ok i) why ≡ some (record { why = why; bit = x }) = rw (e, f) in
     sym (first_found n i (λ k. fault_unless (bit k) (ok k) why) _ (λ k m. rw (h k m)) l z)
 
 pub first_passes : (n i : ℕ) (bit : ℕ → ℕ) (ok : ℕ → Bool) (why : CardFault) → Below i ok true → n ≤ i
     → finding_of Nothing ≡ first_of 0 n (λ k. fault_unless (bit k) (ok k) why)
-first_passes n i bit ok why h l = sym (first-none n i (λ k. fault_unless (bit k) (ok k) why) (λ k m. rw (h k m)) l)
+first_passes n i bit ok why h l = sym (first_none n i (λ k. fault_unless (bit k) (ok k) why) (λ k m. rw (h k m)) l)

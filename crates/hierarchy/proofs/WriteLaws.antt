@@ -20,10 +20,10 @@ use Rattle.card.specs.declared.FormatFault.{FormatFault}
 use Rattle.card.specs.declared.FormatFault.TheVariants.{BadTable}
 use Rattle.card.specs.declared.writer.CardSpelt.{CardSpelt}
 use Rattle.card.specs.declared.writer.SpellAnswer.TheVariants.{Whole, Refused as Unspelt}
-use Rattle.card.proofs.Sums.{table-length, table_at}
-use Rattle.card.proofs.Ranges.{read-wellformed}
-use Rattle.card.proofs.RoundTrip.{read-write}
-use Rattle.card.proofs.Length.{bytes-few}
+use Rattle.card.proofs.Sums.{table_length, table_at}
+use Rattle.card.proofs.Ranges.{read_wellformed}
+use Rattle.card.proofs.RoundTrip.{read_write}
+use Rattle.card.proofs.Length.{bytes_few}
 use Rattle.hierarchy.specs.Numbers.{check_outcome, write_outcome}
 use Rattle.hierarchy.specs.Check.{Found, check}
 use Rattle.hierarchy.specs.Judgement.{Judgement, accepted, refused, checked, judged, judge, answer}
@@ -49,39 +49,39 @@ module _ (head : Head) (subnets places transitions arcs : List ℕ) where
     pub holds : take n bytes ≡ encode card
 
   -- what is spelt is a card's
-  reads-back : (c : Card) (end : ℕ) → read_rows head subnets places transitions arcs ≡ Parsing.whole c end → read_card (encode c) ≡ Parsing.whole c end
+  reads_back : (c : Card) (end : ℕ) → read_rows head subnets places transitions arcs ≡ Parsing.whole c end → read_card (encode c) ≡ Parsing.whole c end
   unfolding read_rows
-  reads-back c end e = go (whole_rows subnets places transitions arcs) refl e
+  reads_back c end e = go (whole_rows subnets places transitions arcs) refl e
     where
       go : (b : Bool) → whole_rows subnets places transitions arcs ≡ b → cond b (read_tables (tables_in head subnets places transitions arcs)) (Parsing.refused (Numbers.number BadTable) 0) ≡ Parsing.whole c end
           → read_card (encode c) ≡ Parsing.whole c end
-      go true p q = let x = read-write (tables_in head subnets places transitions arcs) c end q in subst (λ (d : Card). read_card (encode d) ≡ Parsing.whole d end) (sym x.0) x.1.reads
+      go true p q = let x = read_write (tables_in head subnets places transitions arcs) c end q in subst (λ (d : Card). read_card (encode d) ≡ Parsing.whole d end) (sym x.0) x.1.reads
       go false p q = absurd (let z : ◌≡◌ {A = ℕ} 0 1 = cc in omega arith)
 
-  first-bytes : (c : Card) (bytes : List ℕ) → length (encode c) ≤ card_bytes → bytes ≡ table 0 card_bytes (λ k. get_or (encode c) k 0) → take (length (encode c)) bytes ≡ encode c
-  first-bytes c bytes l e =
-      let long : length bytes ≡ card_bytes = ap length e ∙ table-length 0 card_bytes (λ k. get_or (encode c) k 0) in
+  first_bytes : (c : Card) (bytes : List ℕ) → length (encode c) ≤ card_bytes → bytes ≡ table 0 card_bytes (λ k. get_or (encode c) k 0) → take (length (encode c)) bytes ≡ encode c
+  first_bytes c bytes l e =
+      let long : length bytes ≡ card_bytes = ap length e ∙ table_length 0 card_bytes (λ k. get_or (encode c) k 0) in
       let same = length-take-le (length (encode c)) bytes (omega arith) in
       ext_get_or 0 (take (length (encode c)) bytes) (encode c) same
       (λ i h. get_or-take (length (encode c)) bytes i 0 (omega (arith, same)) ∙ ap (λ xs. get_or xs i 0) e ∙ table_at card_bytes (λ k. get_or (encode c) k 0) 0 i (omega (arith, same)))
 
   module _ (w : CardSpelt) (h : IsSpelt (read_rows head subnets places transitions arcs) w) where
-    pub spelt-whole : (n : ℕ) → w.answer ≡ Whole n → Spelt w.bytes n
-    spelt-whole n e = go (read_rows head subnets places transitions arcs) refl (sym (ap spell_outcome e) ∙ h.answer) h.bytes
+    pub spelt_whole : (n : ℕ) → w.answer ≡ Whole n → Spelt w.bytes n
+    spelt_whole n e = go (read_rows head subnets places transitions arcs) refl (sym (ap spell_outcome e) ∙ h.answer) h.bytes
       where
         go : (x : Parsing Card) → read_rows head subnets places transitions arcs ≡ x → spell_outcome (Whole n) ≡ outcome_of x → w.bytes ≡ Rattle.card.specs.Spelling.bytes_of x → Spelt w.bytes n
         go (Parsing.refused m at) p q b = absurd (let z : ◌≡◌ {A = ℕ} 0 1 = cc in omega arith)
         go (Parsing.whole c end) p q b =
             let long : n ≡ length (encode c) = cc in
-            let reads = reads-back c end p in
-            let few = bytes-few c (read-wellformed (encode c) c end reads) in
-            let room : n ≤ length w.bytes = omega (arith, long, few, ap length b, table-length 0 card_bytes (λ k. get_or (encode c) k 0)) in
-            record { card = c; end = end; is = p; reads = reads; long = long; few = room; cut = sym (length-take-le n w.bytes room); holds = ap (λ (m : ℕ). take m w.bytes) long ∙ first-bytes c w.bytes few b }
+            let reads = reads_back c end p in
+            let few = bytes_few c (read_wellformed (encode c) c end reads) in
+            let room : n ≤ length w.bytes = omega (arith, long, few, ap length b, table_length 0 card_bytes (λ k. get_or (encode c) k 0)) in
+            record { card = c; end = end; is = p; reads = reads; long = long; few = room; cut = sym (length-take-le n w.bytes room); holds = ap (λ (m : ℕ). take m w.bytes) long ∙ first_bytes c w.bytes few b }
 
-    pub spell-turned : (buffer : List ℕ) (f : FormatFault) (at : ℕ) (r : Written) → w.answer ≡ Unspelt f at → r ≡ NotWritten (Format f) at
+    pub spell_turned : (buffer : List ℕ) (f : FormatFault) (at : ℕ) (r : Written) → w.answer ≡ Unspelt f at → r ≡ NotWritten (Format f) at
         → IsWritten (write_rows head subnets places transitions arcs buffer) r buffer
     unfolding write_rows
-    spell-turned buffer f at r e t = go (read_rows head subnets places transitions arcs) (sym (ap spell_outcome e) ∙ h.answer)
+    spell_turned buffer f at r e t = go (read_rows head subnets places transitions arcs) (sym (ap spell_outcome e) ∙ h.answer)
       where
         go : (x : Parsing Card) → spell_outcome (Unspelt f at) ≡ outcome_of x → IsWritten (Rattle.hierarchy.specs.Output.delivered (judged x) encode buffer) r buffer
         go (Parsing.refused n i) q =
@@ -92,14 +92,14 @@ module _ (head : Head) (subnets places transitions arcs : List ℕ) where
 
   module _ (bytes : List ℕ) (n : ℕ) (s : Spelt bytes n) where
     -- the check of the bytes judges the tables
-    judged-is : judge (take n bytes) ≡ judged (read_rows head subnets places transitions arcs)
+    judged_is : judge (take n bytes) ≡ judged (read_rows head subnets places transitions arcs)
     unfolding judge
-    judged-is = rw (s.holds, s.reads, s.is)
+    judged_is = rw (s.holds, s.reads, s.is)
 
-    pub check-turned : (buffer : List ℕ) (f : CardFault) (at : ℕ) (r : Written) → check_outcome (Refused f at) ≡ answer (take n bytes) → r ≡ NotWritten f at
+    pub check_turned : (buffer : List ℕ) (f : CardFault) (at : ℕ) (r : Written) → check_outcome (Refused f at) ≡ answer (take n bytes) → r ≡ NotWritten f at
         → IsWritten (write_rows head subnets places transitions arcs buffer) r buffer
     unfolding write_rows
-    check-turned buffer f at r e t = go (judged (read_rows head subnets places transitions arcs)) (e ∙ ap judgement.outcome_of judged-is)
+    check_turned buffer f at r e t = go (judged (read_rows head subnets places transitions arcs)) (e ∙ ap judgement.outcome_of judged_is)
       where
         go : (x : Judgement) → check_outcome (Refused f at) ≡ judgement.outcome_of x → IsWritten (Rattle.hierarchy.specs.Output.delivered x encode buffer) r buffer
         go (refused m i) q =
@@ -108,11 +108,11 @@ module _ (head : Head) (subnets places transitions arcs : List ℕ) where
             rw (t, ← a, ← b) (record { answer = refl; bytes = refl })
         go (accepted d) q = absurd (let z : ◌≡◌ {A = ℕ} 0 1 = cc in omega arith)
 
-    pub put-done : (a b d : ℕ) → check_outcome (Accepted a b d) ≡ answer (take n bytes) → (buffer out : List ℕ) (x : Bool) (r : Written)
+    pub put_done : (a b d : ℕ) → check_outcome (Accepted a b d) ≡ answer (take n bytes) → (buffer out : List ℕ) (x : Bool) (r : Written)
         → x ≡ leb (length (take n bytes)) (length buffer) → out ≡ put_into (take n bytes) buffer → r ≡ cond x (Wrote n) (Short n)
         → IsWritten (write_rows head subnets places transitions arcs buffer) r out
     unfolding write_rows
-    put-done a b d e buffer out x r ex eo er = rw s.is (go (check s.card) refl (e ∙ ap judgement.outcome_of (judged-is ∙ ap judged s.is)))
+    put_done a b d e buffer out x r ex eo er = rw s.is (go (check s.card) refl (e ∙ ap judgement.outcome_of (judged_is ∙ ap judged s.is)))
       where
         fits : (y : Bool) → x ≡ y → write_outcome r ≡ Rattle.hierarchy.specs.Output.fitted y (length (encode s.card))
         fits true p = rw (er, p, s.long)

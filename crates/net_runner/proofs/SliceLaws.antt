@@ -13,12 +13,12 @@ use borrow.Author.Tests.{eqb-true, eq-eqb, ne_eqb}
 use Rattle.card.specs.Finite.{some_unless, ◌otherwise◌}
 use Rattle.card.specs.Card.{Card}
 use Rattle.card.specs.Spelling.{put_into}
-use Rattle.card.proofs.BitLaws.{lt-or-ge}
+use Rattle.card.proofs.BitLaws.{lt_or_ge}
 use Rattle.card.proofs.Copy.{Copying, copy_start, copy_more, copy_done, put_is, put_front}
-use Rattle.card.proofs.Sums.{map-length}
+use Rattle.card.proofs.Sums.{map_length}
 use Rattle.hierarchy.specs.Conditions.{Meets}
 use Rattle.hierarchy.specs.Judgement.{Judgement, accepted, refused, judge}
-use Rattle.hierarchy.proofs.Accepted.{accepted-meets}
+use Rattle.hierarchy.proofs.Accepted.{accepted_meets}
 use Rattle.flattening.specs.Flattening.{flatten, flat_place_row}
 use Rattle.runners.specs.Numbers.{RowOutcome, row_outcome, refusal}
 use Rattle.runners.specs.State.{NetState, entry, fresh}
@@ -35,9 +35,9 @@ use Rattle.runners.specs.declared.Refusal.TheVariants.{BadCard, BadState, BadOrd
 use Rattle.runners.specs.Answers.{IsRow}
 use Rattle.runners.specs.declared.RowAnswer.{RowAnswer}
 use Rattle.runners.specs.declared.Reply.TheVariants.{Ok, No}
-use Rattle.runners.proofs.StateLaws.{consistent-is, Sized, fresh-sized}
-use Rattle.runners.proofs.TraceLaws.{view-store, Good, Keeps, ask-keeps}
-use Rattle.runners.proofs.TransferLaws.{slot-at}
+use Rattle.runners.proofs.StateLaws.{consistent_is, Sized, fresh_sized}
+use Rattle.runners.proofs.TraceLaws.{view_store, Good, Keeps, ask_keeps}
+use Rattle.runners.proofs.TransferLaws.{slot_at_is}
 use Rattle.net_runner.specs.Told.{row_told, IsTold}
 use Rattle.net_runner.specs.Slices.{IsCalled, Slices, slices, state_of, slices_of, sized, in_slices, fresh_in, flat_on, subnet_on}
 use Rattle.net_runner.specs.Copies.{Fits, Lends, taken_back, handed_back, too_long}
@@ -46,45 +46,45 @@ use Rattle.net_runner.specs.Copies.{Fits, Lends, taken_back, handed_back, too_lo
 abbrev pub SlotsTo : (ts : List ℕ) → (k : ℕ) → List Slot → Type 0
 SlotsTo ts k slots = (t : ℕ) → t < k → slot_at slots t ≡ transfer_of (entry ts t)
 
-pub slots-start : (ts : List ℕ) (slots : List Slot) → SlotsTo ts 0 slots
-slots-start ts slots t b = absurd (omega arith)
+pub slots_start : (ts : List ℕ) (slots : List Slot) → SlotsTo ts 0 slots
+slots_start ts slots t b = absurd (omega arith)
 
-pub slots-more : (ts : List ℕ) (k : ℕ) (y : Transfer) (a : List Slot) → k < length a → y ≡ transfer_of (entry ts k) → SlotsTo ts k a → SlotsTo ts (k + 1) (set a k (slot y))
-slots-more ts k y a b e h t d = go (lt-or-ge t k)
+pub slots_more : (ts : List ℕ) (k : ℕ) (y : Transfer) (a : List Slot) → k < length a → y ≡ transfer_of (entry ts k) → SlotsTo ts k a → SlotsTo ts (k + 1) (set a k (slot y))
+slots_more ts k y a b e h t d = go (lt_or_ge t k)
   where
     go : (t < k) ⊎ (k ≤ t) → slot_at (set a k (slot y)) t ≡ transfer_of (entry ts t)
     go (inl q) =
-        slot-at (set a k (slot y)) t ∙ ap (λ (x : Slot). x.transfer) (get_or-set_other a k t (slot y) (slot Idle) (λ z. omega arith)) ∙ sym (slot-at a t) ∙ h t q
+        slot_at_is (set a k (slot y)) t ∙ ap (λ (x : Slot). x.transfer) (get_or-set_other a k t (slot y) (slot Idle) (λ z. omega arith)) ∙ sym (slot_at_is a t) ∙ h t q
     go (inr q) =
         let z : t ≡ k = omega arith in
-        rw z (slot-at (set a k (slot y)) k ∙ ap (λ (x : Slot). x.transfer) (get_or-set_same a k (slot y) (slot Idle) b) ∙ e)
+        rw z (slot_at_is (set a k (slot y)) k ∙ ap (λ (x : Slot). x.transfer) (get_or-set_same a k (slot y) (slot Idle) b) ∙ e)
 
 zero_or : (xs : List ℕ) (i : ℕ) → i < length xs → entry xs i ≡ get_or xs i 65535
 zero_or [] i b = absurd (omega arith)
 zero_or (x ∷ xs) zero b = refl
 zero_or (x ∷ xs) (suc i) b = zero_or xs i (omega arith)
 
-pub slots-all : (ts : List ℕ) (k : ℕ) (slots : List Slot) → length ts ≤ k → length slots ≡ 255 → length ts ≤ 255 → SlotsTo ts k slots → take (length ts) (map (λ x. x.transfer) slots) ≡ map transfer_of ts
-slots-all ts k slots l long few h =
-    ext_get_or Idle (take (length ts) (map (λ (x : Slot). x.transfer) slots)) (map transfer_of ts) (size ∙ sym (map-length transfer_of ts))
+pub slots_all : (ts : List ℕ) (k : ℕ) (slots : List Slot) → length ts ≤ k → length slots ≡ 255 → length ts ≤ 255 → SlotsTo ts k slots → take (length ts) (map (λ x. x.transfer) slots) ≡ map transfer_of ts
+slots_all ts k slots l long few h =
+    ext_get_or Idle (take (length ts) (map (λ (x : Slot). x.transfer) slots)) (map transfer_of ts) (size ∙ sym (map_length transfer_of ts))
     (λ i b. get_or-take (length ts) (map (λ (x : Slot). x.transfer) slots) i Idle (omega (arith, size)) ∙ h i (omega (arith, size)) ∙ sym (at i (omega (arith, size))))
   where
     size : length (take (length ts) (map (λ (x : Slot). x.transfer) slots)) ≡ length ts
-    size = length-take-le (length ts) (map (λ (x : Slot). x.transfer) slots) (omega (arith, map-length (λ (x : Slot). x.transfer) slots))
+    size = length-take-le (length ts) (map (λ (x : Slot). x.transfer) slots) (omega (arith, map_length (λ (x : Slot). x.transfer) slots))
 
     at : (i : ℕ) → i < length ts → get_or (map transfer_of ts) i Idle ≡ transfer_of (entry ts i)
     at i b = get_or-map transfer_of ts i 65535 ∙ ap transfer_of (sym (zero_or ts i b))
 
 -- numbers put into a slice of their length
 module _ (want out : List ℕ) (e : length want ≡ length out) where
-  pub put-start : Copying want out out 0
-  put-start = copy_start want out (omega arith)
+  pub put_start : Copying want out out 0
+  put_start = copy_start want out (omega arith)
 
-  pub put-more : (now : List ℕ) (i v : ℕ) → Copying want out now i → i < length out → v ≡ get_or want i 0 → Copying want out (set now i v) (i + 1)
-  put-more now i v c l q = subst (λ (z : ℕ). Copying want out (set now i z) (i + 1)) (sym q) (copy_more want out now i c (omega arith))
+  pub put_more : (now : List ℕ) (i v : ℕ) → Copying want out now i → i < length out → v ≡ get_or want i 0 → Copying want out (set now i v) (i + 1)
+  put_more now i v c l q = subst (λ (z : ℕ). Copying want out (set now i z) (i + 1)) (sym q) (copy_more want out now i c (omega arith))
 
-  pub put-done : (now : List ℕ) (i : ℕ) → Copying want out now i → length out ≤ i → now ≡ want
-  put-done now i c l =
+  pub put_done : (now : List ℕ) (i : ℕ) → Copying want out now i → length out ≤ i → now ≡ want
+  put_done now i c l =
       let z = ap length (put_is want out (omega arith)) ∙ length-append want (drop (length want) out) in
       copy_done want out now i c (omega arith)
       ∙ sym (take_all (length want) (put_into want out) (omega (arith, z, length-drop (length want) out)))
@@ -106,20 +106,20 @@ lends ms ts ds m d s f em es ed =
     same a b c ea eb ec = rw (ea, eb, ec)
 
 -- what is handed back
-taken-view : (l : Lent) (x : Slices) → l.places ≡ length x.markings → l.transitions ≡ length x.transfers → l.signals ≡ length x.degrees → taken_back l x ≡ slices_of (view l)
-taken-view l x ep et es = rw (ep, et, es)
+taken_view : (l : Lent) (x : Slices) → l.places ≡ length x.markings → l.transitions ≡ length x.transfers → l.signals ≡ length x.degrees → taken_back l x ≡ slices_of (view l)
+taken_view l x ep et es = rw (ep, et, es)
 
-taken-store : (f : Card) (l : Lent) (s : NetState) (x : Slices) → Counts f l → Sized f s → l.places ≡ length x.markings → l.transitions ≡ length x.transfers → l.signals ≡ length x.degrees
+taken_store : (f : Card) (l : Lent) (s : NetState) (x : Slices) → Counts f l → Sized f s → l.places ≡ length x.markings → l.transitions ≡ length x.transfers → l.signals ≡ length x.degrees
     → taken_back (store l s) x ≡ slices_of s
-taken-store f l s x n h ep et es = taken-view (store l s) x ep et es ∙ ap slices_of (view-store f l s n h)
+taken_store f l s x n h ep et es = taken_view (store l s) x ep et es ∙ ap slices_of (view_store f l s n h)
 
-pub refused-back : (why : Refusal) (l : Lent) (x : Slices) → handed_back (row_outcome (No why), l) x ≡ (row_outcome (No why), x)
-refused-back (BadCard f at) l x = refl
-refused-back BadState l x = refl
-refused-back BadOrder l x = refl
-refused-back BadRow l x = refl
-refused-back (BadDegree g) l x = refl
-refused-back (Conflict p) l x = refl
+pub refused_back : (why : Refusal) (l : Lent) (x : Slices) → handed_back (row_outcome (No why), l) x ≡ (row_outcome (No why), x)
+refused_back (BadCard f at) l x = refl
+refused_back BadState l x = refl
+refused_back BadOrder l x = refl
+refused_back BadRow l x = refl
+refused_back (BadDegree g) l x = refl
+refused_back (Conflict p) l x = refl
 
 and_left : (a b : Bool) → (a && b) ≡ true → a ≡ true
 and_left true b e = refl
@@ -134,9 +134,9 @@ record Lengths (f : Card) (x : Slices) : Type 0 where
   pub transitions : length x.transfers ≡ length f.transitions
   pub signals : length x.degrees ≡ f.signals
 
-sized-lengths : (f : Card) (x : Slices) → sized f x ≡ true → Lengths f x
+sized_lengths : (f : Card) (x : Slices) → sized f x ≡ true → Lengths f x
 unfolding sized
-sized-lengths f x e =
+sized_lengths f x e =
     let a = eqb (length x.markings) (length f.places) in
     let b = eqb (length x.transfers) (length f.transitions) in
     let c = eqb (length x.degrees) f.signals in
@@ -166,53 +166,53 @@ module _ (x : Slices) (l : Lent) (h : Lends x l) where
 
     settled : valid_in in_slices f x ≡ true → (o : Option Refusal) → inner ≡ o → handed_back (settle o l (store l (a.next s))) x ≡ settle o x (slices_of (a.next s))
     unfolding valid_in
-    settled v (some why) e = refused-back why l x
+    settled v (some why) e = refused_back why l x
     settled v none e =
-        let z = sized-lengths f x (and_left (sized f x) (consistent f s) v) in
-        let g : Good f s = record { consistent = (consistent-is f s).0 (and_right (sized f x) (consistent f s) v); sized = record { markings = z.places; transfers = map-length transfer_of x.transfers ∙ z.transitions; degrees = z.signals } } in
+        let z = sized_lengths f x (and_left (sized f x) (consistent f s) v) in
+        let g : Good f s = record { consistent = (consistent_is f s).0 (and_right (sized f x) (consistent f s) v); sized = record { markings = z.places; transfers = map_length transfer_of x.transfers ∙ z.transitions; degrees = z.signals } } in
         let k = keeps s g (none_right (some_unless ordered BadOrder) (a.refusal s) e) in
         let n : Counts f l = record { places = h.places ∙ z.places; transitions = h.transitions ∙ z.transitions; signals = h.signals ∙ z.signals } in
-        ap (λ (y : Slices). (RowOutcome.ok, y)) (taken-store f l (a.next s) x n k.sized h.places h.transitions h.signals)
+        ap (λ (y : Slices). (RowOutcome.ok, y)) (taken_store f l (a.next s) x n k.sized h.places h.transitions h.signals)
 
     tested : (b : Bool) → valid_in in_slices f x ≡ b → handed_back (settle (some_unless b BadState otherwise inner) l (store l (a.next s))) x ≡ settle (some_unless b BadState otherwise inner) x (slices_of (a.next s))
     tested true e = settled e inner refl
     tested false e = refl
 
-    lent-on : handed_back (lent_call in_state f ordered a l) x ≡ lent_call in_slices f ordered a x
-    lent-on =
+    lent_on : handed_back (lent_call in_state f ordered a l) x ≡ lent_call in_slices f ordered a x
+    lent_on =
         subst (λ (v : NetState). handed_back (settle (some_unless (valid f l) BadState otherwise some_unless ordered BadOrder otherwise a.refusal v) l (store l (a.next v))) x ≡ lent_call in_slices f ordered a x)
         (sym h.state) (rw (valid_same f) (tested (valid_in in_slices f x) refl))
 
   -- A CALL ON SLICES IS THE CALL ON THE STATE THAT THEY MAKE, handed back
   pub called_on : (j : Judgement) (given : Card → Given) → handed_back (call_on in_state j given l) x ≡ call_on in_slices j given x
-  called_on (accepted c) given = lent-on (flatten c) (given c).ordered (act_of (flatten c) (given c).ask) (ask-keeps (flatten c) (given c).ask)
+  called_on (accepted c) given = lent_on (flatten c) (given c).ordered (act_of (flatten c) (given c).ask) (ask_keeps (flatten c) (given c).ask)
   called_on (refused n at) given = refl
 
-pub flat-on : (card : List ℕ) (x : Slices) (l : Lent) → Lends x l → (r : List ℕ) → handed_back (flat_call card l r) x ≡ flat_on card x r
+pub flat_on_is : (card : List ℕ) (x : Slices) (l : Lent) → Lends x l → (r : List ℕ) → handed_back (flat_call card l r) x ≡ flat_on card x r
 unfolding flat_call flat_on
-flat-on card x l h r = called_on x l h (judge card) _
+flat_on_is card x l h r = called_on x l h (judge card) _
 
-pub subnet-on : (card order : List ℕ) (x : Slices) (l : Lent) → Lends x l → (r : List ℕ) → handed_back (subnet_call card order l r) x ≡ subnet_on card order x r
+pub subnet_on_is : (card order : List ℕ) (x : Slices) (l : Lent) → Lends x l → (r : List ℕ) → handed_back (subnet_call card order l r) x ≡ subnet_on card order x r
 unfolding subnet_call subnet_on
-subnet-on card order x l h r = called_on x l h (judge card) _
+subnet_on_is card order x l h r = called_on x l h (judge card) _
 
 -- slices that are too long for any card
-valid-sized : (f : Card) (x : Slices) → valid_in in_slices f x ≡ true → sized f x ≡ true
+valid_sized : (f : Card) (x : Slices) → valid_in in_slices f x ≡ true → sized f x ≡ true
 unfolding valid_in
-valid-sized f x e = and_left (sized f x) (consistent f (state_of x)) e
+valid_sized f x e = and_left (sized f x) (consistent f (state_of x)) e
 
-too-long : (c : Card) (x : Slices) → Meets c → (Fits x → ⊥) → sized (flatten c) x ≡ true → ⊥
+never_too_long : (c : Card) (x : Slices) → Meets c → (Fits x → ⊥) → sized (flatten c) x ≡ true → ⊥
 unfolding flatten
-too-long c x m n e =
-    let z = sized-lengths (flatten c) x e in
+never_too_long c x m n e =
+    let z = sized_lengths (flatten c) x e in
     n (record {
-      markings = omega (arith, z.places, map-length flat_place_row c.places, m.wellformed.rows.few_places);
+      markings = omega (arith, z.places, map_length flat_place_row c.places, m.wellformed.rows.few_places);
       transfers = omega (arith, z.transitions, m.wellformed.rows.few_transitions);
       degrees = omega (arith, z.signals, m.wellformed.few_signals);
     })
 
-pub called-long : (given : Card → Given) (card : List ℕ) (x : Slices) → (Fits x → ⊥) → call_on in_slices (judge card) given x ≡ (too_long (judge card), x)
-called-long given card x n = go (judge card) refl
+pub called_long : (given : Card → Given) (card : List ℕ) (x : Slices) → (Fits x → ⊥) → call_on in_slices (judge card) given x ≡ (too_long (judge card), x)
+called_long given card x n = go (judge card) refl
   where
     go : (j : Judgement) → judge card ≡ j → call_on in_slices j given x ≡ (too_long j, x)
     go (refused k at) e = refl
@@ -220,28 +220,28 @@ called-long given card x n = go (judge card) refl
       where
         tested : (b : Bool) → valid_in in_slices (flatten c) x ≡ b → call_on in_slices (accepted c) given x ≡ (row_outcome (No BadState), x)
         tested false q = rw q
-        tested true q = absurd (too-long c x (accepted-meets card c e) n (valid-sized (flatten c) x q))
+        tested true q = absurd (never_too_long c x (accepted_meets card c e) n (valid_sized (flatten c) x q))
 
 -- the fresh state in slices
-pub fresh-refused : (x : Slices) (n at : ℕ) (l : Lent) → handed_back (RowOutcome.refused n (some at), l) x ≡ (RowOutcome.refused n (some at), x)
-fresh-refused x n at l = refl
+pub fresh_refused : (x : Slices) (n at : ℕ) (l : Lent) → handed_back (RowOutcome.refused n (some at), l) x ≡ (RowOutcome.refused n (some at), x)
+fresh_refused x n at l = refl
 
 module _ (c : Card) (x : Slices) where
-  pub fresh-other : sized (flatten c) x ≡ false → (row_outcome (No BadState), x) ≡ fresh_in (accepted c) x
-  fresh-other e = rw e
+  pub fresh_other : sized (flatten c) x ≡ false → (row_outcome (No BadState), x) ≡ fresh_in (accepted c) x
+  fresh_other e = rw e
 
-  places-flat : length (flatten c).places ≡ length c.places
+  places_flat : length (flatten c).places ≡ length c.places
   unfolding flatten
-  places-flat = map-length flat_place_row c.places
+  places_flat = map_length flat_place_row c.places
 
-  abbrev same-places : Bool
-  same-places = eqb (length x.markings) (length (flatten c).places)
+  abbrev same_places : Bool
+  same_places = eqb (length x.markings) (length (flatten c).places)
 
-  abbrev same-transitions : Bool
-  same-transitions = eqb (length x.transfers) (length (flatten c).transitions)
+  abbrev same_transitions : Bool
+  same_transitions = eqb (length x.transfers) (length (flatten c).transitions)
 
-  abbrev same-signals : Bool
-  same-signals = eqb (length x.degrees) (flatten c).signals
+  abbrev same_signals : Bool
+  same_signals = eqb (length x.degrees) (flatten c).signals
 
   unsized : (a b d : Bool) → (a ≡ false) ⊎ ((b ≡ false) ⊎ (d ≡ false)) → (a && b && d) ≡ false
   unsized false b d h = refl
@@ -252,61 +252,61 @@ module _ (c : Card) (x : Slices) where
   unsized true true true (inr (inr e)) = e
 
   module _ (p t g : ℕ) (ep : p ≡ length c.places) (et : t ≡ length c.transitions) (eg : g ≡ c.signals) where
-    pub other-places : (length x.markings ≡ p → ⊥) → sized (flatten c) x ≡ false
+    pub other_places : (length x.markings ≡ p → ⊥) → sized (flatten c) x ≡ false
     unfolding sized
-    other-places n = unsized same-places same-transitions same-signals (inl (ne_eqb (length x.markings) (length (flatten c).places) (λ z. n (z ∙ places-flat ∙ sym ep))))
+    other_places n = unsized same_places same_transitions same_signals (inl (ne_eqb (length x.markings) (length (flatten c).places) (λ z. n (z ∙ places_flat ∙ sym ep))))
 
-    pub other-transitions : (length x.transfers ≡ t → ⊥) → sized (flatten c) x ≡ false
+    pub other_transitions : (length x.transfers ≡ t → ⊥) → sized (flatten c) x ≡ false
     unfolding sized flatten
-    other-transitions n = unsized same-places same-transitions same-signals (inr (inl (ne_eqb (length x.transfers) (length c.transitions) (λ z. n (z ∙ sym et)))))
+    other_transitions n = unsized same_places same_transitions same_signals (inr (inl (ne_eqb (length x.transfers) (length c.transitions) (λ z. n (z ∙ sym et)))))
 
-    pub other-signals : (length x.degrees ≡ g → ⊥) → sized (flatten c) x ≡ false
+    pub other_signals : (length x.degrees ≡ g → ⊥) → sized (flatten c) x ≡ false
     unfolding sized flatten
-    other-signals n = unsized same-places same-transitions same-signals (inr (inr (ne_eqb (length x.degrees) c.signals (λ z. n (z ∙ sym eg)))))
+    other_signals n = unsized same_places same_transitions same_signals (inr (inr (ne_eqb (length x.degrees) c.signals (λ z. n (z ∙ sym eg)))))
 
-    pub fresh-same : length x.markings ≡ p → length x.transfers ≡ t → length x.degrees ≡ g → handed_back (RowOutcome.ok, fresh_lent (flatten c)) x ≡ fresh_in (accepted c) x
+    pub fresh_same : length x.markings ≡ p → length x.transfers ≡ t → length x.degrees ≡ g → handed_back (RowOutcome.ok, fresh_lent (flatten c)) x ≡ fresh_in (accepted c) x
     unfolding sized flatten
-    fresh-same a b d =
-        rw (eq-eqb (length x.markings) (length (flatten c).places) (a ∙ ep ∙ sym places-flat), eq-eqb (length x.transfers) (length c.transitions) (b ∙ et), eq-eqb (length x.degrees) c.signals (d ∙ eg))
+    fresh_same a b d =
+        rw (eq-eqb (length x.markings) (length (flatten c).places) (a ∙ ep ∙ sym places_flat), eq-eqb (length x.transfers) (length c.transitions) (b ∙ et), eq-eqb (length x.degrees) c.signals (d ∙ eg))
         (ap (λ (y : Slices). (RowOutcome.ok, y))
-        (taken-store (flatten c) (blank (length (flatten c).places) (length c.transitions) c.signals) (fresh (flatten c)) x
-        (record { places = refl; transitions = refl; signals = refl }) (fresh-sized (flatten c)) (places-flat ∙ sym ep ∙ sym a) (sym et ∙ sym b) (sym eg ∙ sym d)))
+        (taken_store (flatten c) (blank (length (flatten c).places) (length c.transitions) c.signals) (fresh (flatten c)) x
+        (record { places = refl; transitions = refl; signals = refl }) (fresh_sized (flatten c)) (places_flat ∙ sym ep ∙ sym a) (sym et ∙ sym b) (sym eg ∙ sym d)))
 
-pub flat-long : (card : List ℕ) (x : Slices) (r : List ℕ) → (Fits x → ⊥) → flat_on card x r ≡ (too_long (judge card), x)
+pub flat_long : (card : List ℕ) (x : Slices) (r : List ℕ) → (Fits x → ⊥) → flat_on card x r ≡ (too_long (judge card), x)
 unfolding flat_on
-flat-long card x r n = called-long _ card x n
+flat_long card x r n = called_long _ card x n
 
-pub subnet-long : (card order : List ℕ) (x : Slices) (r : List ℕ) → (Fits x → ⊥) → subnet_on card order x r ≡ (too_long (judge card), x)
+pub subnet_long : (card order : List ℕ) (x : Slices) (r : List ℕ) → (Fits x → ⊥) → subnet_on card order x r ≡ (too_long (judge card), x)
 unfolding subnet_on
-subnet-long card order x r n = called-long _ card x n
+subnet_long card order x r n = called_long _ card x n
 
 -- the numbers of transfers
-pub numbers-long : (slots : List Slot) (n : ℕ) → n ≤ length slots → length (map code_of (take n (map (λ x. x.transfer) slots))) ≡ n
-numbers-long slots n l =
-    map-length code_of (take n (map (λ (x : Slot). x.transfer) slots))
-    ∙ length-take-le n (map (λ (x : Slot). x.transfer) slots) (omega (arith, map-length (λ (x : Slot). x.transfer) slots))
+pub numbers_long : (slots : List Slot) (n : ℕ) → n ≤ length slots → length (map code_of (take n (map (λ x. x.transfer) slots))) ≡ n
+numbers_long slots n l =
+    map_length code_of (take n (map (λ (x : Slot). x.transfer) slots))
+    ∙ length-take-le n (map (λ (x : Slot). x.transfer) slots) (omega (arith, map_length (λ (x : Slot). x.transfer) slots))
 
-pub numbers-at : (slots : List Slot) (n i : ℕ) → i < n → n ≤ length slots → get_or (map code_of (take n (map (λ x. x.transfer) slots))) i 0 ≡ code_of (get_or slots i (slot Idle)).transfer
-numbers-at slots n i b l =
-    zero_or (map code_of (take n (map (λ (x : Slot). x.transfer) slots))) i (omega (arith, numbers-long slots n l))
+pub numbers_at : (slots : List Slot) (n i : ℕ) → i < n → n ≤ length slots → get_or (map code_of (take n (map (λ x. x.transfer) slots))) i 0 ≡ code_of (get_or slots i (slot Idle)).transfer
+numbers_at slots n i b l =
+    zero_or (map code_of (take n (map (λ (x : Slot). x.transfer) slots))) i (omega (arith, numbers_long slots n l))
     ∙ get_or-map code_of (take n (map (λ (x : Slot). x.transfer) slots)) i Idle
-    ∙ ap code_of (get_or-take n (map (λ (x : Slot). x.transfer) slots) i Idle b ∙ slot-at slots i)
+    ∙ ap code_of (get_or-take n (map (λ (x : Slot). x.transfer) slots) i Idle b ∙ slot_at_is slots i)
 
 -- the answer of a row call
-pub called-ok : (a : RowAnswer) (x : RowOutcome × Lent) → IsRow x a → a.reply ≡ Ok → (y : Slices) (r v : ℕ) (ms ts ds : List ℕ) → IsCalled (handed_back (RowOutcome.ok, a.state) y) r v ms ts ds → IsCalled (handed_back x y) r v ms ts ds
-called-ok a x h e y r v ms ts ds c =
+pub called_ok : (a : RowAnswer) (x : RowOutcome × Lent) → IsRow x a → a.reply ≡ Ok → (y : Slices) (r v : ℕ) (ms ts ds : List ℕ) → IsCalled (handed_back (RowOutcome.ok, a.state) y) r v ms ts ds → IsCalled (handed_back x y) r v ms ts ds
+called_ok a x h e y r v ms ts ds c =
     let o : RowOutcome.ok ≡ x.0 = sym (ap row_outcome e) ∙ h.reply in
     subst (λ (z : RowOutcome × Lent). IsCalled (handed_back z y) r v ms ts ds) (pair (RowOutcome.ok) x.0 a.state x.1 o h.state) c
   where
     pair : (p q : RowOutcome) (s t : Lent) → p ≡ q → s ≡ t → ◌≡◌ {A = RowOutcome × Lent} (p, s) (q, t)
     pair p q s t ep es = rw (ep, es)
 
-pub called-no : (a : RowAnswer) (x : RowOutcome × Lent) → IsRow x a → (why : Refusal) → a.reply ≡ No why → (y : Slices) (r v : ℕ) → IsTold (row_told (refusal why)) r v
+pub called_no : (a : RowAnswer) (x : RowOutcome × Lent) → IsRow x a → (why : Refusal) → a.reply ≡ No why → (y : Slices) (r v : ℕ) → IsTold (row_told (refusal why)) r v
     → IsCalled (handed_back x y) r v y.markings y.transfers y.degrees
-called-no a x h why e y r v t =
+called_no a x h why e y r v t =
     let o : row_outcome (No why) ≡ x.0 = sym (ap row_outcome e) ∙ h.reply in
     subst (λ (z : RowOutcome). IsCalled (handed_back (z, x.1) y) r v y.markings y.transfers y.degrees) o
-    (subst (λ (z : RowOutcome × Slices). IsCalled z r v y.markings y.transfers y.degrees) (sym (refused-back why x.1 y))
+    (subst (λ (z : RowOutcome × Slices). IsCalled z r v y.markings y.transfers y.degrees) (sym (refused_back why x.1 y))
     (record { told = t; markings = refl; transfers = refl; degrees = refl }))
 
 pub called_is : {x y : RowOutcome × Slices} {r v : ℕ} {ms ts ds : List ℕ} → x ≡ y → IsCalled x r v ms ts ds → IsCalled y r v ms ts ds

@@ -31,8 +31,8 @@ use Rattle.programs.specs.inner.Parts.{PutsLine}
 use Rattle.programs.specs.declared.blocks.Progress.{Progress}
 use Rattle.programs.specs.declared.blocks.Turn.{Turn}
 use Rattle.programs.specs.declared.line.Line.{Line}
-use Rattle.programs.proofs.LineLaws.{puts_none, puts-join, puts-end, puts_whole, line-put}
-use Rattle.programs.proofs.RunLaws.{feed-append, feed-kept, feed_row, block-fed, block-tight, block-over}
+use Rattle.programs.proofs.LineLaws.{puts_none, puts_join, puts_end, puts_whole, line_put}
+use Rattle.programs.proofs.RunLaws.{feed_append, feed_kept, feed_row, block_fed, block_tight, block_over}
 
 -- all the bytes that are there
 pub all_left : (net : Net) (s : Lent) (left : List ℕ) (have : ℕ) (r : RowAnswer) → length left < have → ((j : Judgement) → IsNet j net → IsRow (file_call j s left) r)
@@ -41,8 +41,8 @@ all_left net s left have r l h j n = subst (λ (xs : List ℕ). IsRow (file_call
 
 -- bytes behind those that are there
 module _ (p : Progress) (bytes y : List ℕ) (r : ℕ) (long : length p.left ≡ 79) (l : p.have + length bytes ≤ 79) (w : Puts p.left p.have bytes y r) where
-  pub kept-end : r ≡ p.have + length bytes
-  kept-end = puts-end p.left p.have bytes y r w (omega (arith, long, l))
+  pub kept_end : r ≡ p.have + length bytes
+  kept_end = puts_end p.left p.have bytes y r w (omega (arith, long, l))
 
   pub kept_run : ◌≡◌ {A = Run} (record { number = p.number; state = p.state; left = take r y }) (keeping (run_in p) bytes)
   kept_run =
@@ -50,18 +50,18 @@ module _ (p : Progress) (bytes y : List ℕ) (r : ℕ) (long : length p.left ≡
       let rest = drop (p.have + length bytes) p.left in
       let i : length (front ++ bytes) ≡ p.have + length bytes = omega (arith, length-append front bytes, length-take-le p.have p.left (omega (arith, long, l))) in
       ap (λ (xs : List ℕ). record { number = p.number; state = p.state; left = xs })
-      (ap₂ (λ (n : ℕ) (xs : List ℕ). take n xs) kept-end (puts_whole p.left p.have bytes y r w (omega (arith, long, l)) ∙ sym (append_assoc front bytes rest)) ∙ take_at (front ++ bytes) rest (p.have + length bytes) i)
+      (ap₂ (λ (n : ℕ) (xs : List ℕ). take n xs) kept_end (puts_whole p.left p.have bytes y r w (omega (arith, long, l)) ∙ sym (append_assoc front bytes rest)) ∙ take_at (front ++ bytes) rest (p.have + length bytes) i)
 
 -- the row that is there
-pub row-turn : (net : Net) (p : Progress) (a : RowAnswer) (l : Line) (x : List ℕ) (at : ℕ) (y : List ℕ) (n m : ℕ)
+pub row_turn : (net : Net) (p : Progress) (a : RowAnswer) (l : Line) (x : List ℕ) (at : ℕ) (y : List ℕ) (n m : ℕ)
     → ((j : Judgement) → IsNet j net → IsRow (file_call j p.state (take p.have p.left)) a)
     → IsLine (line (decimal p.number ∷ reply_words (row_outcome a.reply) (view a.state))) l
     → Puts x at (first_bytes l.length l.bytes) y n → m ≡ following p.number
     → (j : Judgement) → IsNet j net
     → PutsLine (answered (file_call j) (run_in p)) x at (record { number = m; state = a.state; left = replicate 79 0; have = 0 }) n y
-row-turn net p a l x at y n m h i q e j w =
+row_turn net p a l x at y n m h i q e j w =
     record {
-      line = line-put text l x at y n (subst (λ (t : List ℕ). IsLine t l) same i) q;
+      line = line_put text l x at y n (subst (λ (t : List ℕ). IsLine t l) same i) q;
       short = (subst (λ (t : List ℕ). IsLine t l) same i).fits;
       run = ap₂ (λ (k : ℕ) (s : Lent). record { number = k; state = s; left = [] }) e (h j w).state;
     }
@@ -74,29 +74,29 @@ row-turn net p a l x at y n m h i q e j w =
 
 -- a part of a block: the bytes that the row lacks, or fewer
 module _ (p : Progress) (long : length p.left ≡ 79) (size : ℕ) (l : p.have < size) (u : size ≤ 79) (rest : List ℕ) (call : FileCall) where
-  left-long : length (take p.have p.left) ≡ p.have
-  left-long = length-take-le p.have p.left (omega (arith, long, l, u))
+  left_long : length (take p.have p.left) ≡ p.have
+  left_long = length-take-le p.have p.left (omega (arith, long, l, u))
 
-  pub part-kept : (q : Progress) (x : List ℕ) (at : ℕ) → p.have + length rest < size → run_in q ≡ keeping (run_in p) rest
+  pub part_kept : (q : Progress) (x : List ℕ) (at : ℕ) → p.have + length rest < size → run_in q ≡ keeping (run_in p) rest
       → PutsLine (feed size call (run_in p) (take (length rest) rest)) x at q at x
-  part-kept q x at f e =
+  part_kept q x at f e =
       subst (λ (z : List ℕ × Run). PutsLine z x at q at x)
-      (sym (ap (feed size call (run_in p)) (take_all (length rest) rest (omega arith)) ∙ feed-kept size call (run_in p) rest (omega (arith, f, left-long))))
+      (sym (ap (feed size call (run_in p)) (take_all (length rest) rest (omega arith)) ∙ feed_kept size call (run_in p) rest (omega (arith, f, left_long))))
       (record { line = puts_none x at; short = omega arith; run = e })
 
-  pub part-row : (q r : Progress) (n : ℕ) (x : List ℕ) (at : ℕ) (y : List ℕ) (end : ℕ) → 0 < n → n ≤ length rest → p.have + n ≡ size → run_in q ≡ keeping (run_in p) (take n rest)
+  pub part_row : (q r : Progress) (n : ℕ) (x : List ℕ) (at : ℕ) (y : List ℕ) (end : ℕ) → 0 < n → n ≤ length rest → p.have + n ≡ size → run_in q ≡ keeping (run_in p) (take n rest)
       → PutsLine (answered call (run_in q)) x at r end y → PutsLine (feed size call (run_in p) (take n rest)) x at r end y
-  part-row q r n x at y end some few whole e w =
+  part_row q r n x at y end some few whole e w =
       subst (λ (z : List ℕ × Run). PutsLine z x at r end y)
-      (sym (feed_row size call (run_in p) (take n rest) (omega (arith, some, taken)) (omega (arith, whole, left-long, taken)) ∙ ap (answered call) (sym e)))
+      (sym (feed_row size call (run_in p) (take n rest) (omega (arith, some, taken)) (omega (arith, whole, left_long, taken)) ∙ ap (answered call) (sym e)))
       w
     where
       taken : length (take n rest) ≡ n
       taken = length-take-le n rest few
 
 -- the bytes of a block from somewhere on
-pub rest-is : (block : List ℕ) (at : ℕ) → take (length block - at) (drop at block) ≡ drop at block
-rest-is block at = take_all (length block - at) (drop at block) (omega (arith, length-drop at block))
+pub rest_is : (block : List ℕ) (at : ℕ) → take (length block - at) (drop at block) ≡ drop at block
+rest_is block at = take_all (length block - at) (drop at block) (omega (arith, length-drop at block))
 
 pub rest_in : (block rest : List ℕ) (at n : ℕ) → rest ≡ drop at block → at ≤ length block → n ≤ length rest → at + n ≤ length block
 rest_in block rest at n e l u = omega (arith, ap length e, length-drop at block, l, u)
@@ -117,7 +117,7 @@ module _ (size : ℕ) (call : FileCall) (first : Progress) (block before : List 
         → Going size call (run_in first) block before (at + k) q after m
     going_more rest k q m after e some i =
         record {
-          lines = subst (λ (t : List ℕ). Puts before 0 t after m) (sym (ap (λ (z : List ℕ × Run). z.0) both)) (puts-join before 0 x.0 mid n y.0 after m g.lines w.line);
+          lines = subst (λ (t : List ℕ). Puts before 0 t after m) (sym (ap (λ (z : List ℕ × Run). z.0) both)) (puts_join before 0 x.0 mid n y.0 after m g.lines w.line);
           run = w.run ∙ sym (ap (λ (z : List ℕ × Run). z.1) both);
           few = omega (arith, ap (λ (z : List ℕ × Run). length z.0) both, length-append x.0 y.0, g.few, w.short, some, more);
         }
@@ -133,7 +133,7 @@ module _ (size : ℕ) (call : FileCall) (first : Progress) (block before : List 
 
         both : feed size call (run_in first) (take (at + k) block) ≡ (x.0 ++ y.0, y.1)
         both =
-            ap (feed size call (run_in first)) (take-add at k block) ∙ feed-append size call (run_in first) (take at block) (take k (drop at block))
+            ap (feed size call (run_in first)) (take-add at k block) ∙ feed_append size call (run_in first) (take at block) (take k (drop at block))
             ∙ ap (λ (z : Run). (x.0 ++ (feed size call z (take k (drop at block))).0, (feed size call z (take k (drop at block))).1)) (sym g.run)
 
         more : longest * (at + k) ≡ longest * at + longest * k
@@ -146,7 +146,7 @@ module _ (size : ℕ) (call : FileCall) (first : Progress) (block before : List 
         subst (λ (z : List ℕ × Run). IsTurn z before (record { progress = p; length = n }) mid) (ap (feed size call (run_in first)) (take_all at block l))
         (record {
           fits = fits;
-          length = puts-end before 0 text mid n g.lines front ∙ zero-add (length text);
+          length = puts_end before 0 text mid n g.lines front ∙ zero-add (length text);
           lines = puts_whole before 0 text mid n g.lines front ∙ ap (λ (k : ℕ). text ++ drop k before) (zero-add (length text)) ∙ sym (rw (le-leb (length text) (length before) fits) refl);
           run = g.run;
         })
@@ -165,31 +165,31 @@ pub size_is : (j : Judgement) (n size : ℕ) → n ≡ signals_in j → size ≡
 size_is (accepted c) n size e i = i ∙ ap (λ (k : ℕ). bytes_for (10 * k)) e
 size_is (refused why at) n size e i = omega (arith, e, i)
 
-turn-none : (x : List ℕ × Run) (p : Progress) (r : Turn) (out : List ℕ) → x ≡ ([], run_in p) → r ≡ record { progress = p; length = 0 } → IsTurn x out r out
+turn_none : (x : List ℕ × Run) (p : Progress) (r : Turn) (out : List ℕ) → x ≡ ([], run_in p) → r ≡ record { progress = p; length = 0 } → IsTurn x out r out
 unfolding put_into
-turn-none x p r out e i =
+turn_none x p r out e i =
     subst (λ (z : List ℕ × Run). IsTurn z out r out) (sym e) (subst (λ (t : Turn). IsTurn ([], run_in p) out t out) (sym i) (record { fits = omega arith; length = refl; lines = sym (rw (le-leb 0 (length out) (omega arith)) refl); run = refl }))
 
 module _ (j : Judgement) (call : FileCall) (p : Progress) (block out : List ℕ) (n size : ℕ) (e : n ≡ signals_in j) (i : size ≡ bytes_for (10 * n)) where
   abbrev fed : List ℕ × Run
   fed = fed_block (row_size_in j) call (length out) (run_in p) block
 
-  pub turn-tight : (r : Turn) → length out / longest < length block → r ≡ record { progress = p; length = 0 } → IsTurn fed out r out
-  turn-tight r l q = turn-none fed p r out (block-tight (row_size_in j) call (length out) (run_in p) block (omega (arith, l))) q
+  pub turn_tight : (r : Turn) → length out / longest < length block → r ≡ record { progress = p; length = 0 } → IsTurn fed out r out
+  turn_tight r l q = turn_none fed p r out (block_tight (row_size_in j) call (length out) (run_in p) block (omega (arith, l))) q
 
-  pub turn-over : (r : Turn) → length p.left ≡ 79 → n ≤ 63 → size ≤ p.have → r ≡ record { progress = p; length = 0 } → IsTurn fed out r out
-  turn-over r long few l q =
-      turn-none fed p r out
-      (block-over (row_size_in j) call (length out) (run_in p) block (omega (arith, sym (size_is j n size e i), few, i, l, long, length-take p.have p.left)))
+  pub turn_over : (r : Turn) → length p.left ≡ 79 → n ≤ 63 → size ≤ p.have → r ≡ record { progress = p; length = 0 } → IsTurn fed out r out
+  turn_over r long few l q =
+      turn_none fed p r out
+      (block_over (row_size_in j) call (length out) (run_in p) block (omega (arith, sym (size_is j n size e i), few, i, l, long, length-take p.have p.left)))
       q
 
-  pub turn-all : (r : Turn) (after : List ℕ) → length block ≤ length out / longest → p.have < size
+  pub turn_all : (r : Turn) (after : List ℕ) → length block ≤ length out / longest → p.have < size
       → (longest * length block ≤ length out → IsTurn (feed size call (run_in p) block) out r after) → IsTurn fed out r after
-  turn-all r after l u w =
+  turn_all r after l u w =
       let q : size ≡ row_size_in j = size_is j n size e i in
       let room : longest * length block ≤ length out = omega (arith, l) in
       subst (λ (z : List ℕ × Run). IsTurn z out r after)
-      (ap (λ (k : ℕ). feed k call (run_in p) block) q ∙ sym (block-fed (row_size_in j) call (length out) (run_in p) block room (omega (arith, sym q, u, length-take p.have p.left))))
+      (ap (λ (k : ℕ). feed k call (run_in p) block) q ∙ sym (block_fed (row_size_in j) call (length out) (run_in p) block room (omega (arith, sym q, u, length-take p.have p.left))))
       (w room)
 
 -- the end of the input
@@ -205,17 +205,17 @@ last_row call p l a long some r h =
     (subst (λ (t : List ℕ). IsLine t l) (ap₂ (λ (o : RowOutcome) (s : Lent). line (decimal p.number ∷ reply_words o (view s))) r.reply r.state) h)
 
 -- before the first row
-pub fresh-answer : (card : List ℕ) → (fresh_call card).0 ≡ outcome_of (judge card)
+pub fresh_answer : (card : List ℕ) → (fresh_call card).0 ≡ outcome_of (judge card)
 unfolding fresh_call
-fresh-answer card = go (judge card)
+fresh_answer card = go (judge card)
   where
     go : (j : Judgement) → (fresh_of j).0 ≡ outcome_of j
     go (accepted c) = refl
     go (refused n at) = refl
 
 module _ (a : Answer) (f : CardFault) (at : ℕ) (e : a ≡ Refused f at) where
-  pub refused-line : (l : Line) → IsLine (card_line (number f) at) l → (j : Judgement) → check_outcome a ≡ outcome_of j → IsLine (first_text j) l
-  refused-line l h j q = go j (sym (ap check_outcome e) ∙ q)
+  pub refused_line : (l : Line) → IsLine (card_line (number f) at) l → (j : Judgement) → check_outcome a ≡ outcome_of j → IsLine (first_text j) l
+  refused_line l h j q = go j (sym (ap check_outcome e) ∙ q)
     where
       go : (i : Judgement) → check_outcome (Refused f at) ≡ outcome_of i → IsLine (first_text i) l
       go (accepted c) q = absurd (let z : ◌≡◌ {A = ℕ} 0 1 = cc in omega arith)
@@ -224,23 +224,23 @@ module _ (a : Answer) (f : CardFault) (at : ℕ) (e : a ≡ Refused f at) where
           let v : at ≡ k = cc in
           subst (λ (t : List ℕ). IsLine t l) (ap₂ card_line u v) h
 
-  pub refused-runs : (j : Judgement) → check_outcome a ≡ outcome_of j → false ≡ is_accepted j
-  refused-runs j q = go j (sym (ap check_outcome e) ∙ q)
+  pub refused_runs : (j : Judgement) → check_outcome a ≡ outcome_of j → false ≡ is_accepted j
+  refused_runs j q = go j (sym (ap check_outcome e) ∙ q)
     where
       go : (i : Judgement) → check_outcome (Refused f at) ≡ outcome_of i → false ≡ is_accepted i
       go (accepted c) q = absurd (let z : ◌≡◌ {A = ℕ} 0 1 = cc in omega arith)
       go (refused n k) q = refl
 
 module _ (a : Answer) (s p t : ℕ) (e : a ≡ Accepted s p t) where
-  pub accepted-line : (l : Line) → IsLine [] l → (j : Judgement) → check_outcome a ≡ outcome_of j → IsLine (first_text j) l
-  accepted-line l h j q = go j (sym (ap check_outcome e) ∙ q)
+  pub accepted_line : (l : Line) → IsLine [] l → (j : Judgement) → check_outcome a ≡ outcome_of j → IsLine (first_text j) l
+  accepted_line l h j q = go j (sym (ap check_outcome e) ∙ q)
     where
       go : (i : Judgement) → check_outcome (Accepted s p t) ≡ outcome_of i → IsLine (first_text i) l
       go (accepted c) q = h
       go (refused n k) q = absurd (let z : ◌≡◌ {A = ℕ} 0 1 = cc in omega arith)
 
-  pub accepted-runs : (j : Judgement) → check_outcome a ≡ outcome_of j → true ≡ is_accepted j
-  accepted-runs j q = go j (sym (ap check_outcome e) ∙ q)
+  pub accepted_runs : (j : Judgement) → check_outcome a ≡ outcome_of j → true ≡ is_accepted j
+  accepted_runs j q = go j (sym (ap check_outcome e) ∙ q)
     where
       go : (i : Judgement) → check_outcome (Accepted s p t) ≡ outcome_of i → true ≡ is_accepted i
       go (accepted c) q = refl

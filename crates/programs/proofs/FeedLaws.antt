@@ -9,7 +9,7 @@ use lib.ListN.{length, take}
 use Rattle.card.specs.Card.{Card}
 use Rattle.hierarchy.specs.Judgement.{Judgement, accepted, refused, judge}
 use Rattle.flattening.specs.Flattening.{flatten}
-use Rattle.flattening.proofs.FlatLaws.{flatten-again}
+use Rattle.flattening.proofs.FlatLaws.{flatten_again}
 use Rattle.runners.specs.Numbers.{RowOutcome}
 use Rattle.runners.specs.State.{NetState, fresh}
 use Rattle.runners.specs.Rows.{RowRead, degrees, no_row, row, act_of, row_of}
@@ -20,47 +20,47 @@ use Rattle.runners.specs.Traces.{trace, observed}
 use Rattle.runners.specs.declared.State.{State as Lent}
 use Rattle.runners.specs.declared.Net.{Net}
 use Rattle.runners.specs.declared.RowAnswer.{RowAnswer}
-use Rattle.runners.proofs.TraceLaws.{net-trace, ask-keeps}
-use Rattle.runners.proofs.CallLaws.{one-visited}
-use Rattle.runners.proofs.Agreement.{fresh-view, start-sound, fresh-lent}
+use Rattle.runners.proofs.TraceLaws.{net_trace, ask_keeps}
+use Rattle.runners.proofs.CallLaws.{one_visited}
+use Rattle.runners.proofs.Agreement.{fresh_view, start_sound, fresh_lent_is}
 use Rattle.programs.specs.Programs.{lines, file_trace}
 use Rattle.programs.specs.Files.{file_row}
 use Rattle.programs.specs.Feeds.{read_call, file_call, fed_lines}
 use Rattle.programs.specs.declared.file.FileRow.{FileRow}
-use Rattle.programs.proofs.FileLaws.{row-hollow, row-found, too_many}
+use Rattle.programs.proofs.FileLaws.{row_hollow, row_found, too_many}
 
 -- no card has more than 63 signals
-pub few-signals : (net : Net) (j : Judgement) → IsNet j net → (n : ℕ) → n ≡ signals_in j → n ≤ 63
-few-signals net (accepted c) h n e = omega (arith, e, h.tables.tables.meets.wellformed.few_signals)
-few-signals net (refused k at) h n e = omega (arith, e)
+pub few_signals : (net : Net) (j : Judgement) → IsNet j net → (n : ℕ) → n ≡ signals_in j → n ≤ 63
+few_signals net (accepted c) h n e = omega (arith, e, h.tables.tables.meets.wellformed.few_signals)
+few_signals net (refused k at) h n e = omega (arith, e)
 
 module _ (net : Net) (l : Lent) (x : RowAnswer) where
   few : (j : Judgement) → IsNet j net → (c : Card) → j ≡ accepted c → c.signals ≤ 63
   few j h c e = (subst (λ (i : Judgement). IsNet i net) e h).tables.tables.meets.wellformed.few_signals
 
-  pub row-missing : (long : List ℕ) → 63 < length long → (j : Judgement) → IsNet j net → IsRow (called (in_order (0 ∷ [])) j l long) x → IsRow (read_call j l (λ c. no_row)) x
-  row-missing long m j h w = subst (λ (z : RowOutcome × Lent). IsRow z x) (too_many (in_order (0 ∷ [])) j l long m (few j h)) w
+  pub row_missing : (long : List ℕ) → 63 < length long → (j : Judgement) → IsNet j net → IsRow (called (in_order (0 ∷ [])) j l long) x → IsRow (read_call j l (λ c. no_row)) x
+  row_missing long m j h w = subst (λ (z : RowOutcome × Lent). IsRow z x) (too_many (in_order (0 ∷ [])) j l long m (few j h)) w
 
   module _ (bytes : List ℕ) (n : ℕ) (r : FileRow) (er : (f : Card) → f.signals ≡ n → n ≤ 63 → r ≡ file_row (row_of f bytes)) where
-    pub file-missing : (j : Judgement) → IsNet j net → n ≡ signals_in j → r.whole ≡ false → IsRow (read_call j l (λ c. no_row)) x → IsRow (file_call j l bytes) x
-    file-missing (accepted c) h e b w =
-        let q = row-hollow r (row_of c bytes) (er c (sym e) (omega (arith, e, h.tables.tables.meets.wellformed.few_signals))) b in
+    pub file_missing : (j : Judgement) → IsNet j net → n ≡ signals_in j → r.whole ≡ false → IsRow (read_call j l (λ c. no_row)) x → IsRow (file_call j l bytes) x
+    file_missing (accepted c) h e b w =
+        let q = row_hollow r (row_of c bytes) (er c (sym e) (omega (arith, e, h.tables.tables.meets.wellformed.few_signals))) b in
         subst (λ (o : RowRead). IsRow (read_call (accepted c) l (λ d. o)) x) (sym q) w
-    file-missing (refused k at) h e b w = w
+    file_missing (refused k at) h e b w = w
 
-    pub file-present : (j : Judgement) → IsNet j net → n ≡ signals_in j → r.whole ≡ true → IsRow (read_call j l (λ c. degrees (take r.count r.degrees))) x → IsRow (file_call j l bytes) x
-    file-present (accepted c) h e b w =
-        let q = row-found r (row_of c bytes) (er c (sym e) (omega (arith, e, h.tables.tables.meets.wellformed.few_signals))) b in
+    pub file_present : (j : Judgement) → IsNet j net → n ≡ signals_in j → r.whole ≡ true → IsRow (read_call j l (λ c. degrees (take r.count r.degrees))) x → IsRow (file_call j l bytes) x
+    file_present (accepted c) h e b w =
+        let q = row_found r (row_of c bytes) (er c (sym e) (omega (arith, e, h.tables.tables.meets.wellformed.few_signals))) b in
         subst (λ (o : RowRead). IsRow (read_call (accepted c) l (λ d. o)) x) (sym q) w
-    file-present (refused k at) h e b w = w
+    file_present (refused k at) h e b w = w
 
 -- THE LINES THAT A RUN PRINTS ARE THE DEFINITION'S, from the state that the call for a fresh one returns: on the net of a card's flat card the
 -- order names its one subnet, so that the calls are the flat runner's, and their trace is that of the net's own run.
-pub fed-lines : (card : List ℕ) (c : Card) → judge card ≡ accepted c → (rows : List (List ℕ))
+pub fed_lines_is : (card : List ℕ) (c : Card) → judge card ≡ accepted c → (rows : List (List ℕ))
     → fed_lines c 1 (fresh_call card).1 rows ≡ lines 1 (file_trace (flatten c) (fresh (flatten c)) rows)
-fed-lines card c e rows =
+fed_lines_is card c e rows =
     let f = flatten c in
-    ap₂ (λ (g : Card) (b : Bool). lines 1 (map observed (trace (λ l bytes. lent_call in_state g b (act_of g (row (row_of f bytes))) l) (fresh_call card).1 rows))) (flatten-again c) (one-visited c)
-    ∙ ap (λ (l : Lent). lines 1 (map observed (trace (λ l bytes. lent_call in_state f true (act_of f (row (row_of f bytes))) l) l rows))) (fresh-lent card c e)
-    ∙ ap (lines 1) (net-trace f (List ℕ) (λ bytes. act_of f (row (row_of f bytes))) (λ bytes. ask-keeps f (row (row_of f bytes))) (fresh_lent f) (start-sound card c e) rows)
-    ∙ ap (λ (s : NetState). lines 1 (file_trace f s rows)) (fresh-view f)
+    ap₂ (λ (g : Card) (b : Bool). lines 1 (map observed (trace (λ l bytes. lent_call in_state g b (act_of g (row (row_of f bytes))) l) (fresh_call card).1 rows))) (flatten_again c) (one_visited c)
+    ∙ ap (λ (l : Lent). lines 1 (map observed (trace (λ l bytes. lent_call in_state f true (act_of f (row (row_of f bytes))) l) l rows))) (fresh_lent_is card c e)
+    ∙ ap (lines 1) (net_trace f (List ℕ) (λ bytes. act_of f (row (row_of f bytes))) (λ bytes. ask_keeps f (row (row_of f bytes))) (fresh_lent f) (start_sound card c e) rows)
+    ∙ ap (λ (s : NetState). lines 1 (file_trace f s rows)) (fresh_view f)

@@ -7,23 +7,23 @@ use native.Mathlib.Omega.{arith}
 use lib.ListN.{length, take}
 use lib.Seq.{take_all}
 use Rattle.card.specs.Tables.{card_bytes}
-use Rattle.card.proofs.BitLaws.{lt-or-ge}
-use Rattle.card.proofs.LongInput.{long-input}
+use Rattle.card.proofs.BitLaws.{lt_or_ge}
+use Rattle.card.proofs.LongInput.{long_input}
 use Rattle.hierarchy.specs.Judgement.{judged, judge}
 use Rattle.programs.specs.Programs.{runs, run_program, flattens, flatten_program}
 
-judge-reads : (card : List ℕ) → judge (take (card_bytes + 1) card) ≡ judge card
+judge_reads : (card : List ℕ) → judge (take (card_bytes + 1) card) ≡ judge card
 unfolding judge
-judge-reads card = go (lt-or-ge (length card) (card_bytes + 1))
+judge_reads card = go (lt_or_ge (length card) (card_bytes + 1))
   where
     go : (length card < card_bytes + 1) ⊎ (card_bytes + 1 ≤ length card) → judge (take (card_bytes + 1) card) ≡ judge card
     go (inl l) = ap judge (take_all (card_bytes + 1) card (omega (arith, l)))
-    go (inr l) = ap judged (long-input card l)
+    go (inr l) = ap judged (long_input card l)
 
-pub flatten-reads : (card : List ℕ) → flatten_program (take (card_bytes + 1) card) ≡ flatten_program card
+pub flatten_reads : (card : List ℕ) → flatten_program (take (card_bytes + 1) card) ≡ flatten_program card
 unfolding flatten_program
-flatten-reads card = ap flattens (judge-reads card)
+flatten_reads card = ap flattens (judge_reads card)
 
-pub run-reads : (card rows : List ℕ) → run_program (take (card_bytes + 1) card) rows ≡ run_program card rows
+pub run_reads : (card rows : List ℕ) → run_program (take (card_bytes + 1) card) rows ≡ run_program card rows
 unfolding run_program
-run-reads card rows = ap (λ j. runs j rows) (judge-reads card)
+run_reads card rows = ap (λ j. runs j rows) (judge_reads card)

@@ -1,6 +1,6 @@
 // Runs the card in the file net.card on the rows of standard input, and prints the flat runner's answers, a line a row; of a refused card, one
 // line: no, number, position. No such file: no bytes. What is written, block by block, is proved in crate `programs`; here it is read and written.
-// Of a longer card the first INPUT_BYTES decide (run-reads in programs/proofs/LongCard.antt), so no more are read. A row is answered as soon as it
+// Of a longer card the first INPUT_BYTES decide (run_reads in programs/proofs/LongCard.antt), so no more are read. A row is answered as soon as it
 // is there, so that rows can come from a pipe that stays open.
 #![tactic(auto)]
 

@@ -3,73 +3,73 @@
 use Rattle.std.proofs.Common.{◌≡◌, ℕ, ◌<◌, ◌≤◌, Bool, true, ◌≢◌, List, length, refl, arith}
 use Rattle.card.specs.Finite.{All}
 use Rattle.card.specs.Card.{Card, place_at}
-use Rattle.card.proofs.Sums.{map-length}
+use Rattle.card.proofs.Sums.{map_length}
 use Rattle.hierarchy.specs.Judgement.{accepted, judge}
-use Rattle.hierarchy.proofs.Accepted.{accepted-meets}
+use Rattle.hierarchy.proofs.Accepted.{accepted_meets}
 use Rattle.flattening.specs.Flattening.{flat_place_row, flatten}
-use Rattle.flattening.proofs.FlatLaws.{flat-place}
+use Rattle.flattening.proofs.FlatLaws.{flat_place_kept}
 use Rattle.runners.specs.State.{NetState, fresh}
 use Rattle.runners.specs.Rows.{Act, act_of}
 use Rattle.runners.specs.Calls.{view, fresh_lent, fresh_call, each_once}
 use Rattle.runners.specs.Traces.{Call, flat_trace, subnet_trace, Bounded, Agreement, Demand3}
-use Rattle.runners.proofs.AlikeLaws.{visits-alike}
-use Rattle.runners.proofs.StateLaws.{Consistent, fresh-sized, fresh-consistent}
-use Rattle.runners.proofs.TraceLaws.{view-store, 25·alone, Good, Keeps, Sound, trace-clear, runners-trace, net-trace, trace-good, ask-keeps, ask-mild, consistent-bounded}
+use Rattle.runners.proofs.AlikeLaws.{visits_alike}
+use Rattle.runners.proofs.StateLaws.{Consistent, fresh_sized, fresh_consistent}
+use Rattle.runners.proofs.TraceLaws.{view_store, 25·alone, Good, Keeps, Sound, trace_clear, runners_trace, net_trace, trace_good, ask_keeps, ask_mild, consistent_bounded}
 
 -- the fresh state of a flat card, lent or not
-pub fresh-view : (f : Card) → view (fresh_lent f) ≡ fresh f
-fresh-view f = view-store f _ (fresh f) (record { places = refl; transitions = refl; signals = refl }) (fresh-sized f)
+pub fresh_view : (f : Card) → view (fresh_lent f) ≡ fresh f
+fresh_view f = view_store f _ (fresh f) (record { places = refl; transitions = refl; signals = refl }) (fresh_sized f)
 
 module _ (card : List ℕ) (c : Card) (e : judge card ≡ accepted c) where
   tokens : (p : ℕ) → p < length (flatten c).places → (place_at (flatten c) p).tokens ≤ (place_at (flatten c) p).capacity
   unfolding flatten
-  tokens p l = (flat-place c (accepted-meets card c e) p (omega (arith, map-length flat_place_row c.places))).tokens
+  tokens p l = (flat_place_kept c (accepted_meets card c e) p (omega (arith, map_length flat_place_row c.places))).tokens
 
-  start-consistent : Consistent (flatten c) (fresh (flatten c))
-  start-consistent = fresh-consistent (flatten c) tokens
+  start_consistent : Consistent (flatten c) (fresh (flatten c))
+  start_consistent = fresh_consistent (flatten c) tokens
 
   -- what the call for a fresh state returns
-  pub fresh-lent : (fresh_call card).1 ≡ fresh_lent (flatten c)
+  pub fresh_lent_is : (fresh_call card).1 ≡ fresh_lent (flatten c)
   unfolding fresh_call
-  fresh-lent = rw e refl
+  fresh_lent_is = rw e refl
 
   abbrev f : Card
   f = flatten c
 
-  start-good : Good f (fresh f)
-  start-good = record { consistent = start-consistent; sized = fresh-sized f }
+  start_good : Good f (fresh f)
+  start_good = record { consistent = start_consistent; sized = fresh_sized f }
 
-  pub start-sound : Sound f (fresh_lent f)
-  start-sound = record { counts = record { places = refl; transitions = refl; signals = refl }; good = rw (fresh-view f) start-good }
+  pub start_sound : Sound f (fresh_lent f)
+  start_sound = record { counts = record { places = refl; transitions = refl; signals = refl }; good = rw (fresh_view f) start_good }
 
   abbrev asked : Call → Act
   asked k = act_of f k.ask
 
-  asked-keeps : (k : Call) → Keeps f (asked k)
-  asked-keeps k = ask-keeps f k.ask
+  asked_keeps : (k : Call) → Keeps f (asked k)
+  asked_keeps k = ask_keeps f k.ask
 
   abbrev ordered : Call → Bool
   ordered k = each_once (length c.subnets) k.order
 
   -- NO STATE REACHED FROM FRESH EARNS 25, whatever the rows and the visiting orders
-  pub never-25-flat : (calls : List Call) → All (λ x. x.0 ≢ 25·alone) (flat_trace card (fresh_call card).1 calls)
-  never-25-flat calls = rw (fresh-lent, e) (trace-clear f Call asked asked-keeps (λ k. ask-mild f k.ask) (λ k. true) (fresh_lent f) start-sound calls)
+  pub never_25_flat : (calls : List Call) → All (λ x. x.0 ≢ 25·alone) (flat_trace card (fresh_call card).1 calls)
+  never_25_flat calls = rw (fresh_lent_is, e) (trace_clear f Call asked asked_keeps (λ k. ask_mild f k.ask) (λ k. true) (fresh_lent f) start_sound calls)
 
-  pub never-25-subnet : (calls : List Call) → All (λ x. x.0 ≢ 25·alone) (subnet_trace card (fresh_call card).1 calls)
-  never-25-subnet calls = rw (fresh-lent, e) (trace-clear f Call asked asked-keeps (λ k. ask-mild f k.ask) ordered (fresh_lent f) start-sound calls)
+  pub never_25_subnet : (calls : List Call) → All (λ x. x.0 ≢ 25·alone) (subnet_trace card (fresh_call card).1 calls)
+  never_25_subnet calls = rw (fresh_lent_is, e) (trace_clear f Call asked asked_keeps (λ k. ask_mild f k.ask) ordered (fresh_lent f) start_sound calls)
 
   bounded : (s : NetState) → Good f s → Bounded f s
-  bounded s h = consistent-bounded f s h.consistent
+  bounded s h = consistent_bounded f s h.consistent
 
-  calls-agree : (calls : List Call) → All (λ k. each_once (length c.subnets) k.order ≡ true) calls → Agreement card c calls
-  calls-agree calls o =
+  calls_agree : (calls : List Call) → All (λ k. each_once (length c.subnets) k.order ≡ true) calls → Agreement card c calls
+  calls_agree calls o =
       record {
-        start = rw fresh-lent (fresh-view f);
-        runners = rw (fresh-lent, e) (runners-trace f Call asked asked-keeps ordered (fresh_lent f) start-sound calls o);
-        net = rw (fresh-lent, e) (rw (fresh-view f) at (net-trace f Call asked asked-keeps (fresh_lent f) start-sound calls));
-        bounded = (bounded (fresh f) start-good, trace-good f Call asked asked-keeps (Bounded f) bounded (fresh f) start-good calls);
+        start = rw fresh_lent_is (fresh_view f);
+        runners = rw (fresh_lent_is, e) (runners_trace f Call asked asked_keeps ordered (fresh_lent f) start_sound calls o);
+        net = rw (fresh_lent_is, e) (rw (fresh_view f) at (net_trace f Call asked asked_keeps (fresh_lent f) start_sound calls));
+        bounded = (bounded (fresh f) start_good, trace_good f Call asked asked_keeps (Bounded f) bounded (fresh f) start_good calls);
       }
 
 -- DEMAND 3: the two runners' traces are one, that of the paper's step; and no visit's outcome hangs on a place that its subnet cannot see
-pub demand-3 : Demand3
-demand-3 = record { agree = λ card c calls e o. calls-agree card c e calls o; local = visits-alike }
+pub demand_3 : Demand3
+demand_3 = record { agree = λ card c calls e o. calls_agree card c e calls o; local = visits_alike }

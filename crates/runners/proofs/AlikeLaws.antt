@@ -3,12 +3,12 @@ use Rattle.std.proofs.Common.{◌≡◌, ℕ, ◌%◌, List, sym, refl, ap, ◌�
 use Rattle.card.specs.Card.{Card, draws, fills, subnet_at, first_transition}
 use Rattle.runners.specs.Columns.{word, nothing, Columns}
 use Rattle.runners.specs.Visits.{OwnsTransition, Round, posting, finding, moving, Turn, effect, SameView, Does, turn_in, SameChange, SameOutcome, VisitsAlike}
-use Rattle.runners.proofs.OwnerLaws.{next-first}
-use Rattle.runners.proofs.MovedLaws.{moved-alike}
+use Rattle.runners.proofs.OwnerLaws.{next_first}
+use Rattle.runners.proofs.MovedLaws.{moved_alike}
 
 -- a turn is equal to itself
-self-view : (r : Round) (s : ℕ) (i : Turn) → SameView r s i i
-self-view r s i =
+self_view : (r : Round) (s : ℕ) (i : Turn) → SameView r s i i
+self_view r s i =
     record {
       version = refl;
       first = refl;
@@ -24,7 +24,7 @@ self-view r s i =
 module _ (s : ℕ) (c d : Card) (a a' b b' : Columns) (first : first_transition c s ≡ first_transition d s) (count : (subnet_at c s).transitions ≡ (subnet_at d s).transitions) where
   -- an own transition of one card is one of the other
   own_on : (t : ℕ) → OwnsTransition c s t → OwnsTransition d s t
-  own_on t o = record { low = omega (arith, o.low, first); high = omega (arith, o.high, first, count, next-first c s, next-first d s) }
+  own_on t o = record { low = omega (arith, o.low, first); high = omega (arith, o.high, first, count, next_first c s, next_first d s) }
 
   -- a column that neither visit changes
   kept : (column : Columns → List ℕ) (k l : Columns) → a' ≡ k → b' ≡ l → column k ≡ column a → column l ≡ column b
@@ -36,8 +36,8 @@ module _ (s : ℕ) (c d : Card) (a a' b b' : Columns) (first : first_transition 
   alike posting j e x y =
       record {
         markings = kept (λ k. k.markings) _ _ x.only y.only refl refl;
-        owed = moved-alike a.owed a'.owed b.owed b'.owed nothing (effect posting s j draws) x.owed y.owed;
-        due = moved-alike a.due a'.due b.due b'.due nothing (effect posting s j fills) x.due y.due;
+        owed = moved_alike a.owed a'.owed b.owed b'.owed nothing (effect posting s j draws) x.owed y.owed;
+        due = moved_alike a.due a'.due b.due b'.due nothing (effect posting s j fills) x.due y.due;
         drawn = kept (λ k. k.drawn) _ _ x.only y.only refl refl;
         filled = kept (λ k. k.filled) _ _ x.only y.only refl refl;
         candidates = λ z t o l k. absurd (let g : ◌≡◌ {A = ℕ} 0 1 = cc in omega arith);
@@ -48,14 +48,14 @@ module _ (s : ℕ) (c d : Card) (a a' b b' : Columns) (first : first_transition 
         markings = kept (λ k. k.markings) _ _ x.only y.only refl refl;
         owed = kept (λ k. k.owed) _ _ x.only y.only refl refl;
         due = kept (λ k. k.due) _ _ x.only y.only refl refl;
-        drawn = moved-alike a.drawn a'.drawn b.drawn b'.drawn nothing (effect finding s j draws) x.drawn y.drawn;
-        filled = moved-alike a.filled a'.filled b.filled b'.filled nothing (effect finding s j fills) x.filled y.filled;
+        drawn = moved_alike a.drawn a'.drawn b.drawn b'.drawn nothing (effect finding s j draws) x.drawn y.drawn;
+        filled = moved_alike a.filled a'.filled b.filled b'.filled nothing (effect finding s j fills) x.filled y.filled;
         candidates = λ z t o l k. let u = subst (λ (q : Card). OwnsTransition q s t) (sym e) (own_on t o) in x.own t u l ∙ sym (y.own t u k);
         transfers = λ z t o l k. absurd (let g : ◌≡◌ {A = ℕ} 0 1 = cc in omega arith);
       }
   alike moving j e x y =
       record {
-        markings = moved-alike a.markings a'.markings b.markings b'.markings (effect moving s j draws) (effect moving s j fills) x.markings y.markings;
+        markings = moved_alike a.markings a'.markings b.markings b'.markings (effect moving s j draws) (effect moving s j fills) x.markings y.markings;
         owed = kept (λ k. k.owed) _ _ x.only y.only refl refl;
         due = kept (λ k. k.due) _ _ x.only y.only refl refl;
         drawn = kept (λ k. k.drawn) _ _ x.only y.only refl refl;
@@ -65,6 +65,6 @@ module _ (s : ℕ) (c d : Card) (a a' b b' : Columns) (first : first_transition 
       }
 
 -- FACT 2, OF ANY TWO VISITS: no visit's outcome hangs on a place that its subnet cannot see
-pub visits-alike : VisitsAlike
-visits-alike r s numbers starts numbers₂ starts₂ a a' b b' one two c d h g l k v =
-    alike s c d a a' b b' v.first v.count r (turn_in d b) refl ((one c h l).local (turn_in d b) v) ((two d g k).local (turn_in d b) (self-view r s (turn_in d b)))
+pub visits_alike : VisitsAlike
+visits_alike r s numbers starts numbers₂ starts₂ a a' b b' one two c d h g l k v =
+    alike s c d a a' b b' v.first v.count r (turn_in d b) refl ((one c h l).local (turn_in d b) v) ((two d g k).local (turn_in d b) (self_view r s (turn_in d b)))

@@ -5,7 +5,7 @@ use Rattle.card.specs.Finite.{every, any, some_unless, ◌otherwise◌}
 use Rattle.card.specs.Card.{Card}
 use Rattle.hierarchy.specs.Judgement.{accepted}
 use Rattle.flattening.specs.Flattening.{flatten}
-use Rattle.flattening.proofs.FlatLaws.{flatten-again}
+use Rattle.flattening.proofs.FlatLaws.{flatten_again}
 use Rattle.runners.specs.Rows.{settle, row_fault, row_conflict, row_next, row_refusal}
 use Rattle.runners.specs.Calls.{view, store, valid, each_once, called}
 use Rattle.runners.specs.Answers.{IsRow}
@@ -17,33 +17,33 @@ use Rattle.runners.specs.declared.Reply.{Reply}
 use Rattle.runners.specs.declared.Reply.TheVariants.{Ok, No}
 use Rattle.runners.specs.declared.RowAnswer.{RowAnswer}
 
-pub flat-signals : (c : Card) (n : ℕ) → n ≡ c.signals → n ≡ (flatten c).signals
+pub flat_signals : (c : Card) (n : ℕ) → n ≡ c.signals → n ≡ (flatten c).signals
 unfolding flatten
-flat-signals c n e = e
+flat_signals c n e = e
 
 -- what a reply refuses
 abbrev fault : Reply → Option Refusal
 fault Ok = none
 fault (No why) = some why
 
-fault-of : (o : Option Refusal) → fault (reply_of o) ≡ o
-fault-of none = refl
-fault-of (some why) = refl
+fault_of : (o : Option Refusal) → fault (reply_of o) ≡ o
+fault_of none = refl
+fault_of (some why) = refl
 
-reply-is : (r : Reply) (o : Option Refusal) → r ≡ reply_of o → o ≡ fault r
-reply-is r o e = sym (ap fault e ∙ fault-of o)
+reply_is : (r : Reply) (o : Option Refusal) → r ≡ reply_of o → o ≡ fault r
+reply_is r o e = sym (ap fault e ∙ fault_of o)
 
 module _ (c : Card) (l after : Lent) (row : List ℕ) (r : Reply) (e : r ≡ reply_of (row_fault (flatten c) row)) where
-  pub fault-none : r ≡ Ok → row_fault (flatten c) row ≡ none
-  fault-none w = reply-is r (row_fault (flatten c) row) e ∙ ap fault w
+  pub fault_none : r ≡ Ok → row_fault (flatten c) row ≡ none
+  fault_none w = reply_is r (row_fault (flatten c) row) e ∙ ap fault w
 
-  pub row-refused : (why : Refusal) (x : RowAnswer) → x ≡ record { reply = No why; state = l } → r ≡ No why → IsRow (settle (row_refusal (flatten c) (view l) row) l after) x
+  pub row_refused : (why : Refusal) (x : RowAnswer) → x ≡ record { reply = No why; state = l } → r ≡ No why → IsRow (settle (row_refusal (flatten c) (view l) row) l after) x
   unfolding row_refusal
-  row-refused why x ex w = rw (ex, reply-is r (row_fault (flatten c) row) e ∙ ap fault w) (record { reply = refl; state = refl })
+  row_refused why x ex w = rw (ex, reply_is r (row_fault (flatten c) row) e ∙ ap fault w) (record { reply = refl; state = refl })
 
-  pub row-stepped : (x : RowAnswer) → r ≡ Ok → IsRow (settle (map Conflict (row_conflict (flatten c) (view l) row)) l after) x → IsRow (settle (row_refusal (flatten c) (view l) row) l after) x
+  pub row_stepped : (x : RowAnswer) → r ≡ Ok → IsRow (settle (map Conflict (row_conflict (flatten c) (view l) row)) l after) x → IsRow (settle (row_refusal (flatten c) (view l) row) l after) x
   unfolding row_refusal
-  row-stepped x w h = rw (fault-none w) h
+  row_stepped x w h = rw (fault_none w) h
 
 -- tests 25 and 23, then those of the row
 module _ (c : Card) (l : Lent) (order row : List ℕ) (x : RowAnswer) where
@@ -53,22 +53,22 @@ module _ (c : Card) (l : Lent) (order row : List ℕ) (x : RowAnswer) where
   abbrev Tested : Type 0
   Tested = IsRow (settle (some_unless (valid (flatten c) l) BadState otherwise some_unless (each_once (length c.subnets) order) BadOrder otherwise row_refusal (flatten c) (view l) row) l after) x
 
-  pub state-refused : valid (flatten c) l ≡ false → x ≡ record { reply = No BadState; state = l } → Tested
-  state-refused e w = rw (e, w) (record { reply = refl; state = refl })
+  pub state_refused : valid (flatten c) l ≡ false → x ≡ record { reply = No BadState; state = l } → Tested
+  state_refused e w = rw (e, w) (record { reply = refl; state = refl })
 
-  pub order-refused : valid (flatten c) l ≡ true → each_once (length c.subnets) order ≡ false → x ≡ record { reply = No BadOrder; state = l } → Tested
-  order-refused e f w = rw (e, f, w) (record { reply = refl; state = refl })
+  pub order_refused : valid (flatten c) l ≡ true → each_once (length c.subnets) order ≡ false → x ≡ record { reply = No BadOrder; state = l } → Tested
+  order_refused e f w = rw (e, f, w) (record { reply = refl; state = refl })
 
-  pub both-pass : valid (flatten c) l ≡ true → each_once (length c.subnets) order ≡ true → IsRow (settle (row_refusal (flatten c) (view l) row) l after) x → Tested
-  both-pass e f h = rw (e, f) h
+  pub both_pass : valid (flatten c) l ≡ true → each_once (length c.subnets) order ≡ true → IsRow (settle (row_refusal (flatten c) (view l) row) l after) x → Tested
+  both_pass e f h = rw (e, f) h
 
-pub once-of : (c : Card) (order : List ℕ) (s : ℕ) (b : Bool) → s ≡ length c.subnets → b ≡ each_once s order → b ≡ each_once (length c.subnets) order
-once-of c order s b e h = h ∙ ap (λ (n : ℕ). each_once n order) e
+pub once_of : (c : Card) (order : List ℕ) (s : ℕ) (b : Bool) → s ≡ length c.subnets → b ≡ each_once s order → b ≡ each_once (length c.subnets) order
+once_of c order s b e h = h ∙ ap (λ (n : ℕ). each_once n order) e
 
 -- the flat card has one subnet, and the order that names it
-pub one-visited : (c : Card) → each_once (length (flatten c).subnets) (0 ∷ []) ≡ true
+pub one_visited : (c : Card) → each_once (length (flatten c).subnets) (0 ∷ []) ≡ true
 unfolding flatten each_once every any
-one-visited c = refl
+one_visited c = refl
 
-pub flat-called : (c : Card) (l : Lent) (row : List ℕ) → called (λ d. each_once (length d.subnets) (0 ∷ [])) (accepted (flatten c)) l row ≡ called (λ d. true) (accepted c) l row
-flat-called c l row = rw (flatten-again c, one-visited c)
+pub flat_called : (c : Card) (l : Lent) (row : List ℕ) → called (λ d. each_once (length d.subnets) (0 ∷ [])) (accepted (flatten c)) l row ≡ called (λ d. true) (accepted c) l row
+flat_called c l row = rw (flatten_again c, one_visited c)

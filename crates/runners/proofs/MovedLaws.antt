@@ -31,12 +31,12 @@ alike a a' b b' d u x y =
     ∙ sym (more (b' + d) (b + u) a y) ∙ same (b' + d + a) (b' + a + d) (omega arith))
 
 -- where an entry has all that it loses, and 32 bits hold it with all that it gains
-pub moved-exact : (a b : List ℕ) (d u : ℕ → ℕ) → Moved a b d u → (p : ℕ) → p < length a → d p ≤ entry a p → entry a p + u p < word → entry b p + d p ≡ entry a p + u p
-moved-exact a b d u x p l h k = exactly (entry a p) (entry b p) (d p) (u p) (x.moved p l) (x.fits p (omega arith)) h k
+pub moved_exact : (a b : List ℕ) (d u : ℕ → ℕ) → Moved a b d u → (p : ℕ) → p < length a → d p ≤ entry a p → entry a p + u p < word → entry b p + d p ≡ entry a p + u p
+moved_exact a b d u x p l h k = exactly (entry a p) (entry b p) (d p) (u p) (x.moved p l) (x.fits p (omega arith)) h k
 
 -- the same change of two columns
-pub moved-alike : (a a' b b' : List ℕ) (d u : ℕ → ℕ) → Moved a a' d u → Moved b b' d u → (p : ℕ) → p < length a → p < length b → (entry a' p + entry b p) % word ≡ (entry b' p + entry a p) % word
-moved-alike a a' b b' d u x y p l k = alike (entry a p) (entry a' p) (entry b p) (entry b' p) (d p) (u p) (x.moved p l) (y.moved p k)
+pub moved_alike : (a a' b b' : List ℕ) (d u : ℕ → ℕ) → Moved a a' d u → Moved b b' d u → (p : ℕ) → p < length a → p < length b → (entry a' p + entry b p) % word ≡ (entry b' p + entry a p) % word
+moved_alike a a' b b' d u x y p l k = alike (entry a p) (entry a' p) (entry b p) (entry b' p) (d p) (u p) (x.moved p l) (y.moved p k)
 
 pub moved_none : (a : List ℕ) → Moved a a nothing nothing
 moved_none a = record { long = refl; fits = λ p l. l; moved = λ p l. refl; kept = λ p d u. refl }
@@ -61,13 +61,13 @@ moved_same a b d u d' u' f g x =
       kept = λ p h k. x.kept p (omega (arith, f p)) (omega (arith, g p));
     }
 
-pub moved-join : (a b e : List ℕ) (d u d' u' d'' u'' : ℕ → ℕ) → Moved a b d u → Moved b e d' u' → ((p : ℕ) → d'' p ≡ d p + d' p) → ((p : ℕ) → u'' p ≡ u p + u' p) → Moved a e d'' u''
-moved-join a b e d u d' u' d'' u'' x y f g =
+pub moved_join : (a b e : List ℕ) (d u d' u' d'' u'' : ℕ → ℕ) → Moved a b d u → Moved b e d' u' → ((p : ℕ) → d'' p ≡ d p + d' p) → ((p : ℕ) → u'' p ≡ u p + u' p) → Moved a e d'' u''
+moved_join a b e d u d' u' d'' u'' x y f g =
     moved_same a e (λ p. d p + d' p) (λ p. u p + u' p) d'' u'' (λ p. sym (f p)) (λ p. sym (g p)) (moved_then a b e d u d' u' x y)
 
 -- what an arc moves at its own place, and at others
-share-here : (way p v : ℕ) → share way way p v p ≡ v
-share-here way p v = rw (eq-eqb way way refl, eq-eqb p p refl)
+share_here : (way p v : ℕ) → share way way p v p ≡ v
+share_here way p v = rw (eq-eqb way way refl, eq-eqb p p refl)
 
 share_other : (way direction p v q : ℕ) → (p ≡ q → ⊥) → share way direction p v q ≡ 0
 share_other way direction p v q n = rw (ne_eqb p q n) (go (eqb direction way))
@@ -76,14 +76,14 @@ share_other way direction p v q n = rw (ne_eqb p q n) (go (eqb direction way))
     go true = refl
     go false = refl
 
-share-none : (way direction p v q : ℕ) → (direction ≡ way → ⊥) → share way direction p v q ≡ 0
-share-none way direction p v q n = rw (ne_eqb direction way n)
+share_none : (way direction p v q : ℕ) → (direction ≡ way → ⊥) → share way direction p v q ≡ 0
+share_none way direction p v q n = rw (ne_eqb direction way n)
 
-share-way : (way direction p v q : ℕ) → direction ≡ way → share 0 0 p v q ≡ share way direction p v q
-share-way way direction p v q e = rw (eq-eqb direction way e)
+share_way : (way direction p v q : ℕ) → direction ≡ way → share 0 0 p v q ≡ share way direction p v q
+share_way way direction p v q e = rw (eq-eqb direction way e)
 
-share-nothing : (way direction p q : ℕ) → share way direction p 0 q ≡ 0
-share-nothing way direction p q = go (eqb direction way && eqb p q)
+share_nothing : (way direction p q : ℕ) → share way direction p 0 q ≡ 0
+share_nothing way direction p q = go (eqb direction way && eqb p q)
   where
     go : (b : Bool) → cond {A = ℕ} b 0 0 ≡ 0
     go true = refl
@@ -91,8 +91,8 @@ share-nothing way direction p q = go (eqb direction way && eqb p q)
 
 -- an entry takes a number that is its own less d and more u, in 32 bits
 module _ (xs : List ℕ) (p v d u : ℕ) (l : p < length xs) (b : v < word) (e : (v + d) % word ≡ (entry xs p + u) % word) (z : d ≡ 0 → u ≡ 0 → v ≡ entry xs p) where
-  set-moved : Moved xs (set xs p v) (share 0 0 p d) (share 0 0 p u)
-  set-moved =
+  set_moved : Moved xs (set xs p v) (share 0 0 p d) (share 0 0 p u)
+  set_moved =
       record {
         long = length-set xs p v;
         fits = λ q h. fit q h (eqb p q) refl;
@@ -108,58 +108,58 @@ module _ (xs : List ℕ) (p v d u : ℕ) (l : p < length xs) (b : v < word) (e :
       fit q h false n = omega (arith, other q n)
 
       at : (q : ℕ) (n : Bool) → eqb p q ≡ n → (entry (set xs p v) q + share 0 0 p d q) % word ≡ (entry xs q + share 0 0 p u q) % word
-      at q true n = rw (← eqb-true p q n, share-here 0 p d, share-here 0 p u, get_or-set_same xs p v 0 l) e
+      at q true n = rw (← eqb-true p q n, share_here 0 p d, share_here 0 p u, get_or-set_same xs p v 0 l) e
       at q false n = rw (other q n, share_other 0 0 p d q (eqb-false p q n), share_other 0 0 p u q (eqb-false p q n)) refl
 
       still : (q : ℕ) → share 0 0 p d q ≡ 0 → share 0 0 p u q ≡ 0 → (n : Bool) → eqb p q ≡ n → entry (set xs p v) q ≡ entry xs q
       still q h k true n =
           let i : p ≡ q = eqb-true p q n in
-          let x : d ≡ 0 = omega (arith, h, share-here 0 p d, ap (share 0 0 p d) i) in
-          let y : u ≡ 0 = omega (arith, k, share-here 0 p u, ap (share 0 0 p u) i) in
+          let x : d ≡ 0 = omega (arith, h, share_here 0 p d, ap (share 0 0 p d) i) in
+          let y : u ≡ 0 = omega (arith, k, share_here 0 p u, ap (share 0 0 p u) i) in
           rw (← i, get_or-set_same xs p v 0 l) (z x y)
       still q h k false n = other q n
 
 -- v added to entry p, or taken from it, by sums and differences that go round
 module _ (xs : List ℕ) (p v n : ℕ) where
-  pub add-there : p < length xs → entry xs p < word → n < word → n ≡ (entry xs p + v) % word → Grown xs (set xs p n) (share 0 0 p v)
-  add-there l h b e =
-      moved_same xs (set xs p n) (share 0 0 p 0) (share 0 0 p v) nothing (share 0 0 p v) (λ q. share-nothing 0 0 p q) (λ q. refl)
-      (set-moved xs p n 0 v l b (omega arith) (λ x y. omega arith))
+  pub add_there : p < length xs → entry xs p < word → n < word → n ≡ (entry xs p + v) % word → Grown xs (set xs p n) (share 0 0 p v)
+  add_there l h b e =
+      moved_same xs (set xs p n) (share 0 0 p 0) (share 0 0 p v) nothing (share 0 0 p v) (λ q. share_nothing 0 0 p q) (λ q. refl)
+      (set_moved xs p n 0 v l b (omega arith) (λ x y. omega arith))
 
-  pub take-there : p < length xs → entry xs p < word → n < word → (n + v) % word ≡ entry xs p → Moved xs (set xs p n) (share 0 0 p v) nothing
-  take-there l h b e =
-      moved_same xs (set xs p n) (share 0 0 p v) (share 0 0 p 0) (share 0 0 p v) nothing (λ q. refl) (λ q. share-nothing 0 0 p q)
-      (set-moved xs p n v 0 l b (omega arith) (λ x y. omega arith))
+  pub take_there : p < length xs → entry xs p < word → n < word → (n + v) % word ≡ entry xs p → Moved xs (set xs p n) (share 0 0 p v) nothing
+  take_there l h b e =
+      moved_same xs (set xs p n) (share 0 0 p v) (share 0 0 p 0) (share 0 0 p v) nothing (λ q. refl) (λ q. share_nothing 0 0 p q)
+      (set_moved xs p n v 0 l b (omega arith) (λ x y. omega arith))
 
 module _ (xs : List ℕ) (p v : ℕ) (h : length xs ≤ p) where
   past : (q : ℕ) → q < length xs → share 0 0 p v q ≡ 0
   past q m = share_other 0 0 p v q (λ e. omega arith)
 
-  pub add-past : Grown xs xs (share 0 0 p v)
-  add-past = record { long = refl; fits = λ q k. k; moved = λ q m. rw (past q m) refl; kept = λ q a b. refl }
+  pub add_past : Grown xs xs (share 0 0 p v)
+  add_past = record { long = refl; fits = λ q k. k; moved = λ q m. rw (past q m) refl; kept = λ q a b. refl }
 
   pub take_past : Moved xs xs (share 0 0 p v) nothing
   take_past = record { long = refl; fits = λ q k. k; moved = λ q m. rw (past q m) refl; kept = λ q a b. refl }
 
 -- an arc of this direction, and one of another
 module _ (xs ys : List ℕ) (direction p v : ℕ) where
-  pub grown-way : (way : ℕ) → direction ≡ way → Grown xs ys (share 0 0 p v) → Grown xs ys (share way direction p v)
-  grown-way way e g = moved_same xs ys nothing (share 0 0 p v) nothing (share way direction p v) (λ q. refl) (λ q. share-way way direction p v q e) g
+  pub grown_way : (way : ℕ) → direction ≡ way → Grown xs ys (share 0 0 p v) → Grown xs ys (share way direction p v)
+  grown_way way e g = moved_same xs ys nothing (share 0 0 p v) nothing (share way direction p v) (λ q. refl) (λ q. share_way way direction p v q e) g
 
-  pub grown-not : (way : ℕ) → (direction ≡ way → ⊥) → Grown xs xs (share way direction p v)
-  grown-not way n = moved_same xs xs nothing nothing nothing (share way direction p v) (λ q. refl) (λ q. sym (share-none way direction p v q n)) (moved_none xs)
+  pub grown_not : (way : ℕ) → (direction ≡ way → ⊥) → Grown xs xs (share way direction p v)
+  grown_not way n = moved_same xs xs nothing nothing nothing (share way direction p v) (λ q. refl) (λ q. sym (share_none way direction p v q n)) (moved_none xs)
 
-  pub moved-draws : direction ≡ draws → Moved xs ys (share 0 0 p v) nothing → Moved xs ys (share draws direction p v) (share fills direction p v)
-  moved-draws e g =
-      moved_same xs ys (share 0 0 p v) nothing (share draws direction p v) (share fills direction p v) (λ q. share-way draws direction p v q e)
-      (λ q. sym (share-none fills direction p v q (λ k. omega arith))) g
+  pub moved_draws : direction ≡ draws → Moved xs ys (share 0 0 p v) nothing → Moved xs ys (share draws direction p v) (share fills direction p v)
+  moved_draws e g =
+      moved_same xs ys (share 0 0 p v) nothing (share draws direction p v) (share fills direction p v) (λ q. share_way draws direction p v q e)
+      (λ q. sym (share_none fills direction p v q (λ k. omega arith))) g
 
-  pub moved-fills : direction ≡ fills → Grown xs ys (share 0 0 p v) → Moved xs ys (share draws direction p v) (share fills direction p v)
-  moved-fills e g =
-      moved_same xs ys nothing (share 0 0 p v) (share draws direction p v) (share fills direction p v) (λ q. sym (share-none draws direction p v q (λ k. omega arith)))
-      (λ q. share-way fills direction p v q e) g
+  pub moved_fills : direction ≡ fills → Grown xs ys (share 0 0 p v) → Moved xs ys (share draws direction p v) (share fills direction p v)
+  moved_fills e g =
+      moved_same xs ys nothing (share 0 0 p v) (share draws direction p v) (share fills direction p v) (λ q. sym (share_none draws direction p v q (λ k. omega arith)))
+      (λ q. share_way fills direction p v q e) g
 
-  pub moved-not : (direction ≡ draws → ⊥) → (direction ≡ fills → ⊥) → Moved xs xs (share draws direction p v) (share fills direction p v)
-  moved-not m n =
-      moved_same xs xs nothing nothing (share draws direction p v) (share fills direction p v) (λ q. sym (share-none draws direction p v q m))
-      (λ q. sym (share-none fills direction p v q n)) (moved_none xs)
+  pub moved_not : (direction ≡ draws → ⊥) → (direction ≡ fills → ⊥) → Moved xs xs (share draws direction p v) (share fills direction p v)
+  moved_not m n =
+      moved_same xs xs nothing nothing (share draws direction p v) (share fills direction p v) (λ q. sym (share_none draws direction p v q m))
+      (λ q. sym (share_none fills direction p v q n)) (moved_none xs)

@@ -3,12 +3,12 @@ use Rattle.std.proofs.Common.{◌≡◌, ℕ, suc, ◌+◌, ◌-◌, ◌*◌, �
 use native.Mathlib.Nat.{div-eq_of_lt, add-div_right}
 use lib.Seq.{slice, take-nil}
 use Rattle.card.specs.Finite.{table}
-use Rattle.card.proofs.BitLaws.{lt-or-ge}
-use Rattle.card.proofs.Prefix.{table-shift, table_same}
+use Rattle.card.proofs.BitLaws.{lt_or_ge}
+use Rattle.card.proofs.Prefix.{table_shift, table_same}
 use Rattle.runners.specs.Rows.{pieces}
 
-drop-take : (n b : ℕ) (file : List ℕ) → n ≤ b → drop n (take b file) ≡ take (b - n) (drop n file)
-drop-take n b file l = go (lt-or-ge (length file) n)
+drop_take : (n b : ℕ) (file : List ℕ) → n ≤ b → drop n (take b file) ≡ take (b - n) (drop n file)
+drop_take n b file l = go (lt_or_ge (length file) n)
   where
     go : (length file < n) ⊎ (n ≤ length file) → drop n (take b file) ≡ take (b - n) (drop n file)
     go (inl h) =
@@ -19,8 +19,8 @@ drop-take n b file l = go (lt-or-ge (length file) n)
         let e : b ≡ n + (b - n) = omega arith in
         ap (λ (k : ℕ). drop n (take k file)) e ∙ ap (drop n) (take-add n (b - n) file) ∙ drop_at (take n file) (take (b - n) (drop n file)) n (length-take-le n file h)
 
-slice-shift : (n a b : ℕ) (file : List ℕ) → n ≤ b → slice (n + a) b file ≡ slice a (b - n) (drop n file)
-slice-shift n a b file l = sym (drop-drop a n (take b file)) ∙ ap (drop a) (drop-take n b file l)
+slice_shift : (n a b : ℕ) (file : List ℕ) → n ≤ b → slice (n + a) b file ≡ slice a (b - n) (drop n file)
+slice_shift n a b file l = sym (drop-drop a n (take b file)) ∙ ap (drop a) (drop_take n b file l)
 
 pub pieces_none : (n : ℕ) → 0 < n → pieces n [] ≡ []
 unfolding pieces table
@@ -36,7 +36,7 @@ pieces_more n file p l = ap (λ (k : ℕ). table 0 k piece) count ∙ ap₂ (λ 
     piece k = slice (n * k) (n * suc k) file
 
     count : (length file + n - 1) / n ≡ suc ((length (drop n file) + n - 1) / n)
-    count = go (lt-or-ge (length file) n)
+    count = go (lt_or_ge (length file) n)
       where
         go : (length file < n) ⊎ (n ≤ length file) → (length file + n - 1) / n ≡ suc ((length (drop n file) + n - 1) / n)
         go (inl h) =
@@ -55,35 +55,35 @@ pieces_more n file p l = ap (λ (k : ℕ). table 0 k piece) count ∙ ap₂ (λ 
         rw (i, j)
 
     rest : table 1 ((length (drop n file) + n - 1) / n) piece ≡ pieces n (drop n file)
-    rest = sym (table-shift 0 ((length (drop n file) + n - 1) / n) 1 piece) ∙ table_same 0 ((length (drop n file) + n - 1) / n) (λ i. piece (1 + i)) (λ k. slice (n * k) (n * suc k) (drop n file)) shifted
+    rest = sym (table_shift 0 ((length (drop n file) + n - 1) / n) 1 piece) ∙ table_same 0 ((length (drop n file) + n - 1) / n) (λ i. piece (1 + i)) (λ k. slice (n * k) (n * suc k) (drop n file)) shifted
       where
         shifted : (i : ℕ) → piece (1 + i) ≡ slice (n * i) (n * suc i) (drop n file)
         shifted i =
             let a : n * (1 + i) ≡ n + n * i = omega arith in
             let b : n * suc (1 + i) - n ≡ n * suc i = omega arith in
-            ap (λ (k : ℕ). slice k (n * suc (1 + i)) file) a ∙ slice-shift n (n * i) (n * suc (1 + i)) file (omega arith) ∙ ap (λ (k : ℕ). slice (n * i) k (drop n file)) b
+            ap (λ (k : ℕ). slice k (n * suc (1 + i)) file) a ∙ slice_shift n (n * i) (n * suc (1 + i)) file (omega arith) ∙ ap (λ (k : ℕ). slice (n * i) k (drop n file)) b
 
 -- the piece as the code takes it, and what comes after it
 module _ (rows : List ℕ) (from size to : ℕ) (l : from ≤ length rows) (e : to ≡ from + min size (length rows - from)) where
   few : min size (length rows - from) ≤ length rows - from
-  few = go (lt-or-ge size (length rows - from))
+  few = go (lt_or_ge size (length rows - from))
     where
       go : (size < length rows - from) ⊎ (length rows - from ≤ size) → min size (length rows - from) ≤ length rows - from
       go (inl h) = omega arith
       go (inr h) = omega arith
 
-  pub to-few : to ≤ length rows
-  to-few = omega (arith, few)
+  pub to_few : to ≤ length rows
+  to_few = omega (arith, few)
 
   pub piece_is : take (to - from) (drop from rows) ≡ take size (drop from rows)
-  piece_is = go (lt-or-ge size (length rows - from))
+  piece_is = go (lt_or_ge size (length rows - from))
     where
       go : (size < length rows - from) ⊎ (length rows - from ≤ size) → take (to - from) (drop from rows) ≡ take size (drop from rows)
       go (inl h) = ap (λ (k : ℕ). take k (drop from rows)) (let i : to - from ≡ size = omega arith in i)
       go (inr h) = take_all (to - from) (drop from rows) (omega (arith, length-drop from rows)) ∙ sym (take_all size (drop from rows) (omega (arith, length-drop from rows)))
 
-  pub rest-is : drop size (drop from rows) ≡ drop to rows
-  rest-is = go (lt-or-ge size (length rows - from))
+  pub rest_is : drop size (drop from rows) ≡ drop to rows
+  rest_is = go (lt_or_ge size (length rows - from))
     where
       go : (size < length rows - from) ⊎ (length rows - from ≤ size) → drop size (drop from rows) ≡ drop to rows
       go (inl h) = drop-drop size from rows ∙ ap (λ (k : ℕ). drop k rows) (let i : from + size ≡ to = omega arith in i)

@@ -3,7 +3,7 @@
 use Rattle.std.proofs.Common.{◌≡◌, ℕ, ◌+◌, ◌<◌, ◌≤◌, true, false, ◌⊎◌, List, map, length, get_or, sym, refl, ap, ◌∙◌, subst, inl, inr, add-one, arith}
 use Rattle.card.specs.Finite.{sum_to}
 use Rattle.card.specs.Card.{Card, draws, fills}
-use Rattle.card.proofs.BitLaws.{lt-or-ge}
+use Rattle.card.proofs.BitLaws.{lt_or_ge}
 use Rattle.card.proofs.Decides.{Some}
 use Rattle.hierarchy.specs.Conditions.{Meets}
 use Rattle.flattening.specs.Flattening.{flatten}
@@ -13,15 +13,15 @@ use Rattle.runners.specs.Calls.{each_once}
 use Rattle.runners.specs.Columns.{Moved, Grown, nothing, idle_code, code_of, transfer_of, Columns, with_standing, with_candidates, with_state}
 use Rattle.runners.specs.Visits.{OwnsTransition, Round, posting, finding, moving, Turn, amount, effect, step_turn, InTurn, Does, SameElsewhere, InTables, turn_in, IsVisit}
 use Rattle.runners.specs.inner.Rounds.{DoesAll}
-use Rattle.runners.proofs.OwnerLaws.{owner-unique, owner}
-use Rattle.runners.proofs.OnceLaws.{Once, once, sum-once, once-distinct}
-use Rattle.runners.proofs.MovedLaws.{moved_none, moved-join, moved_same}
-use Rattle.runners.proofs.VisitLaws.{effects-sum}
-use Rattle.runners.proofs.TransferLaws.{transfer-code}
+use Rattle.runners.proofs.OwnerLaws.{owner_unique, owner}
+use Rattle.runners.proofs.OnceLaws.{Once, once, sum_once, once_distinct}
+use Rattle.runners.proofs.MovedLaws.{moved_none, moved_join, moved_same}
+use Rattle.runners.proofs.VisitLaws.{effects_sum}
+use Rattle.runners.proofs.TransferLaws.{transfer_code}
 
 -- n + 1 visits are n visits and one
 up_to : (n j : ℕ) → j < n + 1 → (j < n) ⊎ (j ≡ n)
-up_to n j l = go (lt-or-ge j n)
+up_to n j l = go (lt_or_ge j n)
   where
     go : (j < n) ⊎ (n ≤ j) → (j < n) ⊎ (j ≡ n)
     go (inl m) = inl m
@@ -33,10 +33,10 @@ visited S order n e l = let o = once S order e in o.below n (omega (arith, o.siz
 
 -- a transition of a subnet that was visited is none of the next one
 module _ (c : Card) (order : List ℕ) (e : each_once (length c.subnets) order ≡ true) where
-  not-again : (n k t : ℕ) → k < n → n < length order → OwnsTransition c (get_or order k 0) t → ¬ OwnsTransition c (get_or order n 0) t
-  not-again n k t l m a b =
+  not_again : (n k t : ℕ) → k < n → n < length order → OwnsTransition c (get_or order k 0) t → ¬ OwnsTransition c (get_or order n 0) t
+  not_again n k t l m a b =
       let o = once (length c.subnets) order e in
-      once-distinct (length c.subnets) order o k n l (omega (arith, o.size)) (owner-unique c (get_or order k 0) (get_or order n 0) t a b)
+      once_distinct (length c.subnets) order o k n l (omega (arith, o.size)) (owner_unique c (get_or order k 0) (get_or order n 0) t a b)
 
   -- the visit of a transition's owner
   owner_at : (n t : ℕ) → Meets c → n ≡ length order → t < length c.transitions → Some n (λ k. OwnsTransition c (get_or order k 0) t)
@@ -54,8 +54,8 @@ pub record SetTo {A : Type 0} (d : A) (good : ℕ → A) (c : Card) (order : Lis
   pub others : (t : ℕ) → ((k : ℕ) → k < n → ¬ OwnsTransition c (get_or order k 0) t) → get_or ys t d ≡ get_or xs t d
 
 module _ {A : Type 0} (d : A) (good : ℕ → A) (c : Card) (order : List ℕ) where
-  set-start : (xs : List A) → SetTo d good c order 0 xs xs
-  set-start xs = record { long = refl; own = λ k t l o b. absurd (omega arith); others = λ t h. refl }
+  set_start : (xs : List A) → SetTo d good c order 0 xs xs
+  set_start xs = record { long = refl; own = λ k t l o b. absurd (omega arith); others = λ t h. refl }
 
   module _ (e : each_once (length c.subnets) order ≡ true) where
     set_more : (n : ℕ) (xs ys zs : List A) → n < length order → SetTo d good c order n xs ys → length zs ≡ length ys
@@ -69,11 +69,11 @@ module _ {A : Type 0} (d : A) (good : ℕ → A) (c : Card) (order : List ℕ) w
         }
       where
         at : (k t : ℕ) → OwnsTransition c (get_or order k 0) t → t < length xs → (k < n) ⊎ (k ≡ n) → get_or zs t d ≡ good t
-        at k t o q (inl b) = others t (not-again c order e n k t b l o) ∙ g.own k t b o q
+        at k t o q (inl b) = others t (not_again c order e n k t b l o) ∙ g.own k t b o q
         at k t o q (inr b) = own t (subst (λ (z : ℕ). OwnsTransition c (get_or order z 0) t) b o) (omega (arith, g.long))
 
     set_next : (n : ℕ) (xs ys : List A) → n < length order → SetTo d good c order n xs ys → (t : ℕ) → OwnsTransition c (get_or order n 0) t → get_or ys t d ≡ get_or xs t d
-    set_next n xs ys l g t o = g.others t (λ k q w. not-again c order e n k t q l w o)
+    set_next n xs ys l g t o = g.others t (λ k q w. not_again c order e n k t q l w o)
 
     set_all : (n : ℕ) (xs ys : List A) → Meets c → n ≡ length order → SetTo d good c order n xs ys → (t : ℕ) → t < length c.transitions → t < length xs → get_or ys t d ≡ good t
     set_all n xs ys m q g t l b = let w = owner_at c order e n t m q l in g.own w.0 t w.1 w.2 b
@@ -91,32 +91,32 @@ module _ (r : Round) (j : Turn) (order : List ℕ) where
   unfolding sum_to
   partly_more n direction p = rw add-one refl
 
-  partly-all : (n direction p : ℕ) → Meets j.card → Once (length j.card.subnets) order → n ≡ length order → partly r j order n direction p ≡ flow (flatten j.card) (amount r j) direction p
-  partly-all n direction p m o e =
+  partly_all : (n direction p : ℕ) → Meets j.card → Once (length j.card.subnets) order → n ≡ length order → partly r j order n direction p ≡ flow (flatten j.card) (amount r j) direction p
+  partly_all n direction p m o e =
       ap (λ (k : ℕ). partly r j order k direction p) (e ∙ o.size)
-      ∙ sum-once (length j.card.subnets) order (λ s. effect r s j direction p) o
-      ∙ sym (effects-sum r j m direction p)
+      ∙ sum_once (length j.card.subnets) order (λ s. effect r s j direction p) o
+      ∙ sym (effects_sum r j m direction p)
 
-  grown-start : (way : ℕ) (a : List ℕ) → Grown a a (partly r j order 0 way)
-  grown-start way a = moved_same a a nothing nothing nothing (partly r j order 0 way) (λ p. refl) (partly_none way) (moved_none a)
+  grown_start : (way : ℕ) (a : List ℕ) → Grown a a (partly r j order 0 way)
+  grown_start way a = moved_same a a nothing nothing nothing (partly r j order 0 way) (λ p. refl) (partly_none way) (moved_none a)
 
-  moved-start : (a : List ℕ) → Moved a a (partly r j order 0 draws) (partly r j order 0 fills)
-  moved-start a = moved_same a a nothing nothing (partly r j order 0 draws) (partly r j order 0 fills) (partly_none draws) (partly_none fills) (moved_none a)
+  moved_start : (a : List ℕ) → Moved a a (partly r j order 0 draws) (partly r j order 0 fills)
+  moved_start a = moved_same a a nothing nothing (partly r j order 0 draws) (partly r j order 0 fills) (partly_none draws) (partly_none fills) (moved_none a)
 
-  grown-more : (n way : ℕ) (a b e : List ℕ) → Grown a b (partly r j order n way) → Grown b e (effect r (get_or order n 0) j way) → Grown a e (partly r j order (n + 1) way)
-  grown-more n way a b e g h = moved-join a b e nothing _ nothing _ nothing _ g h (λ p. refl) (λ p. partly_more n way p)
+  grown_more : (n way : ℕ) (a b e : List ℕ) → Grown a b (partly r j order n way) → Grown b e (effect r (get_or order n 0) j way) → Grown a e (partly r j order (n + 1) way)
+  grown_more n way a b e g h = moved_join a b e nothing _ nothing _ nothing _ g h (λ p. refl) (λ p. partly_more n way p)
 
   moved_more : (n : ℕ) (a b e : List ℕ) → Moved a b (partly r j order n draws) (partly r j order n fills)
       → Moved b e (effect r (get_or order n 0) j draws) (effect r (get_or order n 0) j fills) → Moved a e (partly r j order (n + 1) draws) (partly r j order (n + 1) fills)
-  moved_more n a b e g h = moved-join a b e _ _ _ _ _ _ g h (λ p. partly_more n draws p) (λ p. partly_more n fills p)
+  moved_more n a b e g h = moved_join a b e _ _ _ _ _ _ g h (λ p. partly_more n draws p) (λ p. partly_more n fills p)
 
   module _ (n : ℕ) (m : Meets j.card) (o : each_once (length j.card.subnets) order ≡ true) (q : n ≡ length order) where
-    grown-all : (way : ℕ) (a b : List ℕ) → Grown a b (partly r j order n way) → Grown a b (flow (flatten j.card) (amount r j) way)
-    grown-all way a b h = moved_same a b nothing _ nothing _ (λ p. refl) (λ p. partly-all n way p m (once (length j.card.subnets) order o) q) h
+    grown_all : (way : ℕ) (a b : List ℕ) → Grown a b (partly r j order n way) → Grown a b (flow (flatten j.card) (amount r j) way)
+    grown_all way a b h = moved_same a b nothing _ nothing _ (λ p. refl) (λ p. partly_all n way p m (once (length j.card.subnets) order o) q) h
 
     moved_all : (a b : List ℕ) → Moved a b (partly r j order n draws) (partly r j order n fills) → Moved a b (flow (flatten j.card) (amount r j) draws) (flow (flatten j.card) (amount r j) fills)
     moved_all a b h =
-        moved_same a b _ _ _ _ (λ p. partly-all n draws p m (once (length j.card.subnets) order o) q) (λ p. partly-all n fills p m (once (length j.card.subnets) order o) q) h
+        moved_same a b _ _ _ _ (λ p. partly_all n draws p m (once (length j.card.subnets) order o) q) (λ p. partly_all n fills p m (once (length j.card.subnets) order o) q) h
 
 -- What the first n visits do.
 pub record PostsTo (j : Turn) (order : List ℕ) (n : ℕ) (a a' : Columns) : Type 0 where
@@ -140,29 +140,29 @@ DoesTo posting j order n a a' = PostsTo j order n a a'
 DoesTo finding j order n a a' = FindsTo j order n a a'
 DoesTo moving j order n a a' = MovesTo j order n a a'
 
-pub round-start : (r : Round) (j : Turn) (order : List ℕ) (a : Columns) → DoesTo r j order 0 a a
-round-start posting j order a = record { only = refl; owed = grown-start posting j order draws a.owed; due = grown-start posting j order fills a.due }
-round-start finding j order a =
+pub round_start : (r : Round) (j : Turn) (order : List ℕ) (a : Columns) → DoesTo r j order 0 a a
+round_start posting j order a = record { only = refl; owed = grown_start posting j order draws a.owed; due = grown_start posting j order fills a.due }
+round_start finding j order a =
     record {
       only = refl;
-      drawn = grown-start finding j order draws a.drawn;
-      filled = grown-start finding j order fills a.filled;
-      candidates = set-start false _ j.card order a.candidates;
+      drawn = grown_start finding j order draws a.drawn;
+      filled = grown_start finding j order fills a.filled;
+      candidates = set_start false _ j.card order a.candidates;
     }
-round-start moving j order a = record { only = refl; markings = moved-start moving j order a.markings; transfers = set-start idle_code _ j.card order a.transfers }
+round_start moving j order a = record { only = refl; markings = moved_start moving j order a.markings; transfers = set_start idle_code _ j.card order a.transfers }
 
-pub round-all : (r : Round) (j : Turn) (order : List ℕ) (n : ℕ) (a a' : Columns) → Meets j.card → each_once (length j.card.subnets) order ≡ true → n ≡ length order
+pub round_all : (r : Round) (j : Turn) (order : List ℕ) (n : ℕ) (a a' : Columns) → Meets j.card → each_once (length j.card.subnets) order ≡ true → n ≡ length order
     → DoesTo r j order n a a' → DoesAll r j a a'
-round-all posting j order n a a' m o q h =
-    record { only = h.only; owed = grown-all posting j order n m o q draws a.owed a'.owed h.owed; due = grown-all posting j order n m o q fills a.due a'.due h.due }
-round-all finding j order n a a' m o q h =
+round_all posting j order n a a' m o q h =
+    record { only = h.only; owed = grown_all posting j order n m o q draws a.owed a'.owed h.owed; due = grown_all posting j order n m o q fills a.due a'.due h.due }
+round_all finding j order n a a' m o q h =
     record {
       only = h.only;
-      drawn = grown-all finding j order n m o q draws a.drawn a'.drawn h.drawn;
-      filled = grown-all finding j order n m o q fills a.filled a'.filled h.filled;
+      drawn = grown_all finding j order n m o q draws a.drawn a'.drawn h.drawn;
+      filled = grown_all finding j order n m o q fills a.filled a'.filled h.filled;
       noted = set_all false _ j.card order o n a.candidates a'.candidates m q h.candidates;
     }
-round-all moving j order n a a' m o q h =
+round_all moving j order n a a' m o q h =
     record {
       only = h.only;
       markings = moved_all moving j order n m o q a.markings a'.markings h.markings;
@@ -174,33 +174,33 @@ module _ (c : Card) (before : NetState) (order : List ℕ) (o : each_once (lengt
   abbrev s : ℕ
   s = get_or order n 0
 
-  still-in-turn : (r : Round) → InTurn r s (turn_in c a) before → DoesTo r (step_turn c before a.row) order n a b → InTurn r s (turn_in c b) before
-  still-in-turn posting h g =
+  still_in_turn : (r : Round) → InTurn r s (turn_in c a) before → DoesTo r (step_turn c before a.row) order n a b → InTurn r s (turn_in c b) before
+  still_in_turn posting h g =
       record {
         transfers = λ t w. ap (λ (k : Columns). transfer (map transfer_of k.transfers) t) g.only ∙ h.transfers t w;
         degrees = λ q w. ap (λ (k : Columns). get_or k.degrees q 0) g.only ∙ h.degrees q w;
         places = λ e q i w. absurd (let z : ◌≡◌ {A = ℕ} 0 1 = cc in omega arith);
         found = λ e t w. absurd (let z : ◌≡◌ {A = ℕ} 0 1 = cc in omega arith);
       }
-  still-in-turn finding h g = subst (λ (k : Columns). InTurn finding s (turn_in c k) before) (sym g.only) (record {
+  still_in_turn finding h g = subst (λ (k : Columns). InTurn finding s (turn_in c k) before) (sym g.only) (record {
     transfers = h.transfers;
     degrees = h.degrees;
     places = λ e q i w. let x = h.places e q i w in record { capacities = x.capacities; markings = x.markings; owed = x.owed; due = x.due };
     found = λ e t w. absurd (let z : ◌≡◌ {A = ℕ} 0 1 = cc in omega arith);
   })
-  still-in-turn moving h g = subst (λ (k : Columns). InTurn moving s (turn_in c k) before) (sym g.only) (record {
+  still_in_turn moving h g = subst (λ (k : Columns). InTurn moving s (turn_in c k) before) (sym g.only) (record {
     transfers = λ t w.
-        transfer-code b.transfers t ∙ ap transfer_of (set_next idle_code _ c order o n a.transfers b.transfers l g.transfers t w)
-        ∙ sym (transfer-code a.transfers t) ∙ h.transfers t w;
+        transfer_code b.transfers t ∙ ap transfer_of (set_next idle_code _ c order o n a.transfers b.transfers l g.transfers t w)
+        ∙ sym (transfer_code a.transfers t) ∙ h.transfers t w;
     degrees = h.degrees;
     places = λ e q i w. absurd (let z : ◌≡◌ {A = ℕ} 0 1 = cc in omega arith);
     found = h.found;
   })
 
-  row-still : (r : Round) → DoesTo r (step_turn c before a.row) order n a b → b.row ≡ a.row
-  row-still posting g = ap (λ (k : Columns). k.row) g.only
-  row-still finding g = ap (λ (k : Columns). k.row) g.only
-  row-still moving g = ap (λ (k : Columns). k.row) g.only
+  row_still : (r : Round) → DoesTo r (step_turn c before a.row) order n a b → b.row ≡ a.row
+  row_still posting g = ap (λ (k : Columns). k.row) g.only
+  row_still finding g = ap (λ (k : Columns). k.row) g.only
+  row_still moving g = ap (λ (k : Columns). k.row) g.only
 
   -- one visit more
   module _ (e : Columns) where
@@ -211,14 +211,14 @@ module _ (c : Card) (before : NetState) (order : List ℕ) (o : each_once (lengt
     more posting g d u =
         record {
           only = d.only ∙ ap (λ (k : Columns). with_standing k e.owed e.due) g.only;
-          owed = grown-more posting j order n draws a.owed b.owed e.owed g.owed d.owed;
-          due = grown-more posting j order n fills a.due b.due e.due g.due d.due;
+          owed = grown_more posting j order n draws a.owed b.owed e.owed g.owed d.owed;
+          due = grown_more posting j order n fills a.due b.due e.due g.due d.due;
         }
     more finding g d u =
         record {
           only = d.only ∙ ap (λ (k : Columns). with_candidates k e.drawn e.filled e.candidates) g.only;
-          drawn = grown-more finding j order n draws a.drawn b.drawn e.drawn g.drawn d.drawn;
-          filled = grown-more finding j order n fills a.filled b.filled e.filled g.filled d.filled;
+          drawn = grown_more finding j order n draws a.drawn b.drawn e.drawn g.drawn d.drawn;
+          filled = grown_more finding j order n fills a.filled b.filled e.filled g.filled d.filled;
           candidates = set_more false _ c order o n a.candidates b.candidates e.candidates l g.candidates d.long d.own u.candidates;
         }
     more moving g d u =
@@ -228,12 +228,12 @@ module _ (c : Card) (before : NetState) (order : List ℕ) (o : each_once (lengt
           transfers = set_more idle_code _ c order o n a.transfers b.transfers e.transfers l g.transfers d.long d.own u.transfers;
         }
 
-pub round-more : (r : Round) (c : Card) (before : NetState) (order : List ℕ) (n : ℕ) (numbers starts : List ℕ) (a b e : Columns) → InTables c numbers starts
+pub round_more : (r : Round) (c : Card) (before : NetState) (order : List ℕ) (n : ℕ) (numbers starts : List ℕ) (a b e : Columns) → InTables c numbers starts
     → each_once (length c.subnets) order ≡ true → n < length order → ((s : ℕ) → s < length c.subnets → InTurn r s (turn_in c a) before)
     → DoesTo r (step_turn c before a.row) order n a b → IsVisit r (get_or order n 0) numbers starts b e → DoesTo r (step_turn c before a.row) order (n + 1) a e
-round-more r c before order n numbers starts a b e h o l t g v =
+round_more r c before order n numbers starts a b e h o l t g v =
     let below = visited (length c.subnets) order n o l in
     let f = v c h below in
-    let w = still-in-turn c before order o n l a b r (t (get_or order n 0) below) g in
+    let w = still_in_turn c before order o n l a b r (t (get_or order n 0) below) g in
     more c before order o n l a b e r g
-    (subst (λ (row : List ℕ). Does r (get_or order n 0) (step_turn c before row) b e) (row-still c before order o n l a b r g) (f.right before w)) f.elsewhere
+    (subst (λ (row : List ℕ). Does r (get_or order n 0) (step_turn c before row) b e) (row_still c before order o n l a b r g) (f.right before w)) f.elsewhere

@@ -4,19 +4,19 @@ use Rattle.card.specs.Card.{Card}
 use Rattle.flattening.specs.Flattening.{flatten}
 use Rattle.runners.specs.State.{scale}
 
-pub scale-some : (f : Card) → 0 < scale f
+pub scale_some : (f : Card) → 0 < scale f
 unfolding scale
-scale-some f = omega arith
+scale_some f = omega arith
 
 -- the claims on a board fit in 32 bits up to here (FewLaws), and a progress is never the number that stands for idle
-pub scale-few : (f : Card) → scale f ≤ 10000
+pub scale_few : (f : Card) → scale f ≤ 10000
 unfolding scale
-scale-few f = omega arith
+scale_few f = omega arith
 
 -- the scale is the same on all cards
 pub scale_same : (c d : Card) → scale c ≡ scale d
 unfolding scale
 scale_same c d = refl
 
-pub scale-flat : (c : Card) → scale (flatten c) ≡ scale c
-scale-flat c = scale_same (flatten c) c
+pub scale_flat : (c : Card) → scale (flatten c) ≡ scale c
+scale_flat c = scale_same (flatten c) c

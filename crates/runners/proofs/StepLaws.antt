@@ -3,8 +3,8 @@
 use Rattle.std.proofs.Common.{◌≡◌, ℕ, ◌+◌, ◌-◌, ◌*◌, ◌<◌, ◌≤◌, Bool, true, false, cond, eqb, ◌↔◌, List, length, refl, ◌∙◌, arith, eqb-true}
 use mathlib.Core.Logic.Iff
 use mathlib.Core.Option.{none}
-use Rattle.card.proofs.Sums.{sum_same, sum-plus, table_at}
-use Rattle.card.proofs.Decides.{Decides, le_is, and_is, some_if-not-is, first_of-is}
+use Rattle.card.proofs.Sums.{sum_same, sum_plus, table_at}
+use Rattle.card.proofs.Decides.{Decides, le_is, and_is, some_if_not_is, first_of_is}
 use Rattle.card.specs.Card.{Card, draws, fills}
 use Rattle.runners.specs.State.{NetState, scale, entry, transfer, remaining, incidence, flow, owed, due, full_marking, covered}
 use Rattle.runners.specs.Step.{candidate, started_on, started_by, conflict_by, moves_by, advanced, arrives_by, next_by, started, conflict, moves, next}
@@ -16,9 +16,9 @@ pub record Covered (f : Card) (ms : List ℕ) (xs : List Transfer) (p : ℕ) : T
   pub has : owed f xs p ≤ entry ms p
   pub space : entry ms p + due f xs p ≤ full_marking f p
 
-pub covered-is : (f : Card) (ms : List ℕ) (xs : List Transfer) (p : ℕ) → Decides (covered f ms xs p) (Covered f ms xs p)
+pub covered_is : (f : Card) (ms : List ℕ) (xs : List Transfer) (p : ℕ) → Decides (covered f ms xs p) (Covered f ms xs p)
 unfolding covered
-covered-is f ms xs p =
+covered_is f ms xs p =
     Iff.trans (and_is _ _ _ _ (le_is (owed f xs p) (entry ms p)) (le_is (entry ms p + due f xs p) (full_marking f p)))
     (λ h. record { has = h.0; space = h.1 }, λ h. (h.has, h.space))
 
@@ -31,22 +31,22 @@ abbrev pub Within : Card → (start : ℕ → Bool) → (amount : ℕ → ℕ) �
 Within f start amount s = (t : ℕ) → t < length f.transitions → amount t ≤ remaining f (started_on start s.transfers t)
 
 -- there is no conflict just where every place is covered
-pub conflict-by : (f : Card) (start : ℕ → Bool) (s : NetState) → (conflict_by f start s ≡ none) ↔ Covers f start s
-conflict-by f start s =
-    Iff.trans (first_of-is 0 (length f.places) _ _ (λ p. some_if-not-is _ _ _ (covered-is f s.markings (started_by f start s.transfers) p)))
+pub conflict_by_is : (f : Card) (start : ℕ → Bool) (s : NetState) → (conflict_by f start s ≡ none) ↔ Covers f start s
+conflict_by_is f start s =
+    Iff.trans (first_of_is 0 (length f.places) _ _ (λ p. some_if_not_is _ _ _ (covered_is f s.markings (started_by f start s.transfers) p)))
     (λ h p l. h p (omega arith) (omega arith), λ h p a b. h p (omega arith))
 
 -- a flow of amounts that are two each is the two flows
-pub flow-split : (f : Card) (a b d : ℕ → ℕ) (way p : ℕ) → ((t : ℕ) → t < length f.transitions → a t ≡ b t + d t) → flow f a way p ≡ flow f b way p + flow f d way p
+pub flow_split : (f : Card) (a b d : ℕ → ℕ) (way p : ℕ) → ((t : ℕ) → t < length f.transitions → a t ≡ b t + d t) → flow f a way p ≡ flow f b way p + flow f d way p
 unfolding flow
-flow-split f a b d way p h =
+flow_split f a b d way p h =
     sum_same (length f.transitions) _ (λ t. b t * incidence f way t p + d t * incidence f way t p) (λ t l. rw (h t l) (omega arith))
-    ∙ sum-plus (length f.transitions) _ _
+    ∙ sum_plus (length f.transitions) _ _
 
 -- what remains of a transfer falls by what it moves
-pub remaining-advanced : (f : Card) (x : Transfer) (d : ℕ) → d ≤ remaining f x → remaining f x ≡ remaining f (advanced f x d) + d
-remaining-advanced f Idle d h = omega arith
-remaining-advanced f (Carrying c) d h = go (eqb (c + d) (scale f)) refl
+pub remaining_advanced : (f : Card) (x : Transfer) (d : ℕ) → d ≤ remaining f x → remaining f x ≡ remaining f (advanced f x d) + d
+remaining_advanced f Idle d h = omega arith
+remaining_advanced f (Carrying c) d h = go (eqb (c + d) (scale f)) refl
   where
     go : (b : Bool) → eqb (c + d) (scale f) ≡ b → scale f - c ≡ remaining f (cond b Idle (Carrying (c + d))) + d
     go true e = omega (arith, eqb-true (c + d) (scale f) e)
@@ -63,66 +63,66 @@ module _ (f : Card) (start : ℕ → Bool) (amount : ℕ → ℕ) (s : NetState)
   abbrev after : NetState
   after = next_by f start amount s row
 
-  rest-by : (t : ℕ) → t < length f.transitions → remaining f (transfer carried t) ≡ remaining f (transfer after.transfers t) + amount t
-  rest-by t l =
+  rest_by : (t : ℕ) → t < length f.transitions → remaining f (transfer carried t) ≡ remaining f (transfer after.transfers t) + amount t
+  rest_by t l =
       rw (table_at (length f.transitions) (started_on start s.transfers) Idle t l, table_at (length f.transitions) (arrives_by f start amount s.transfers) Idle t l)
-      (remaining-advanced f (started_on start s.transfers t) (amount t) (within t l))
+      (remaining_advanced f (started_on start s.transfers t) (amount t) (within t l))
 
   -- what was owed is what is still owed and what was lost, and what was due is what is still due and what was gained
-  pub owed-by : (p : ℕ) → owed f carried p ≡ owed f after.transfers p + flow f amount draws p
+  pub owed_by : (p : ℕ) → owed f carried p ≡ owed f after.transfers p + flow f amount draws p
   unfolding owed
-  owed-by p = flow-split f _ _ amount draws p rest-by
+  owed_by p = flow_split f _ _ amount draws p rest_by
 
-  pub due-by : (p : ℕ) → due f carried p ≡ due f after.transfers p + flow f amount fills p
+  pub due_by : (p : ℕ) → due f carried p ≡ due f after.transfers p + flow f amount fills p
   unfolding due
-  due-by p = flow-split f _ _ amount fills p rest-by
+  due_by p = flow_split f _ _ amount fills p rest_by
 
   -- where a place is covered with the claims of those that start:
   module _ (p : ℕ) (l : p < length f.places) (k : Covered f s.markings carried p) where
     -- RULE 50: m' = m + d · (C⁺ - C⁻)
-    pub rule-50-by : entry after.markings p + flow f amount draws p ≡ entry s.markings p + flow f amount fills p
-    rule-50-by =
-        omega (arith, k.has, owed-by p, table_at (length f.places) (λ q. entry s.markings q + flow f amount fills q - flow f amount draws q) 0 p l)
+    pub rule_50_by : entry after.markings p + flow f amount draws p ≡ entry s.markings p + flow f amount fills p
+    rule_50_by =
+        omega (arith, k.has, owed_by p, table_at (length f.places) (λ q. entry s.markings q + flow f amount fills q - flow f amount draws q) 0 p l)
 
     -- it stays covered
-    pub safe-by : Covered f after.markings after.transfers p
-    safe-by =
+    pub safe_by : Covered f after.markings after.transfers p
+    safe_by =
         record {
-          has = omega (arith, k.has, owed-by p, rule-50-by);
-          space = omega (arith, k.space, k.has, due-by p, rule-50-by);
+          has = omega (arith, k.has, owed_by p, rule_50_by);
+          space = omega (arith, k.space, k.has, due_by p, rule_50_by);
         }
 
 -- AN ACCEPTED ROW
 -- there is no conflict just where every place is covered with the candidates' claims
-pub conflict-is : (f : Card) (s : NetState) (row : List ℕ)
+pub conflict_is : (f : Card) (s : NetState) (row : List ℕ)
     → (conflict f s row ≡ none) ↔ ((p : ℕ) → p < length f.places → Covered f s.markings (started f s row) p)
 unfolding conflict started
-conflict-is f s row = conflict-by f (candidate f s row) s
+conflict_is f s row = conflict_by_is f (candidate f s row) s
 
 module _ (f : Card) (s : NetState) (row : List ℕ) where
   -- the transfers with the candidates among them
-  pub started-at : (t : ℕ) → t < length f.transitions → transfer (started f s row) t ≡ started_on (candidate f s row) s.transfers t
+  pub started_at : (t : ℕ) → t < length f.transitions → transfer (started f s row) t ≡ started_on (candidate f s row) s.transfers t
   unfolding started
-  started-at t l = table_at (length f.transitions) (started_on (candidate f s row) s.transfers) Idle t l
+  started_at t l = table_at (length f.transitions) (started_on (candidate f s row) s.transfers) Idle t l
 
-  pub moves-few : (t : ℕ) → moves f s row t ≤ remaining f (started_on (candidate f s row) s.transfers t)
+  pub moves_few : (t : ℕ) → moves f s row t ≤ remaining f (started_on (candidate f s row) s.transfers t)
   unfolding moves
-  moves-few t = omega arith
+  moves_few t = omega arith
 
-  pub owed-split : (p : ℕ) → owed f (started f s row) p ≡ owed f (next f s row).transfers p + flow f (moves f s row) draws p
+  pub owed_split : (p : ℕ) → owed f (started f s row) p ≡ owed f (next f s row).transfers p + flow f (moves f s row) draws p
   unfolding started next
-  owed-split p = owed-by f (candidate f s row) (moves f s row) s row (λ t l. moves-few t) p
+  owed_split p = owed_by f (candidate f s row) (moves f s row) s row (λ t l. moves_few t) p
 
-  pub due-split : (p : ℕ) → due f (started f s row) p ≡ due f (next f s row).transfers p + flow f (moves f s row) fills p
+  pub due_split : (p : ℕ) → due f (started f s row) p ≡ due f (next f s row).transfers p + flow f (moves f s row) fills p
   unfolding started next
-  due-split p = due-by f (candidate f s row) (moves f s row) s row (λ t l. moves-few t) p
+  due_split p = due_by f (candidate f s row) (moves f s row) s row (λ t l. moves_few t) p
 
-  pub rule-50 : conflict f s row ≡ none → (p : ℕ) → p < length f.places
+  pub rule_50 : conflict f s row ≡ none → (p : ℕ) → p < length f.places
       → entry (next f s row).markings p + flow f (moves f s row) draws p ≡ entry s.markings p + flow f (moves f s row) fills p
   unfolding started next
-  rule-50 e p l = rule-50-by f (candidate f s row) (moves f s row) s row (λ t l. moves-few t) p l ((conflict-is f s row).0 e p l)
+  rule_50 e p l = rule_50_by f (candidate f s row) (moves f s row) s row (λ t l. moves_few t) p l ((conflict_is f s row).0 e p l)
 
-  -- EVERY PLACE STAYS COVERED (`safe-step`), so no marking leaves 0 to 1000 × K
-  pub safe-step : conflict f s row ≡ none → (p : ℕ) → p < length f.places → Covered f (next f s row).markings (next f s row).transfers p
+  -- EVERY PLACE STAYS COVERED (`safe_step`), so no marking leaves 0 to 1000 × K
+  pub safe_step : conflict f s row ≡ none → (p : ℕ) → p < length f.places → Covered f (next f s row).markings (next f s row).transfers p
   unfolding started next
-  safe-step e p l = safe-by f (candidate f s row) (moves f s row) s row (λ t l. moves-few t) p l ((conflict-is f s row).0 e p l)
+  safe_step e p l = safe_by f (candidate f s row) (moves f s row) s row (λ t l. moves_few t) p l ((conflict_is f s row).0 e p l)

@@ -2,8 +2,8 @@
 use Rattle.std.proofs.Common.{◌≡◌, Bool, true, false, not, sym, ◌∙◌}
 use borrow.Author.Tests.{not-true, not-false}
 
-pub test-fails : (x a : Bool) → x ≡ a → not x ≡ true → a ≡ false
-test-fails x a e n = sym e ∙ not-true x n
+pub test_fails : (x a : Bool) → x ≡ a → not x ≡ true → a ≡ false
+test_fails x a e n = sym e ∙ not-true x n
 
-pub test-holds : (x a : Bool) → x ≡ a → not x ≡ false → a ≡ true
-test-holds x a e n = sym e ∙ not-false x n
+pub test_holds : (x a : Bool) → x ≡ a → not x ≡ false → a ≡ true
+test_holds x a e n = sym e ∙ not-false x n

@@ -90,7 +90,7 @@ start_of =
     }
 
 -- the same layout at another phase, and with other numbers
-abbrev pub layout_at : Phase → (version signals subnets subnet places transitions place-rows transition-rows arc-rows capacity : ℕ) → Layout
+abbrev pub layout_at : Phase → (version signals subnets subnet places transitions place_rows transition_rows arc_rows capacity : ℕ) → Layout
 layout_at p v g n s places transitions rows more arcs k =
     record {
       phase = p;

@@ -2,7 +2,7 @@ use Rattle.std.proofs.Common.{refl, sym, ◌∙◌}
 use mathlib.Core.Bool.{false≢true}
 use Rattle.runners.specs.Calls.{subnet_call}
 use Rattle.net_runner.specs.Slices.{slices}
-use Rattle.net_runner.proofs.SliceLaws.{called_is, subnet-on, subnet-long}
+use Rattle.net_runner.proofs.SliceLaws.{called_is, subnet_on_is, subnet_long}
 use Rattle.net_runner.proofs.net_subnet_row.Goals as goal
 
 pub returns-then-not-fits : goal.returns-then-not-fits
@@ -10,7 +10,7 @@ returns-then-not-fits c =
     let a = c.args in
     let x = slices a.markings.now a.transfers.now a.degrees.now in
     called_is
-    (sym (subnet-long a.card.now a.order.now x a.row.now (λ f. false≢true (sym c.if-not-fits.true ∙ c.fits.ensures.1 f))))
+    (sym (subnet_long a.card.now a.order.now x a.row.now (λ f. false≢true (sym c.if-not-fits.true ∙ c.fits.ensures.1 f))))
     (record { told = c.too_long.ensures; markings = refl; transfers = refl; degrees = refl })
 
 pub returns : goal.returns
@@ -19,5 +19,5 @@ returns c =
     let x = slices a.markings.now a.transfers.now a.degrees.now in
     let f = c.fits.ensures.0 c.if-not-fits.false in
     called_is
-    (subnet-on a.card.now a.order.now x c.lent-state.result (c.lent-state.ensures f) a.row.now)
+    (subnet_on_is a.card.now a.order.now x c.lent-state.result (c.lent-state.ensures f) a.row.now)
     (c.hand_back.ensures (subnet_call a.card.now a.order.now c.lent-state.result a.row.now) c.subnet_row-a.ensures f)

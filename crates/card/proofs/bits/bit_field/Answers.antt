@@ -2,12 +2,12 @@
 use Rattle.std.proofs.Common.{◌≡◌, ℕ, ◌<◌, ◌%◌, ◌^◌, rules}
 use native.Mathlib.Nat.{mod-lt}
 use lib.Pow.{pow_pos}
-use Rattle.card.proofs.BitLaws.{field-read}
+use Rattle.card.proofs.BitLaws.{field_read}
 use Rattle.card.proofs.bits.bit_field.Goals as goal
 
 -- the remainder that is the field, with q the power of two
-rest-small : (n q w : ℕ) → q ≡ 2 ^ w → n % q < 2 ^ w
-rest-small n q w e = rw e (mod-lt n (pow_pos w))
+rest_small : (n q w : ℕ) → q ≡ 2 ^ w → n % q < 2 ^ w
+rest_small n q w e = rw e (mod-lt n (pow_pos w))
 
 pub returns : goal.returns
-returns c = search (field-read, rest-small, rules)
+returns c = search (field_read, rest_small, rules)

@@ -3,8 +3,8 @@ use Rattle.std.proofs.Common.{ℕ, List, length, sym, ap, subst, ◌∙◌, arit
 use Rattle.std.proofs.lemmas.List.{length-replicate}
 use Rattle.card.specs.Index.{starts_size}
 use Rattle.card.specs.inner.Indexing.{AtSubnet, TransitionsIndexed}
-use Rattle.card.proofs.TableLaws.{no-yes}
-use Rattle.card.proofs.IndexLaws.{put_same, index-start, index_on, index_at, index-more, index-done}
+use Rattle.card.proofs.TableLaws.{no_yes}
+use Rattle.card.proofs.IndexLaws.{put_same, index_start, index_on, index_at, index_more, index_done}
 use Rattle.card.proofs.index.index.Goals as goal
 
 pub loop-s-init : goal.loop-s-init
@@ -13,13 +13,13 @@ loop-s-init c = record {
   low = omega arith;
   places = omega arith;
   transitions = omega arith;
-  indexed = λ k w d e. index-start k w c.args.numbers.now d _ c.version.result c.version.ensures c.header_fields.ensures.0 c.header_width.ensures.0;
+  indexed = λ k w d e. index_start k w c.args.numbers.now d _ c.version.result c.version.ensures c.header_fields.ensures.0 c.header_width.ensures.0;
 }
 
 pub returns-then-not-on_card : goal.returns-then-not-on_card
 returns-then-not-on_card c =
     let x = c.loop-s in
-    λ k w d e. absurd (no-yes (sym c.if-not-on_card.true ∙ c.on_card.ensures.1 (index_on k w _ d _ _ _ _ _ (x.invariant.indexed k w d e) (omega arith))))
+    λ k w d e. absurd (no_yes (sym c.if-not-on_card.true ∙ c.on_card.ensures.1 (index_on k w _ d _ _ _ _ _ (x.invariant.indexed k w d e) (omega arith))))
 
 pub loop-s-preserved : goal.loop-s-preserved
 loop-s-preserved c =
@@ -36,11 +36,11 @@ loop-s-preserved c =
       indexed = λ k w d e.
           let v = x.invariant.indexed k w d e in
           let at = index_at k w _ d _ _ _ _ _ v (omega arith) n.result m.result n.ensures m.ensures q.result q.ensures in
-          index-more k w _ d _ _ _ _ _ v (omega arith) n.result m.result n.ensures m.ensures q.result q.ensures t.new.starts t.result
+          index_more k w _ d _ _ _ _ _ v (omega arith) n.result m.result n.ensures m.ensures q.result q.ensures t.new.starts t.result
           (subst (λ (xs : List ℕ). TransitionsIndexed k x.s xs t.new.starts t.result) one.ensures (t.ensures.by_index k x.s (subst (λ (xs : List ℕ). AtSubnet k x.s c.args.numbers.now xs q.result x.transition m.result) (sym one.ensures) at)));
     }
 
 pub returns : goal.returns
 returns c =
     let x = c.loop-s in
-    λ k w d e. c.put_subnet-2.ensures ∙ index-done k w _ d _ _ _ _ _ (x.invariant.indexed k w d e) (omega arith)
+    λ k w d e. c.put_subnet-2.ensures ∙ index_done k w _ d _ _ _ _ _ (x.invariant.indexed k w d e) (omega arith)

@@ -1,13 +1,13 @@
 -- The walk stores where each transition of a subnet begins, and stays where a card can have rows.
 use Rattle.std.proofs.Common.{◌+◌, refl, sym, ◌∙◌, arith}
-use Rattle.card.proofs.TableLaws.{no-yes}
-use Rattle.card.proofs.IndexLaws.{set_long, list-start, list_on, list-few, list-more, list_done}
+use Rattle.card.proofs.TableLaws.{no_yes}
+use Rattle.card.proofs.IndexLaws.{set_long, list_start, list_on, list_few, list_more, list_done}
 use Rattle.card.proofs.index.index_transitions.Goals as goal
 
 pub returns-then-first-gt1000-clause-by_index : goal.returns-then-first-gt1000-clause-by_index
 returns-then-first-gt1000-clause-by_index c = λ k s a.
     let b = c.args in
-    let few = list-few k s b.numbers.now b.starts.now b.from b.first b.count a b.starts.now b.from b.first (list-start k s b.numbers.now b.starts.now b.from b.first b.count a) in
+    let few = list_few k s b.numbers.now b.starts.now b.from b.first b.count a b.starts.now b.from b.first (list_start k s b.numbers.now b.starts.now b.from b.first b.count a) in
     absurd (omega (arith, few))
 
 pub loop-t-init : goal.loop-t-init
@@ -15,14 +15,14 @@ loop-t-init c =
     let b = c.args in record {
       long = refl;
       low = omega arith;
-      listed = λ k s a. list-start k s b.numbers.now b.starts.now b.from b.first b.count a;
+      listed = λ k s a. list_start k s b.numbers.now b.starts.now b.from b.first b.count a;
     }
 
 pub returns-then-not-on_card-clause-by_index : goal.returns-then-not-on_card-clause-by_index
 returns-then-not-on_card-clause-by_index c =
     let b = c.args in
     let x = c.loop-t in
-    λ k s a. absurd (no-yes (sym c.if-not-on_card.true ∙ c.on_card.ensures.1 (list_on k s _ _ _ _ _ a _ _ _ (x.invariant.listed k s a))))
+    λ k s a. absurd (no_yes (sym c.if-not-on_card.true ∙ c.on_card.ensures.1 (list_on k s _ _ _ _ _ a _ _ _ (x.invariant.listed k s a))))
 
 pub loop-t-preserved : goal.loop-t-preserved
 loop-t-preserved c =
@@ -32,7 +32,7 @@ loop-t-preserved c =
     let bit = c.put_wide-in-loop-t in record {
       long = rw (bit.ensures, row.ensures) (set_long x.starts _ _ (132 + x.t) x.p.row (388 + x.t) x.p.bit refl refl ∙ x.invariant.long);
       low = omega arith;
-      listed = λ k s a. list-more k s _ _ _ _ _ a _ _ _ (x.invariant.listed k s a) c.loop-t-test.true c.arc_count.result c.arc_count.ensures _ _ c.after_transition-p.result row.ensures bit.ensures c.version.result c.version.ensures c.after_transition-p.ensures;
+      listed = λ k s a. list_more k s _ _ _ _ _ a _ _ _ (x.invariant.listed k s a) c.loop-t-test.true c.arc_count.result c.arc_count.ensures _ _ c.after_transition-p.result row.ensures bit.ensures c.version.result c.version.ensures c.after_transition-p.ensures;
     }
 
 pub returns-clause-by_index : goal.returns-clause-by_index

@@ -3,27 +3,27 @@ use Rattle.std.proofs.Common.{refl, arith}
 use Rattle.std.proofs.Math.ListN.{length-set}
 use Rattle.card.specs.Grammar.{arc}
 use Rattle.card.specs.declared.layout.Move.TheVariants.{More}
-use Rattle.card.proofs.Turn.{left-start, left-room, left-fits, left-ends, left-bad, left-more, left-done, arc-room, left-arc}
-use Rattle.card.proofs.ReadLaws.{refused-is, ended_is}
+use Rattle.card.proofs.Turn.{left_start, left_room, left_fits, left_ends, left_bad, left_more, left_done, arc_room, left_arc}
+use Rattle.card.proofs.ReadLaws.{refused_is, ended_is}
 use Rattle.card.proofs.reader.fill.Goals as goal
 
 pub loop-h-init : goal.loop-h-init
-loop-h-init c = rw c.start-l.ensures (left-start _ _ _ c.requires.0 c.requires.1)
+loop-h-init c = rw c.start-l.ensures (left_start _ _ _ c.requires.0 c.requires.1)
 
 pub bounds-numbers-n : goal.bounds-numbers-n
 bounds-numbers-n c =
     let y = c.arc_ahead.ensures c.if-arc_ahead.true in
-    omega (arith, arc-room _ _ _ _ _ _ c.loop-h.invariant y.0 y.1 _ c.arc_head-h.ensures)
+    omega (arith, arc_room _ _ _ _ _ _ c.loop-h.invariant y.0 y.1 _ c.arc_head-h.ensures)
 
 pub bounds-numbers-n-then-arc_ahead : goal.bounds-numbers-n-then-arc_ahead
 bounds-numbers-n-then-arc_ahead c =
     let y = c.arc_ahead.ensures c.if-arc_ahead.true in
-    simp length-set (omega (arith, arc-room _ _ _ _ _ _ c.loop-h.invariant y.0 y.1 _ c.arc_head-h.ensures))
+    simp length-set (omega (arith, arc_room _ _ _ _ _ _ c.loop-h.invariant y.0 y.1 _ c.arc_head-h.ensures))
 
 pub bounds-numbers-n-then-arc_ahead-2 : goal.bounds-numbers-n-then-arc_ahead-2
 bounds-numbers-n-then-arc_ahead-2 c =
     let y = c.arc_ahead.ensures c.if-arc_ahead.true in
-    simp length-set (omega (arith, arc-room _ _ _ _ _ _ c.loop-h.invariant y.0 y.1 _ c.arc_head-h.ensures))
+    simp length-set (omega (arith, arc_room _ _ _ _ _ _ c.loop-h.invariant y.0 y.1 _ c.arc_head-h.ensures))
 
 pub overflow_add-at : goal.overflow_add-at
 unfolding arc
@@ -32,45 +32,45 @@ overflow_add-at c = omega arith
 pub loop-h-smaller-then-arc_ahead : goal.loop-h-smaller-then-arc_ahead
 loop-h-smaller-then-arc_ahead c =
     let y = c.arc_ahead.ensures c.if-arc_ahead.true in
-    omega (arith, arc-room _ _ _ _ _ _ c.loop-h.invariant y.0 y.1 _ c.arc_head-h.ensures)
+    omega (arith, arc_room _ _ _ _ _ _ c.loop-h.invariant y.0 y.1 _ c.arc_head-h.ensures)
 
 pub loop-h-preserved-then-arc_ahead : goal.loop-h-preserved-then-arc_ahead
 loop-h-preserved-then-arc_ahead c =
     let y = c.arc_ahead.ensures c.if-arc_ahead.true in
-    rw (c.arc_head_width-at.ensures, c.moved-l.ensures) (left-arc _ _ _ _ _ _ c.loop-h.invariant y.0 y.1 _ c.arc_head-h.ensures)
+    rw (c.arc_head_width-at.ensures, c.moved-l.ensures) (left_arc _ _ _ _ _ _ c.loop-h.invariant y.0 y.1 _ c.arc_head-h.ensures)
 
 pub returns-then-card-at-clause-filled : goal.returns-then-card-at-clause-filled
-returns-then-card-at-clause-filled c = refused-is _ _ _ _ (left-ends _ _ _ _ _ _ _ c.loop-h.invariant c.width-w.ensures.0 (omega arith))
+returns-then-card-at-clause-filled c = refused_is _ _ _ _ (left_ends _ _ _ _ _ _ _ c.loop-h.invariant c.width-w.ensures.0 (omega arith))
 
 pub bounds-numbers-n-then-arc_goes_on : goal.bounds-numbers-n-then-arc_goes_on
-bounds-numbers-n-then-arc_goes_on c = omega (arith, left-fits _ _ _ _ _ _ _ c.loop-h.invariant c.width-w.ensures.0 (omega arith))
+bounds-numbers-n-then-arc_goes_on c = omega (arith, left_fits _ _ _ _ _ _ _ c.loop-h.invariant c.width-w.ensures.0 (omega arith))
 
 pub loop-h-smaller-then-arc_goes_on : goal.loop-h-smaller-then-arc_goes_on
-loop-h-smaller-then-arc_goes_on c = omega (arith, left-room _ _ _ _ _ _ _ c.loop-h.invariant c.width-w.ensures.0)
+loop-h-smaller-then-arc_goes_on c = omega (arith, left_room _ _ _ _ _ _ _ c.loop-h.invariant c.width-w.ensures.0)
 
 pub loop-h-preserved-then-arc_goes_on : goal.loop-h-preserved-then-arc_goes_on
 loop-h-preserved-then-arc_goes_on c =
-    left-more _ _ _ _ _ _ _ c.loop-h.invariant c.width-w.ensures.0 c.bit_field-v.result (More c.arc_step-l.result) (omega arith) c.bit_field-v.ensures.0
+    left_more _ _ _ _ _ _ _ c.loop-h.invariant c.width-w.ensures.0 c.bit_field-v.result (More c.arc_step-l.result) (omega arith) c.bit_field-v.ensures.0
     (c.arc_step-l.ensures c.bit_field-v.result) c.arc_step-l.result refl
 
 pub bounds-numbers-n-in-More : goal.bounds-numbers-n-in-More
-bounds-numbers-n-in-More c = omega (arith, left-fits _ _ _ _ _ _ _ c.loop-h.invariant c.width-w.ensures.0 (omega arith))
+bounds-numbers-n-in-More c = omega (arith, left_fits _ _ _ _ _ _ _ c.loop-h.invariant c.width-w.ensures.0 (omega arith))
 
 pub loop-h-smaller : goal.loop-h-smaller
-loop-h-smaller c = omega (arith, left-room _ _ _ _ _ _ _ c.loop-h.invariant c.width-w.ensures.0)
+loop-h-smaller c = omega (arith, left_room _ _ _ _ _ _ _ c.loop-h.invariant c.width-w.ensures.0)
 
 pub loop-h-preserved : goal.loop-h-preserved
 loop-h-preserved c =
-    left-more _ _ _ _ _ _ _ c.loop-h.invariant c.width-w.ensures.0 c.bit_field-v.result c.step.result (omega arith) c.bit_field-v.ensures.0 c.step.ensures _ c.in-More.is
+    left_more _ _ _ _ _ _ _ c.loop-h.invariant c.width-w.ensures.0 c.bit_field-v.result c.step.result (omega arith) c.bit_field-v.ensures.0 c.step.ensures _ c.in-More.is
 
 pub bounds-numbers-n-in-Done : goal.bounds-numbers-n-in-Done
-bounds-numbers-n-in-Done c = omega (arith, left-fits _ _ _ _ _ _ _ c.loop-h.invariant c.width-w.ensures.0 (omega arith))
+bounds-numbers-n-in-Done c = omega (arith, left_fits _ _ _ _ _ _ _ c.loop-h.invariant c.width-w.ensures.0 (omega arith))
 
 pub returns-in-Done-clause-filled : goal.returns-in-Done-clause-filled
 returns-in-Done-clause-filled c =
-    let d = left-done _ _ _ _ _ _ _ c.loop-h.invariant c.width-w.ensures.0 c.bit_field-v.result c.step.result (omega arith) c.bit_field-v.ensures.0 c.step.ensures _ c.in-Done.is in
+    let d = left_done _ _ _ _ _ _ _ c.loop-h.invariant c.width-w.ensures.0 c.bit_field-v.result c.step.result (omega arith) c.bit_field-v.ensures.0 c.step.ensures _ c.in-Done.is in
     ended_is _ _ _ _ _ c.ended.result d.0 d.3 d.1 c.ended.ensures
 
 pub returns-in-Bad-clause-filled : goal.returns-in-Bad-clause-filled
 returns-in-Bad-clause-filled c =
-    refused-is _ _ _ _ (left-bad _ _ _ _ _ _ _ c.loop-h.invariant c.width-w.ensures.0 c.bit_field-v.result c.step.result (omega arith) c.bit_field-v.ensures.0 c.step.ensures _ c.in-Bad.is)
+    refused_is _ _ _ _ (left_bad _ _ _ _ _ _ _ c.loop-h.invariant c.width-w.ensures.0 c.bit_field-v.result c.step.result (omega arith) c.bit_field-v.ensures.0 c.step.ensures _ c.in-Bad.is)

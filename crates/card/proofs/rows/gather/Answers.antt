@@ -3,7 +3,7 @@ use Rattle.std.proofs.Common.{ℕ, [], ◌∙◌}
 use Rattle.std.proofs.lemmas.List.{length-replicate}
 use Rattle.card.specs.Tables.{table_size}
 use Rattle.card.specs.inner.Runs.{in_order}
-use Rattle.card.proofs.TableSpell.{leads-gathered, leads-none}
+use Rattle.card.proofs.TableSpell.{leads_gathered, leads_none}
 use Rattle.card.proofs.rows.gather.Goals as goal
 
 pub returns : goal.returns
@@ -12,5 +12,5 @@ returns c =
     let a = c.args in
     let f = c.push-n in
     let g = c.push_subnets-m in
-    leads-gathered (in_order a.h a.subnets.now a.places.now a.transitions.now a.arcs.now) g.new.numbers g.result
-    (g.ensures.numbers_len_unchanged ∙ f.ensures.numbers_len_unchanged ∙ length-replicate {A = ℕ} table_size 0) (g.ensures.by_index _ (f.ensures.by_index [] (leads-none _)))
+    leads_gathered (in_order a.h a.subnets.now a.places.now a.transitions.now a.arcs.now) g.new.numbers g.result
+    (g.ensures.numbers_len_unchanged ∙ f.ensures.numbers_len_unchanged ∙ length-replicate {A = ℕ} table_size 0) (g.ensures.by_index _ (f.ensures.by_index [] (leads_none _)))

@@ -1,11 +1,11 @@
 use Rattle.std.proofs.Common.{◌≡◌, sym, subst, ◌∙◌, ℕ, arith, add-one}
 use Rattle.card.specs.Card.{first_arc}
 use Rattle.flattening.specs.inner.FlatRows.{ArcsTo}
-use Rattle.flattening.proofs.FlatRowLaws.{no-arc, no-arcs, owned, all-arcs}
+use Rattle.flattening.proofs.FlatRowLaws.{no_arc_before, no_arcs, owned, all_arcs}
 use Rattle.flattening.proofs.rows.flat_arcs.Goals as goal
 
 pub loop-t-init : goal.loop-t-init
-loop-t-init c = record { in_range = omega arith; stored = λ k m l e b. (no-arc k, no-arcs k c.args.rows.now b) }
+loop-t-init c = record { in_range = omega arith; stored = λ k m l e b. (no_arc_before k, no_arcs k c.args.rows.now b) }
 
 pub loop-t-preserved : goal.loop-t-preserved
 loop-t-preserved c = record {
@@ -18,4 +18,4 @@ loop-t-preserved c = record {
 }
 
 pub returns-clause-value : goal.returns-clause-value
-returns-clause-value c = λ k m l e b. all-arcs k m c.loop-t.t c.loop-t.a c.loop-t.rows (omega arith) (c.loop-t.invariant.stored k m l e b)
+returns-clause-value c = λ k m l e b. all_arcs k m c.loop-t.t c.loop-t.a c.loop-t.rows (omega arith) (c.loop-t.invariant.stored k m l e b)

@@ -1,5 +1,5 @@
-use Rattle.flattening.proofs.FlatPut.{head-put}
+use Rattle.flattening.proofs.FlatPut.{head_put}
 use Rattle.flattening.proofs.tables.put_head.Goals as goal
 
 pub returns : goal.returns
-returns c = search head-put
+returns c = search head_put

@@ -1,5 +1,5 @@
 use Rattle.card.specs.Index.{arc_of}
-use Rattle.hierarchy.proofs.ArcLaws.{each_start, each_more, each-single, each_fits}
+use Rattle.hierarchy.proofs.ArcLaws.{each_start, each_more, each_single, each_fits}
 use Rattle.hierarchy.proofs.arcs.beside_lower.Goals as goal
 
 pub loop-h-init : goal.loop-h-init
@@ -15,4 +15,4 @@ loop-h-preserved c =
 pub returns : goal.returns
 returns c =
     let known = c.loop-h.invariant in
-    record { single_value = each-single known.0 c.loop-h-test.false; fits_value = each_fits known.1 c.loop-h-test.false }
+    record { single_value = each_single known.0 c.loop-h-test.false; fits_value = each_fits known.1 c.loop-h-test.false }

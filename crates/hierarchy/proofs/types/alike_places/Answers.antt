@@ -1,9 +1,9 @@
 use Rattle.std.proofs.Common.{arith}
 use Rattle.card.specs.Card.{subnet_at}
 use Rattle.hierarchy.specs.inner.Likeness.{place_alike}
-use Rattle.hierarchy.proofs.LoadedLaws.{kind-of, capacity-of}
-use Rattle.hierarchy.proofs.WalkLaws.{compared-fails, compared-end}
-use Rattle.hierarchy.proofs.TypeLaws.{kinds-differ, capacities-differ}
+use Rattle.hierarchy.proofs.LoadedLaws.{kind_of_is, capacity_of}
+use Rattle.hierarchy.proofs.WalkLaws.{compared_fails, compared_end}
+use Rattle.hierarchy.proofs.TypeLaws.{kinds_differ, capacities_differ}
 use Rattle.hierarchy.proofs.types.alike_places.Goals as goal
 
 pub returns-then-kind : goal.returns-then-kind
@@ -16,9 +16,9 @@ returns-then-kind c =
     let y = c.kind-in-loop-n in
     λ d h l m.
     let g = z.invariant d h l m in
-    compared-fails (subnet_at d a.r).places (subnet_at d a.s).places c.place_count-places.result z.n (place_alike d a.r a.s) g c.loop-n-test.true (kinds-differ d a.r a.s z.n x.result y.result
-    (kind-of d a.numbers.now a.starts.now h a.r v.result z.n x.result l (omega arith) v.ensures x.ensures)
-    (kind-of d a.numbers.now a.starts.now h a.s w.result z.n y.result m (omega arith) w.ensures y.ensures)
+    compared_fails (subnet_at d a.r).places (subnet_at d a.s).places c.place_count-places.result z.n (place_alike d a.r a.s) g c.loop-n-test.true (kinds_differ d a.r a.s z.n x.result y.result
+    (kind_of_is d a.numbers.now a.starts.now h a.r v.result z.n x.result l (omega arith) v.ensures x.ensures)
+    (kind_of_is d a.numbers.now a.starts.now h a.s w.result z.n y.result m (omega arith) w.ensures y.ensures)
     c.if-kind.true)
 
 pub returns-then-capacity : goal.returns-then-capacity
@@ -31,13 +31,13 @@ returns-then-capacity c =
     let y = c.capacity-in-loop-n in
     λ d h l m.
     let g = z.invariant d h l m in
-    compared-fails (subnet_at d a.r).places (subnet_at d a.s).places c.place_count-places.result z.n (place_alike d a.r a.s) g c.loop-n-test.true (capacities-differ d a.r a.s z.n x.result y.result
-    (capacity-of d a.numbers.now a.starts.now h a.r v.result z.n x.result l (omega arith) v.ensures x.ensures)
-    (capacity-of d a.numbers.now a.starts.now h a.s w.result z.n y.result m (omega arith) w.ensures y.ensures)
+    compared_fails (subnet_at d a.r).places (subnet_at d a.s).places c.place_count-places.result z.n (place_alike d a.r a.s) g c.loop-n-test.true (capacities_differ d a.r a.s z.n x.result y.result
+    (capacity_of d a.numbers.now a.starts.now h a.r v.result z.n x.result l (omega arith) v.ensures x.ensures)
+    (capacity_of d a.numbers.now a.starts.now h a.s w.result z.n y.result m (omega arith) w.ensures y.ensures)
     c.if-capacity.true)
 
 pub returns : goal.returns
 returns c =
     let a = c.args in
     let z = c.loop-n in
-    λ d h l m. compared-end (subnet_at d a.r).places (subnet_at d a.s).places c.place_count-places.result z.n (place_alike d a.r a.s) (z.invariant d h l m) c.loop-n-test.false
+    λ d h l m. compared_end (subnet_at d a.r).places (subnet_at d a.s).places c.place_count-places.result z.n (place_alike d a.r a.s) (z.invariant d h l m) c.loop-n-test.false

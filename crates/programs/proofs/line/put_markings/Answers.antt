@@ -1,11 +1,11 @@
 use Rattle.std.proofs.Common.{◌≡◌, length, refl, arith, rules}
 use Rattle.programs.specs.Text.{decimal}
-use Rattle.programs.proofs.LineLaws.{words-none, word_more}
+use Rattle.programs.proofs.LineLaws.{words_none, word_more}
 use Rattle.programs.proofs.line.put_markings.Goals as goal
 
 pub loop-i-init : goal.loop-i-init
 loop-i-init c = record {
-  puts = words-none decimal c.args.state.markings _ _;
+  puts = words_none decimal c.args.state.markings _ _;
   most = omega arith;
   within = omega arith;
   counted = omega arith;

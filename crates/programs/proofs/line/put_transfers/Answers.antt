@@ -5,12 +5,12 @@ use Rattle.runners.specs.declared.Slot.{Slot}
 use Rattle.runners.specs.declared.Transfer.TheVariants.{Idle}
 use Rattle.runners.specs.Calls.{slot}
 use Rattle.programs.specs.Lines.{transfer_word}
-use Rattle.programs.proofs.LineLaws.{words-none, word_more}
+use Rattle.programs.proofs.LineLaws.{words_none, word_more}
 use Rattle.programs.proofs.line.put_transfers.Goals as goal
 
 pub loop-i-init : goal.loop-i-init
 loop-i-init c = record {
-  puts = words-none transfer_word (map (λ (x : Slot). x.transfer) c.args.state.slots) _ _;
+  puts = words_none transfer_word (map (λ (x : Slot). x.transfer) c.args.state.slots) _ _;
   most = omega arith;
   within = omega arith;
   counted = omega arith;

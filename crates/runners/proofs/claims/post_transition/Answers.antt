@@ -3,18 +3,18 @@ use Rattle.card.specs.Card.{draws, fills}
 use Rattle.flattening.specs.Flattening.{flatten}
 use Rattle.runners.specs.State.{incidence}
 use Rattle.runners.proofs.OwnerLaws.{listed}
-use Rattle.runners.proofs.ClaimLaws.{begins, grown-idle}
+use Rattle.runners.proofs.ClaimLaws.{begins, grown_idle}
 use Rattle.runners.proofs.claims.post_transition.Goals as goal
 
 pub returns-then-part-eq0-clause-owed_grown : goal.returns-then-part-eq0-clause-owed_grown
 returns-then-part-eq0-clause-owed_grown c =
     let a = c.args in
-    λ k h b. grown-idle a.part (incidence (flatten k) draws a.t) a.owed.now c.if-part-eq0.true
+    λ k h b. grown_idle a.part (incidence (flatten k) draws a.t) a.owed.now c.if-part-eq0.true
 
 pub returns-then-part-eq0-clause-due_grown : goal.returns-then-part-eq0-clause-due_grown
 returns-then-part-eq0-clause-due_grown c =
     let a = c.args in
-    λ k h b. grown-idle a.part (incidence (flatten k) fills a.t) a.due.now c.if-part-eq0.true
+    λ k h b. grown_idle a.part (incidence (flatten k) fills a.t) a.due.now c.if-part-eq0.true
 
 pub returns-clause-owed_grown : goal.returns-clause-owed_grown
 returns-clause-owed_grown c =

@@ -3,7 +3,7 @@ use Rattle.std.proofs.Common.{ℕ, [], replicate, refl, arith}
 use lib.ListN.{length-replicate}
 use Rattle.card.proofs.Turn.{zero_in}
 use Rattle.runners.specs.Columns.{columns}
-use Rattle.runners.proofs.GuardLaws.{covered-verdict}
+use Rattle.runners.proofs.GuardLaws.{covered_verdict}
 use Rattle.runners.proofs.guards.all_covered.Goals as goal
 
 pub returns-then-state-gt-MOST_PLACES : goal.returns-then-state-gt-MOST_PLACES
@@ -19,6 +19,6 @@ returns c =
     let d = c.codes-transfers in
     let u = c.uncovered in
     λ k t f h.
-    covered-verdict k a.state h t.meets a.full.now f (replicate 255 0) (length-replicate {A = ℕ} 255 0) (zero_in 255)
+    covered_verdict k a.state h t.meets a.full.now f (replicate 255 0) (length-replicate {A = ℕ} 255 0) (zero_in 255)
     (columns [] d.result [] [] (replicate 255 0) (replicate 255 0) [] [] []) _ d.ensures refl refl
     (p.ensures.on_standing [] [] [] [] [] [] k t (omega arith) (omega (arith, h.transitions))) u.result u.ensures

@@ -1,18 +1,18 @@
 -- `runners::guards::degrees_in_range` meets its contract.
 use Rattle.std.proofs.Common.{ℕ, true, nat_le, arith, le-leb}
-use Rattle.hierarchy.proofs.WalkLaws.{below-start, below_more}
+use Rattle.hierarchy.proofs.WalkLaws.{below_start, below_more}
 use Rattle.runners.specs.State.{entry}
-use Rattle.runners.proofs.GuardLaws.{degrees-bad, degrees-good}
+use Rattle.runners.proofs.GuardLaws.{degrees_bad, degrees_good}
 use Rattle.runners.proofs.guards.degrees_in_range.Goals as goal
 
 pub loop-g-init : goal.loop-g-init
-loop-g-init c = below-start _ true
+loop-g-init c = below_start _ true
 
 pub returns-then-g-ge-MOST_SIGNALS : goal.returns-then-g-ge-MOST_SIGNALS
 returns-then-g-ge-MOST_SIGNALS c = λ k u h b. absurd (omega (arith, h.signals))
 
 pub returns-then-scale-state : goal.returns-then-scale-state
-returns-then-scale-state c = λ k u h b. degrees-bad k c.args.state h _ c.loop-g.g u c.loop-g-test.true c.if-scale-state.true
+returns-then-scale-state c = λ k u h b. degrees_bad k c.args.state h _ c.loop-g.g u c.loop-g-test.true c.if-scale-state.true
 
 pub loop-g-preserved : goal.loop-g-preserved
 loop-g-preserved c =
@@ -22,4 +22,4 @@ loop-g-preserved c =
 pub returns : goal.returns
 returns c =
     let z = c.loop-g in
-    λ k u h b. degrees-good k c.args.state h _ z.g u c.loop-g-test.false z.invariant
+    λ k u h b. degrees_good k c.args.state h _ z.g u c.loop-g-test.false z.invariant

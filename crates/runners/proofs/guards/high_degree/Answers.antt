@@ -1,24 +1,24 @@
 -- `runners::guards::high_degree` meets its contract.
 use Rattle.std.proofs.Common.{false, arith, le-ltb, lt-ltb}
-use Rattle.hierarchy.proofs.WalkLaws.{below-start, below_more}
-use Rattle.runners.proofs.GuardLaws.{high, high-past}
-use Rattle.runners.proofs.VerdictLaws.{past-found, past-none}
+use Rattle.hierarchy.proofs.WalkLaws.{below_start, below_more}
+use Rattle.runners.proofs.GuardLaws.{high, high_past}
+use Rattle.runners.proofs.VerdictLaws.{past_found, past_none}
 use Rattle.runners.proofs.guards.high_degree.Goals as goal
 
 pub loop-g-init : goal.loop-g-init
-loop-g-init c = below-start _ false
+loop-g-init c = below_start _ false
 
 pub returns-then-row-i : goal.returns-then-row-i
 returns-then-row-i c =
     let a = c.args in
     let z = c.loop-g in
-    past-none a.signals a.signals (high a.scale a.row.now) (high-past a.scale a.row.now z.g a.signals z.invariant c.if-row-i.true) (omega arith)
+    past_none a.signals a.signals (high a.scale a.row.now) (high_past a.scale a.row.now z.g a.signals z.invariant c.if-row-i.true) (omega arith)
 
 pub returns-then-scale-row : goal.returns-then-scale-row
 returns-then-scale-row c =
     let a = c.args in
     let z = c.loop-g in
-    past-found a.signals z.g (high a.scale a.row.now) z.invariant c.loop-g-test.true (lt-ltb _ _ c.if-scale-row.true)
+    past_found a.signals z.g (high a.scale a.row.now) z.invariant c.loop-g-test.true (lt-ltb _ _ c.if-scale-row.true)
 
 pub loop-g-preserved : goal.loop-g-preserved
 loop-g-preserved c =
@@ -29,4 +29,4 @@ pub returns : goal.returns
 returns c =
     let a = c.args in
     let z = c.loop-g in
-    past-none a.signals z.g (high a.scale a.row.now) z.invariant c.loop-g-test.false
+    past_none a.signals z.g (high a.scale a.row.now) z.invariant c.loop-g-test.false

@@ -2,8 +2,8 @@
 use Rattle.std.proofs.Common.{ℕ, sym, refl, subst, add-zero, arith}
 use Rattle.card.specs.Card.{first_place}
 use Rattle.runners.specs.inner.Markings.{FilledTo}
-use Rattle.runners.proofs.ClaimLaws.{product-fits}
-use Rattle.runners.proofs.MarkingLaws.{subnet-more, subnet-end}
+use Rattle.runners.proofs.ClaimLaws.{product_fits}
+use Rattle.runners.proofs.MarkingLaws.{subnet_more, subnet_end}
 use Rattle.runners.proofs.places.fill_subnet.Goals as goal
 
 pub loop-n-init : goal.loop-n-init
@@ -13,7 +13,7 @@ loop-n-init c = record {
 }
 
 pub overflow_mul-scale : goal.overflow_mul-scale
-overflow_mul-scale c = omega (arith, product-fits c.args.scale c.number_of-number.result (omega arith) (omega arith))
+overflow_mul-scale c = omega (arith, product_fits c.args.scale c.number_of-number.result (omega arith) (omega arith))
 
 pub loop-n-preserved : goal.loop-n-preserved
 loop-n-preserved c =
@@ -22,7 +22,7 @@ loop-n-preserved c =
     let w = c.number_of-number in
     record {
       in_count = omega arith;
-      filled = λ k ss s h u b er ef x. subnet-more k h.meets a.numbers.now ss h.loaded s b a.which a.row a.first c.place_count-count.result l.n _ a.scale w.result l.column _ er ef c.place_count-count.ensures c.loop-n-test.true
+      filled = λ k ss s h u b er ef x. subnet_more k h.meets a.numbers.now ss h.loaded s b a.which a.row a.first c.place_count-count.result l.n _ a.scale w.result l.column _ er ef c.place_count-count.ensures c.loop-n-test.true
           (λ d. w.ensures k ss s h.loaded b er d) refl u c.put_wide.ensures (l.invariant.filled k ss s h u b er ef x);
     }
 
@@ -31,4 +31,4 @@ returns-clause-filled_to c =
     let a = c.args in
     let l = c.loop-n in
     let n = c.place_count-count in
-    λ k ss s h u b er ef x. subnet-end k h.meets a.numbers.now ss h.loaded s b a.which a.row n.result l.n l.column er n.ensures l.invariant.in_count c.loop-n-test.false (l.invariant.filled k ss s h u b er ef x)
+    λ k ss s h u b er ef x. subnet_end k h.meets a.numbers.now ss h.loaded s b a.which a.row n.result l.n l.column er n.ensures l.invariant.in_count c.loop-n-test.false (l.invariant.filled k ss s h u b er ef x)

@@ -2,13 +2,13 @@
 use Rattle.std.proofs.Common.{refl, ◌∙◌, arith}
 use Rattle.runners.specs.Columns.{columns}
 use Rattle.runners.specs.Visits.{posting, step_turn}
-use Rattle.runners.proofs.RoundLaws.{round-start, round-more, round-all}
+use Rattle.runners.proofs.RoundLaws.{round_start, round_more, round_all}
 use Rattle.runners.proofs.rounds.post_all.Goals as goal
 
 pub loop-n-init : goal.loop-n-init
 loop-n-init c =
     let a = c.args in
-    (refl, refl, omega arith, λ ms last row drawn filled cs k before h e i. round-start posting (step_turn k before row) a.order.now (columns ms a.transfers.now last row a.owed.now a.due.now drawn filled cs))
+    (refl, refl, omega arith, λ ms last row drawn filled cs k before h e i. round_start posting (step_turn k before row) a.order.now (columns ms a.transfers.now last row a.owed.now a.due.now drawn filled cs))
 
 pub loop-n-preserved : goal.loop-n-preserved
 loop-n-preserved c =
@@ -19,7 +19,7 @@ loop-n-preserved c =
       v.ensures.due_len_unchanged ∙ l.invariant.1,
       omega (arith, c.loop-n-test.true),
       λ ms last row drawn filled cs k before h e i.
-          round-more posting k before a.order.now l.n a.numbers.now a.starts.now (columns ms a.transfers.now last row a.owed.now a.due.now drawn filled cs) (columns ms a.transfers.now last row l.owed l.due drawn filled cs) _
+          round_more posting k before a.order.now l.n a.numbers.now a.starts.now (columns ms a.transfers.now last row a.owed.now a.due.now drawn filled cs) (columns ms a.transfers.now last row l.owed l.due drawn filled cs) _
           h e c.loop-n-test.true i (l.invariant.3 ms last row drawn filled cs k before h e i) (v.ensures.on_standing ms last row drawn filled cs),
     )
 
@@ -28,4 +28,4 @@ returns-clause-on_standing c =
     let a = c.args in
     let l = c.loop-n in
     λ ms last row drawn filled cs k before h e i.
-    round-all posting (step_turn k before row) a.order.now l.n _ _ h.meets e (omega (arith, l.invariant.2, c.loop-n-test.false)) (l.invariant.3 ms last row drawn filled cs k before h e i)
+    round_all posting (step_turn k before row) a.order.now l.n _ _ h.meets e (omega (arith, l.invariant.2, c.loop-n-test.false)) (l.invariant.3 ms last row drawn filled cs k before h e i)

@@ -2,7 +2,7 @@
 use Rattle.std.proofs.Common.{rules, ◌≡◌, Bool, false, [], length, arith}
 use Rattle.std.proofs.Math.ListN.{length-replicate}
 use Rattle.runners.specs.Calls.{view}
-use Rattle.runners.proofs.StepRow.{begins, row-conflict, free_of, turn-move, row_moved}
+use Rattle.runners.proofs.StepRow.{begins, row_conflict, free_of, turn_move, row_moved}
 use Rattle.runners.proofs.row.step.Goals as goal
 
 pub returns-then-p-places : goal.returns-then-p-places
@@ -12,7 +12,7 @@ returns-then-p-places c =
     let f = c.find_conflict-p in
     λ k n v o rl.
     let g = f.ensures.found k (view a.state) n.tables n.full n.sizes.places o (begins k n.tables.meets a.state v a.row.now x.result x.ensures) (length-replicate {A = Bool} 255 false) in
-    row-conflict k (view a.state) a.row.now f.result a.sizes.places n.sizes.places g.conflicts a.state _ c.refuse.result c.refuse.ensures c.if-p-places.true
+    row_conflict k (view a.state) a.row.now f.result a.sizes.places n.sizes.places g.conflicts a.state _ c.refuse.result c.refuse.ensures c.if-p-places.true
 
 pub returns : goal.returns
 returns c =
@@ -24,7 +24,7 @@ returns c =
     λ k n v o rl.
     let g = f.ensures.found k (view a.state) n.tables n.full n.sizes.places o (begins k n.tables.meets a.state v a.row.now x.result x.ensures) (length-replicate {A = Bool} 255 false) in
     let cs = f.new.candidates in
-    let p3 = c.move_all.ensures.on_state [] [] [] [] k (view a.state) n.tables o (turn-move k n.tables.meets a.state v a.row.now x.result x.ensures [] [] [] [] cs g.candidates) in
+    let p3 = c.move_all.ensures.on_state [] [] [] [] k (view a.state) n.tables o (turn_move k n.tables.meets a.state v a.row.now x.result x.ensures [] [] [] [] cs g.candidates) in
     row_moved k n.tables.meets a.state v a.row.now x.result x.ensures [] [] [] [] cs g.candidates _ _ c.record_degrees-after.result c.stored.result p3 c.stored.ensures
     (c.record_degrees-after.ensures (omega (arith, rl, n.tables.meets.wellformed.few_signals))) rl
     (free_of k (view a.state) a.row.now f.result a.sizes.places n.sizes.places g.conflicts c.if-p-places.false)

@@ -1,14 +1,14 @@
 -- `runners::transfers::stored` meets its contract.
 use Rattle.std.proofs.Common.{refl, ◌∙◌, arith, length-set, rules}
 use Rattle.runners.specs.Calls.{slot}
-use Rattle.runners.proofs.TransferLaws.{stored-start, stored_more, stored-all}
+use Rattle.runners.proofs.TransferLaws.{stored_start, stored_more, stored_all}
 use Rattle.runners.proofs.transfers.stored.Goals as goal
 
 pub loop-t-init : goal.loop-t-init
 loop-t-init c = record {
   in_state = omega arith;
   room = search rules;
-  to = stored-start c.args.state.slots c.args.codes;
+  to = stored_start c.args.state.slots c.args.codes;
   markings = refl;
   degrees = refl;
   places = refl;
@@ -20,7 +20,7 @@ pub returns-then-t-ge-MOST_TRANSITIONS : goal.returns-then-t-ge-MOST_TRANSITIONS
 returns-then-t-ge-MOST_TRANSITIONS c =
     let l = c.loop-t in
     let i = l.invariant in
-    stored-all c.args.state c.args.markings c.args.codes l.t l.next i.to (omega arith) (λ u d q. omega arith) i.markings i.degrees i.places i.transitions i.signals
+    stored_all c.args.state c.args.markings c.args.codes l.t l.next i.to (omega arith) (λ u d q. omega arith) i.markings i.degrees i.places i.transitions i.signals
 
 pub loop-t-preserved : goal.loop-t-preserved
 loop-t-preserved c =
@@ -43,4 +43,4 @@ pub returns : goal.returns
 returns c =
     let l = c.loop-t in
     let i = l.invariant in
-    stored-all c.args.state c.args.markings c.args.codes l.t l.next i.to (omega arith) (λ u d q. omega arith) i.markings i.degrees i.places i.transitions i.signals
+    stored_all c.args.state c.args.markings c.args.codes l.t l.next i.to (omega arith) (λ u d q. omega arith) i.markings i.degrees i.places i.transitions i.signals

@@ -4,7 +4,7 @@ use Rattle.card.specs.Card.{draws, fills}
 use Rattle.flattening.specs.Flattening.{flatten}
 use Rattle.runners.specs.State.{incidence}
 use Rattle.runners.specs.Columns.{columns, state_in}
-use Rattle.runners.proofs.OneLaws.{grown-by}
+use Rattle.runners.proofs.OneLaws.{grown_by}
 use Rattle.runners.proofs.visits.find_one.Goals as goal
 
 pub returns-clause-on_candidates : goal.returns-clause-on_candidates
@@ -18,7 +18,7 @@ returns-clause-on_candidates c =
     let e = n.ensures ∙ ap₂ (λ (v : Bool) (m : ℕ). cond v m 0) q es in
     record {
       only = refl;
-      drawn = grown-by n.result _ (incidence (flatten k) draws a.t) a.drawn.now _ e (p.ensures.owed_grown k h b);
-      filled = grown-by n.result _ (incidence (flatten k) fills a.t) a.filled.now _ e (p.ensures.due_grown k h b);
+      drawn = grown_by n.result _ (incidence (flatten k) draws a.t) a.drawn.now _ e (p.ensures.owed_grown k h b);
+      filled = grown_by n.result _ (incidence (flatten k) fills a.t) a.filled.now _ e (p.ensures.due_grown k h b);
       candidates = c.note.ensures ∙ ap (λ (v : Bool). set a.candidates.now a.t v) q;
     }

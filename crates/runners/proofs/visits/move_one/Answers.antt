@@ -7,7 +7,7 @@ use Rattle.runners.specs.Step.{advanced}
 use Rattle.runners.specs.Columns.{noted, code_of, columns, state_in}
 use Rattle.runners.specs.declared.Transfer.{Transfer}
 use Rattle.runners.specs.declared.Transfer.TheVariants.{Carrying}
-use Rattle.runners.proofs.OneLaws.{moved_by, moves-within}
+use Rattle.runners.proofs.OneLaws.{moved_by, moves_within}
 use Rattle.runners.proofs.visits.move_one.Goals as goal
 
 pub returns-clause-on_state : goal.returns-clause-on_state
@@ -22,5 +22,5 @@ returns-clause-on_state c =
     record {
       only = refl;
       markings = moved_by d.result _ (incidence (flatten k) draws a.t) (incidence (flatten k) fills a.t) a.markings.now _ e (c.move_transition.ensures.moved k h b);
-      transfers = c.put_transfer.ensures ∙ ap (λ (y : Transfer). set a.transfers.now a.t (code_of y)) (c.advanced.ensures (flatten k) es (moves-within (flatten k) s (noted a.candidates.now) a.row.now a.t _ _ e x) ∙ ap₂ (advanced (flatten k)) x e);
+      transfers = c.put_transfer.ensures ∙ ap (λ (y : Transfer). set a.transfers.now a.t (code_of y)) (c.advanced.ensures (flatten k) es (moves_within (flatten k) s (noted a.candidates.now) a.row.now a.t _ _ e x) ∙ ap₂ (advanced (flatten k)) x e);
     }

@@ -2,13 +2,13 @@
 use Rattle.std.proofs.Common.{refl, ◌∙◌, arith}
 use Rattle.runners.specs.Columns.{columns}
 use Rattle.runners.specs.Visits.{moving, turn_in}
-use Rattle.runners.proofs.SpanLaws.{span-start, span_more, span-end}
+use Rattle.runners.proofs.SpanLaws.{span_start, span_more, span_end}
 use Rattle.runners.proofs.visits.move_span.Goals as goal
 
 pub loop-t-init : goal.loop-t-init
 loop-t-init c =
     let a = c.args in
-    (refl, refl, omega arith, λ owed due drawn filled k h l b. (l, span-start moving (turn_in k (columns a.markings.now a.transfers.now a.degrees.now a.row.now owed due drawn filled a.candidates.now)) a.first (columns a.markings.now a.transfers.now a.degrees.now a.row.now owed due drawn filled a.candidates.now)))
+    (refl, refl, omega arith, λ owed due drawn filled k h l b. (l, span_start moving (turn_in k (columns a.markings.now a.transfers.now a.degrees.now a.row.now owed due drawn filled a.candidates.now)) a.first (columns a.markings.now a.transfers.now a.degrees.now a.row.now owed due drawn filled a.candidates.now)))
 
 pub loop-t-preserved : goal.loop-t-preserved
 loop-t-preserved c =
@@ -30,4 +30,4 @@ pub returns-clause-on_state : goal.returns-clause-on_state
 returns-clause-on_state c =
     let a = c.args in
     let l = c.loop-t in
-    λ owed due drawn filled k h f b. let g = l.invariant.3 owed due drawn filled k h f b in span-end moving k a.first l.t a.end _ _ (omega (arith, g.0, c.loop-t-test.false)) g.1
+    λ owed due drawn filled k h f b. let g = l.invariant.3 owed due drawn filled k h f b in span_end moving k a.first l.t a.end _ _ (omega (arith, g.0, c.loop-t-test.false)) g.1
