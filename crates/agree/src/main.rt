@@ -35,7 +35,7 @@ fn put_answer(rt: &HostRuntime, card: &[u8], calls: &[u8]) {
 fn main(rt: HostRuntime) {
     let mut card = [0; INPUT_BYTES];
     let mut calls = [0; 65536];
-    let n = read_file(&rt, "net.card", &mut card);
+    let n = read_file(&rt, b"net.card", &mut card);
     let m = read_input(&rt, &mut calls);
     put_answer(&rt, &card[..n], &calls[..m]);
 }

@@ -10,6 +10,7 @@ ghost use Rattle.std.specs.Prelude.{◌≡◌, length};
 ghost use Rattle.console.specs.Counts.{IsPrefixLen};
 
 use std::fs;
+use std::fs::File;
 use std::io::{Print, Read};
 
 // Reads once; no bytes where the read fails.
@@ -39,13 +40,19 @@ fn read_full<R: Read>(source: &mut R, buffer: &mut [u8]) -> usize
     done
 }
 
+// The file of that name, if it can be opened. The library opens names of UTF-8 alone.
+fn opened(rt: &HostRuntime, name: &[u8]) -> Option<File> {
+    let text = str::from_utf8(name).ok()?;
+    fs::open(rt, text).ok()
+}
+
 // Reads a file from its start until the buffer is full or the file ends; no bytes where there is no such file. Ruled out: the length of a
 // file that is longer than the buffer; a byte of a file that is not there, which a buffer of no bytes has no room for.
-pub fn read_file(rt: &HostRuntime, name: &str, buffer: &mut [u8]) -> usize
+pub fn read_file(rt: &HostRuntime, name: &[u8], buffer: &mut [u8]) -> usize
     ensures prefix_len { IsPrefixLen result buffer.new }
     ensures buffer_len_unchanged { length buffer.new ≡ length buffer.old }
 {
-    let Ok(mut file) = fs::open(rt, name) else {
+    let Some(mut file) = opened(rt, name) else {
         return 0;
     };
     read_full(&mut file, buffer)

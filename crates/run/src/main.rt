@@ -73,7 +73,7 @@ fn put_rows(rt: &HostRuntime, net: Net, first: Progress) {
 
 fn main(rt: HostRuntime) {
     let mut card = [0; INPUT_BYTES];
-    let n = read_file(&rt, "net.card", &mut card);
+    let n = read_file(&rt, b"net.card", &mut card);
     let s = begin(&card[..n]);
     let line = s.line;
     put_line(&rt, line);
