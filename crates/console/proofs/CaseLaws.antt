@@ -6,7 +6,7 @@ use mathlib.Core.List.{List, ◌++◌}
 use borrow.Author.Count.{below_none, below_more}
 use lib.ListN.{length, get_or, set, take, drop, length-set, length-take, length-append}
 use lib.Seq.{get_or-set_same, get_or-set_other}
-use Rattle.console.specs.Counts.{IsPrefixLen}
+use Rattle.io.specs.Counts.{IsPrefixLen}
 use Rattle.console.specs.Cases.{number_at, IsNumbers}
 
 pub counts : (n : ℕ) (bytes : List ℕ) → n ≤ length bytes → IsPrefixLen n bytes

@@ -1,7 +1,7 @@
 // Cases on standard input, as the programs for the tests read them: a kind, a byte, and a length, a 16-bit number, and then so many bytes.
 // Numbers are of 16 bits, most significant byte first.
 ghost use Rattle.std.specs.Prelude.{◌≡◌, ◌/◌, ◌<◌, min, length, get_or};
-ghost use Rattle.console.specs.Counts.{IsPrefixLen};
+ghost use Rattle.io.specs.Counts.{IsPrefixLen};
 ghost use Rattle.console.specs.Cases.{number_at, IsNumbers, IsRest};
 
 use crate::read_input;

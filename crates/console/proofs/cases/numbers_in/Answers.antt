@@ -1,5 +1,5 @@
-use Rattle.std.proofs.Common.{rules, arith, ◌<◌, length}
-use Rattle.console.proofs.CaseLaws.{filled_none, filled_more, filled_end, filled_counts}
+use Rattle.std.proofs.Common.{arith, ◌<◌, length}
+use Rattle.console.proofs.CaseLaws.{filled_none, filled_more}
 use Rattle.console.proofs.cases.numbers_in.Goals as goal
 
 pub loop-i-init : goal.loop-i-init
