@@ -10,7 +10,6 @@ use Rattle.runners.proofs.MovedLaws.{moved_alike}
 self_view : (r : Round) (s : ℕ) (i : Turn) → SameView r s i i
 self_view r s i =
     record {
-      version = refl;
       first = refl;
       count = refl;
       transitions = λ t o. record { row = refl; arcs = λ n l. refl; transfers = refl };
@@ -19,6 +18,7 @@ self_view r s i =
       row = λ g l. refl;
       degrees = λ g l. refl;
       found = λ e t o. refl;
+      version = λ e. refl;
     }
 
 module _ (s : ℕ) (c d : Card) (a a' b b' : Columns) (first : first_transition c s ≡ first_transition d s) (count : (subnet_at c s).transitions ≡ (subnet_at d s).transitions) where

@@ -104,7 +104,7 @@ module _ (r : Round) (s : ℕ) (i j : Turn) (m : Meets i.card) (below : s < leng
   -- the third visit
   asked_same : r ≡ moving → (t : ℕ) → OwnsTransition i.card s t → asked_on f i.found i.state.degrees i.row t ≡ asked_on g j.found j.state.degrees j.row t
   unfolding flatten start_move
-  asked_same e t o = rw (v.found e t o, v.version, degree_same t o, last_same t o)
+  asked_same e t o = rw (v.found e t o, v.version e, degree_same t o, last_same t o)
 
   moves_same : r ≡ moving → (t : ℕ) → OwnsTransition i.card s t → moves_on f i.found i.state i.row t ≡ moves_on g j.found j.state j.row t
   moves_same e t o =
@@ -167,7 +167,6 @@ module _ (s : ℕ) (i j : Turn) (m : Meets i.card) (below : s < length i.card.su
 pub turn_view : (r : Round) (s : ℕ) (i : Turn) (before : NetState) → InTurn r s i before → SameView r s i (step_turn i.card before i.row)
 turn_view r s i before h =
     record {
-      version = refl;
       first = refl;
       count = refl;
       transitions = λ t o. record { row = refl; arcs = λ n l. refl; transfers = h.transfers t o };
@@ -176,6 +175,7 @@ turn_view r s i before h =
       row = λ g l. refl;
       degrees = h.degrees;
       found = h.found;
+      version = λ e. refl;
     }
 
 -- at a place that is not seen no own arc has a weight

@@ -56,10 +56,10 @@ pub record SamePlace (i j : Turn) (q n : ℕ) : Type 0 where
   pub owed : i.standing.owed (first_place i.card q + n) ≡ j.standing.owed (first_place j.card q + n)
   pub due : i.standing.due (first_place i.card q + n) ≡ j.standing.due (first_place j.card q + n)
 
--- the version (CR 3: which a visit may read), its transitions with their flat numbers, the places it sees (their contents in the second visit only,
--- the only one that reads them), the row with the last degrees, and in the third visit also the candidates that its second one found
+-- its transitions with their flat numbers, the places it sees (their contents in the second visit only, the only one that reads them), the row
+-- with the last degrees, and in the third visit also the candidates that its second one found, and the version (CR 3: which a visit may read; the
+-- others do not)
 pub record SameView (r : Round) (s : ℕ) (i j : Turn) : Type 0 where
-  pub version : i.card.version ≡ j.card.version
   pub first : first_transition i.card s ≡ first_transition j.card s
   pub count : (subnet_at i.card s).transitions ≡ (subnet_at j.card s).transitions
   pub transitions : (t : ℕ) → OwnsTransition i.card s t → SameTransition i j t
@@ -68,6 +68,7 @@ pub record SameView (r : Round) (s : ℕ) (i j : Turn) : Type 0 where
   pub row : (g : ℕ) → g < i.card.signals → entry i.row g ≡ entry j.row g
   pub degrees : (g : ℕ) → g < i.card.signals → entry i.state.degrees g ≡ entry j.state.degrees g
   pub found : r ≡ moving → (t : ℕ) → OwnsTransition i.card s t → i.found t ≡ j.found t
+  pub version : r ≡ moving → i.card.version ≡ j.card.version
 
 -- The step, judged on the state before the row: its own claims and candidates.
 abbrev pub step_turn : Card → (before : NetState) → (row : List ℕ) → Turn
