@@ -56,19 +56,25 @@ def run_in_pieces(card, pieces):
 
 
 def ends_unread(card):
-    """Whether the run program ends on an input without end, of zeros, once its first line has been read and nobody reads on."""
+    """The status with which the run program ends on an input without end, of zeros, once its first line has been read and nobody reads on; None
+    if it does not end."""
     with tempfile.TemporaryDirectory() as where, open("/dev/zero", "rb") as zeros:
         (pathlib.Path(where) / "net.card").write_bytes(card)
-        program = subprocess.Popen([folder / "run"], stdin=zeros, stdout=subprocess.PIPE, cwd=where)
+        program = subprocess.Popen([folder / "run"], stdin=zeros, stdout=subprocess.PIPE, stderr=subprocess.DEVNULL, cwd=where)
         program.stdout.readline()
         program.stdout.close()
         try:
-            program.wait(10)
-            return True
+            return program.wait(10)
         except subprocess.TimeoutExpired:
             program.kill()
             program.wait()
-            return False
+            return None
+
+
+def unwritten(program, card):
+    """The status with which a program ends whose output, the answer to that input, cannot be written."""
+    with open("/dev/full", "wb") as full:
+        return subprocess.run([folder / program], input=card, stdout=full, stderr=subprocess.DEVNULL, timeout=10).returncode
 
 
 def flatten(card):

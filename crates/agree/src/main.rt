@@ -9,21 +9,21 @@ use hierarchy::Answer;
 use programs::agree::agree;
 use programs::line::{Line, card_line};
 use runners::fresh::fresh;
+use std::io;
 
-fn put_line(rt: &HostRuntime, l: Line) {
+fn put_line(rt: &HostRuntime, l: Line) -> io::Result<()> {
     let bytes = l.bytes;
-    put_first(rt, &bytes, l.length);
+    put_first(rt, &bytes, l.length)
 }
 
-fn put_agreed(rt: &HostRuntime, yes: bool) {
+fn put_agreed(rt: &HostRuntime, yes: bool) -> io::Result<()> {
     if yes {
-        put(rt, b"yes\n");
-        return;
+        return put(rt, b"yes\n");
     }
-    put(rt, b"no\n");
+    put(rt, b"no\n")
 }
 
-fn put_answer(rt: &HostRuntime, card: &[u8], calls: &[u8]) {
+fn put_answer(rt: &HostRuntime, card: &[u8], calls: &[u8]) -> io::Result<()> {
     let f = fresh(card);
     let a = f.answer;
     match a {
@@ -32,10 +32,10 @@ fn put_answer(rt: &HostRuntime, card: &[u8], calls: &[u8]) {
     }
 }
 
-fn main(rt: HostRuntime) {
+fn main(rt: HostRuntime) -> io::Result<()> {
     let mut card = [0; INPUT_BYTES];
     let mut calls = [0; 65536];
     let n = read_file(&rt, b"net.card", &mut card);
     let m = read_input(&rt, &mut calls);
-    put_answer(&rt, &card[..n], &calls[..m]);
+    put_answer(&rt, &card[..n], &calls[..m])
 }

@@ -17,18 +17,19 @@ use console::cases::{NO_CASE, numbers_in, read_lead, read_rest};
 use console::put;
 use hierarchy::Answer;
 use hierarchy::check::check;
+use std::io;
 
-fn put_check(rt: &HostRuntime, a: Answer) {
-    put(rt, b"check");
+fn put_check(rt: &HostRuntime, a: Answer) -> io::Result<()> {
+    put(rt, b"check")?;
     match a {
         Answer::Accepted(s, p, t) => put_counts(rt, s as u64, p as u64, t as u64),
         Answer::Refused(f, at) => put_refusal(rt, hierarchy::fault_number(f), at),
-    }
-    put(rt, b"\n");
+    }?;
+    put(rt, b"\n")
 }
 
-fn put_read(rt: &HostRuntime, a: ReadAnswer) {
-    put(rt, b"read");
+fn put_read(rt: &HostRuntime, a: ReadAnswer) -> io::Result<()> {
+    put(rt, b"read")?;
     match a {
         ReadAnswer::Whole(k) => put_counts(
             rt,
@@ -37,54 +38,54 @@ fn put_read(rt: &HostRuntime, a: ReadAnswer) {
             k.transitions as u64,
         ),
         ReadAnswer::Refused(f, at) => put_refusal(rt, card::fault_number(f), at),
-    }
-    put(rt, b"\n");
+    }?;
+    put(rt, b"\n")
 }
 
-fn put_card_case(rt: &HostRuntime, card: &[u8]) {
-    put_check(rt, check(card));
+fn put_card_case(rt: &HostRuntime, card: &[u8]) -> io::Result<()> {
+    put_check(rt, check(card))?;
     let mut numbers = [0; TABLE];
     let r = read(card, &mut numbers);
     let a = r.answer;
-    put_read(rt, a);
+    put_read(rt, a)?;
     let ReadAnswer::Whole(k) = a else {
-        return;
+        return Ok(());
     };
     let tables = tables_of(k, &numbers, card.len());
-    put_tables(rt, &tables);
+    put_tables(rt, &tables)
 }
 
 // The numbers behind the case's end are 0, so that a case of many arcs can be short.
-fn put_tables_case(rt: &HostRuntime, case: &[u8]) {
+fn put_tables_case(rt: &HostRuntime, case: &[u8]) -> io::Result<()> {
     let mut tables = [0; 40000];
     numbers_in(case, &mut tables);
-    put_tables(rt, &tables);
+    put_tables(rt, &tables)
 }
 
-fn put_case(rt: &HostRuntime, kind: u8, case: &[u8]) {
+fn put_case(rt: &HostRuntime, kind: u8, case: &[u8]) -> io::Result<()> {
     if kind == 0 {
-        put_card_case(rt, case);
-    } else {
-        put_tables_case(rt, case);
+        return put_card_case(rt, case);
     }
+    put_tables_case(rt, case)
 }
 
 // Ends where the input does, or at a case that is not all there. Nothing says that an input ends, so the turns are counted, from a number that
 // no run uses up.
-fn put_cases(rt: &HostRuntime, case: &mut [u8]) {
+fn put_cases(rt: &HostRuntime, case: &mut [u8]) -> io::Result<()> {
     let mut turns = u64::MAX;
     while 0 < turns {
         let lead = read_rest(rt, read_lead(rt), case);
         if lead.kind == NO_CASE {
-            return;
+            return Ok(());
         }
         let n = lead.length;
-        put_case(rt, lead.kind, &case[..n]);
+        put_case(rt, lead.kind, &case[..n])?;
         turns -= 1;
     }
+    Ok(())
 }
 
-fn main(rt: HostRuntime) {
+fn main(rt: HostRuntime) -> io::Result<()> {
     let mut case = [0; 65536];
-    put_cases(&rt, &mut case);
+    put_cases(&rt, &mut case)
 }

@@ -2,21 +2,22 @@
 use crate::writers::put_writers;
 use card::Head;
 use console::cases::wide;
+use std::io;
 
 // How many numbers stand in front of the slices.
 pub const LED: usize = 9;
 
 // Slices that are not all there have no line.
-pub fn put_tables(rt: &HostRuntime, t: &[u16]) {
+pub fn put_tables(rt: &HostRuntime, t: &[u16]) -> io::Result<()> {
     if t.len() < LED {
-        return;
+        return Ok(());
     }
     let places = LED + wide(t[4]);
     let transitions = places + wide(t[5]);
     let arcs = transitions + wide(t[6]);
     let end = arcs + wide(t[7]);
     if t.len() < end {
-        return;
+        return Ok(());
     }
     let head = Head {
         version: t[0],
@@ -32,5 +33,5 @@ pub fn put_tables(rt: &HostRuntime, t: &[u16]) {
         &t[transitions..arcs],
         &t[arcs..end],
         wide(t[8]),
-    );
+    )
 }

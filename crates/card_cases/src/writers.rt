@@ -7,56 +7,56 @@ use card::writer::{CardSpelt, SpellAnswer, put_card, spell};
 use console::{put, put_number};
 use hierarchy::write::write;
 use hierarchy::{SHORT_BUFFER, Written};
+use std::io;
 
-fn put_outcome(rt: &HostRuntime, done: bool, n: usize) {
+fn put_outcome(rt: &HostRuntime, done: bool, n: usize) -> io::Result<()> {
     if done {
-        put_length(rt, n);
-    } else {
-        put(rt, b" short");
-        put_number(rt, n as u64);
+        return put_length(rt, n);
     }
+    put(rt, b" short")?;
+    put_number(rt, n as u64)
 }
 
 // Whether the card had room, and its length.
-fn put_into(rt: &HostRuntime, card: &[u8], out: &mut [u8]) {
+fn put_into(rt: &HostRuntime, card: &[u8], out: &mut [u8]) -> io::Result<()> {
     let done = put_card(card, out);
-    put_outcome(rt, done, card.len());
-    put_bytes(rt, out);
+    put_outcome(rt, done, card.len())?;
+    put_bytes(rt, out)
 }
 
 // A card of n bytes. That n is not past the end follows from no single contract, so it is tested.
-fn put_whole_card(rt: &HostRuntime, bytes: &[u8], n: usize, room: usize)
+fn put_whole_card(rt: &HostRuntime, bytes: &[u8], n: usize, room: usize) -> io::Result<()>
     requires { room < 65536 }
 {
     if bytes.len() < n {
-        return;
+        return Ok(());
     }
     let mut out = [165; 65536];
-    put_into(rt, &bytes[..n], &mut out[..room]);
+    put_into(rt, &bytes[..n], &mut out[..room])
 }
 
-fn put_spelt(rt: &HostRuntime, s: CardSpelt, room: usize)
+fn put_spelt(rt: &HostRuntime, s: CardSpelt, room: usize) -> io::Result<()>
     requires { room < 65536 }
 {
-    put(rt, b"spell");
+    put(rt, b"spell")?;
     let bytes = s.bytes;
     let a = s.answer;
     match a {
         SpellAnswer::Whole(n) => put_whole_card(rt, &bytes, n, room),
         SpellAnswer::Refused(f, at) => put_refusal(rt, card::fault_number(f), at),
-    }
-    put(rt, b"\n");
+    }?;
+    put(rt, b"\n")
 }
 
-fn put_written(rt: &HostRuntime, w: Written, out: &[u8]) {
-    put(rt, b"write");
+fn put_written(rt: &HostRuntime, w: Written, out: &[u8]) -> io::Result<()> {
+    put(rt, b"write")?;
     match w {
         Written::Wrote(n) => put_length(rt, n),
         Written::Refused(f, at) => put_refusal(rt, hierarchy::fault_number(f), at),
         Written::Short(n) => put_refusal(rt, SHORT_BUFFER, n),
-    }
-    put_bytes(rt, out);
-    put(rt, b"\n");
+    }?;
+    put_bytes(rt, out)?;
+    put(rt, b"\n")
 }
 
 fn put_write(
@@ -67,9 +67,9 @@ fn put_write(
     transitions: &[u16],
     arcs: &[u16],
     out: &mut [u8],
-) {
+) -> io::Result<()> {
     let w = write(head, subnets, places, transitions, arcs, out);
-    put_written(rt, w, out);
+    put_written(rt, w, out)
 }
 
 pub fn put_writers(
@@ -80,10 +80,10 @@ pub fn put_writers(
     transitions: &[u16],
     arcs: &[u16],
     room: usize,
-)
+) -> io::Result<()>
     requires { room < 65536 }
 {
-    put_spelt(rt, spell(head, subnets, places, transitions, arcs), room);
+    put_spelt(rt, spell(head, subnets, places, transitions, arcs), room)?;
     let mut out = [165; 65536];
     put_write(
         rt,
@@ -93,5 +93,5 @@ pub fn put_writers(
         transitions,
         arcs,
         &mut out[..room],
-    );
+    )
 }

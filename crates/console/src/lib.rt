@@ -1,7 +1,7 @@
 // Standard input, standard output and files, as the programs read and write them; cases.rt has the cases of the tests. No contract can say
 // which bytes the operating system hands over or takes. So that of a read is about lengths: it answers how many bytes it has put at the
-// buffer's start, which is at most the buffer's length, and that length is kept. A function that only writes has none; `put` says whether all
-// was taken, so that a program can end where nobody reads on. "Ruled out" names wrong programs that a contract refuses.
+// buffer's start, which is at most the buffer's length, and that length is kept. A function that only writes has none; its error is handed on to
+// `main`, so that a program ends where nobody reads on. "Ruled out" names wrong programs that a contract refuses.
 #![tactic(auto)]
 
 pub mod cases;
@@ -9,9 +9,9 @@ pub mod cases;
 ghost use Rattle.std.specs.Prelude.{◌≡◌, length};
 ghost use Rattle.io.specs.Counts.{IsPrefixLen};
 
-use std::fs;
 use std::fs::File;
 use std::io::{Print, Read};
+use std::{fs, io};
 
 // Reads once; no bytes where the read fails.
 fn read_once<R: Read>(source: &mut R, buffer: &mut [u8]) -> usize
@@ -76,32 +76,31 @@ pub fn read_some(rt: &HostRuntime, buffer: &mut [u8]) -> usize
     read_once(&mut rt.stdin(), buffer)
 }
 
-// Writes, and says whether all was taken.
-pub fn put(rt: &HostRuntime, text: &[u8]) -> bool {
-    rt.write_all(text).is_ok()
+pub fn put(rt: &HostRuntime, text: &[u8]) -> io::Result<()> {
+    rt.write_all(text)
 }
 
 // The first n bytes; nothing if there are fewer.
-pub fn put_first(rt: &HostRuntime, bytes: &[u8], n: usize) -> bool {
+pub fn put_first(rt: &HostRuntime, bytes: &[u8], n: usize) -> io::Result<()> {
     if n <= bytes.len() {
         return put(rt, &bytes[..n]);
     }
-    true
+    Ok(())
 }
 
 // A space and the number in decimal.
-pub fn put_number(rt: &HostRuntime, n: u64) {
-    let _lost = print!(rt; " {n}");
+pub fn put_number(rt: &HostRuntime, n: u64) -> io::Result<()> {
+    print!(rt; " {n}")
 }
 
 // A word and two numbers behind it.
-pub fn put_pair(rt: &HostRuntime, word: &[u8], number: u64, value: u64) {
-    put(rt, word);
-    put_number(rt, number);
-    put_number(rt, value);
+pub fn put_pair(rt: &HostRuntime, word: &[u8], number: u64, value: u64) -> io::Result<()> {
+    put(rt, word)?;
+    put_number(rt, number)?;
+    put_number(rt, value)
 }
 
 // A byte as two hexadecimal digits.
-pub fn put_hex(rt: &HostRuntime, b: u8) {
-    let _lost = print!(rt; "{b:02x}");
+pub fn put_hex(rt: &HostRuntime, b: u8) -> io::Result<()> {
+    print!(rt; "{b:02x}")
 }

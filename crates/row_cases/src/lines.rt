@@ -2,10 +2,11 @@
 use console::put_first;
 use programs::line::{Line, reply_line};
 use runners::{Reply, RowAnswer, State};
+use std::io;
 
-pub fn put_line(rt: &HostRuntime, l: Line) {
+pub fn put_line(rt: &HostRuntime, l: Line) -> io::Result<()> {
     let bytes = l.bytes;
-    put_first(rt, &bytes, l.length);
+    put_first(rt, &bytes, l.length)
 }
 
 fn widened(degrees: [u16; 63]) -> [u32; 255] {
@@ -36,19 +37,19 @@ fn degrees_shown(state: State) -> State {
     shown
 }
 
-pub fn put_state(rt: &HostRuntime, number: u64, state: State) {
-    put_line(rt, reply_line(number, Reply::Ok, state));
-    put_line(rt, reply_line(number, Reply::Ok, degrees_shown(state)));
+pub fn put_state(rt: &HostRuntime, number: u64, state: State) -> io::Result<()> {
+    put_line(rt, reply_line(number, Reply::Ok, state))?;
+    put_line(rt, reply_line(number, Reply::Ok, degrees_shown(state)))
 }
 
-pub fn put_answer(rt: &HostRuntime, number: u64, a: RowAnswer) {
+pub fn put_answer(rt: &HostRuntime, number: u64, a: RowAnswer) -> io::Result<()> {
     let reply = a.reply;
     let state = a.state;
     match reply {
         Reply::Ok => put_state(rt, number, state),
         Reply::No(why) => {
-            put_line(rt, reply_line(number, Reply::No(why), state));
-            put_state(rt, number, state);
+            put_line(rt, reply_line(number, Reply::No(why), state))?;
+            put_state(rt, number, state)
         }
     }
 }

@@ -16,17 +16,18 @@ use console::{put_first, read_file, read_some};
 use programs::blocks::{BLOCK_BYTES, LINES_BYTES, Progress, answer_block, begin, last_line};
 use programs::line::Line;
 use runners::Net;
+use std::io;
 
-fn put_line(rt: &HostRuntime, l: Line) {
+fn put_line(rt: &HostRuntime, l: Line) -> io::Result<()> {
     let bytes = l.bytes;
-    put_first(rt, &bytes, l.length);
+    put_first(rt, &bytes, l.length)
 }
 
-// The run behind a block, and whether all its lines were taken.
-#[derive(Clone, Copy)]
+// The run behind a block, and what came of writing its lines.
+#[derive(Drop)]
 struct Behind {
     progress: Progress,
-    taken: bool,
+    written: io::Result<()>,
 }
 
 // Writes the lines of a block, and gives the run behind it. It asks for the room without which `answer_block` takes nothing.
@@ -36,16 +37,22 @@ fn put_block(rt: &HostRuntime, net: Net, p: Progress, block: &[u8], lines: &mut 
     ensures behind { (j : Judgement) → IsNet j net → run_in result.progress ≡ (fed_block (row_size_in j) (file_call j) (length lines.old) (run_in p) block.now).1 }
 {
     let t = answer_block(net, p, block, lines);
-    let taken = put_first(rt, lines, t.length);
+    let written = put_first(rt, lines, t.length);
     Behind {
         progress: t.progress,
-        taken,
+        written,
     }
 }
 
-// Ends where the input does, or where nobody reads the lines any more. Nothing says that an input ends, so the turns are counted, from a number
+// Ends where the input does, or where a block's lines cannot be written. Nothing says that an input ends, so the turns are counted, from a number
 // that no run uses up.
-fn put_blocks(rt: &HostRuntime, net: Net, first: Progress, block: &mut [u8], lines: &mut [u8])
+fn put_blocks(
+    rt: &HostRuntime,
+    net: Net,
+    first: Progress,
+    block: &mut [u8],
+    lines: &mut [u8],
+) -> io::Result<()>
     requires { longest * length block.old ≤ length lines.old }
 {
     let mut p = first;
@@ -53,33 +60,32 @@ fn put_blocks(rt: &HostRuntime, net: Net, first: Progress, block: &mut [u8], lin
     while 0 < turns {
         let n = read_some(rt, block);
         if n == 0 {
-            put_line(rt, last_line(net, p));
-            return;
+            return put_line(rt, last_line(net, p));
         }
         let b = put_block(rt, net, p, &block[..n], lines);
-        if !b.taken {
-            return;
-        }
         p = b.progress;
+        b.written?;
         turns -= 1;
     }
+    Ok(())
 }
 
-fn put_rows(rt: &HostRuntime, net: Net, first: Progress) {
+fn put_rows(rt: &HostRuntime, net: Net, first: Progress) -> io::Result<()> {
     let mut block = [0; BLOCK_BYTES];
     let mut lines = [0; LINES_BYTES];
-    put_blocks(rt, net, first, &mut block, &mut lines);
+    put_blocks(rt, net, first, &mut block, &mut lines)
 }
 
-fn main(rt: HostRuntime) {
+fn main(rt: HostRuntime) -> io::Result<()> {
     let mut card = [0; INPUT_BYTES];
     let n = read_file(&rt, b"net.card", &mut card);
     let s = begin(&card[..n]);
     let line = s.line;
-    put_line(&rt, line);
+    put_line(&rt, line)?;
     if s.runs {
         let net = s.net;
         let progress = s.progress;
-        put_rows(&rt, net, progress);
+        return put_rows(&rt, net, progress);
     }
+    Ok(())
 }
