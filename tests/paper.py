@@ -84,8 +84,8 @@ def tests():
     yield ("run, rows in pieces while the input stays open", programs.run_in_pieces(BENCH, pieces),
            [b"", lines[0], lines[1] + lines[2], b"", lines[3] + lines[4], b"6 no 20\n"])
     yield "run, a row behind those", programs.run_in_pieces(BENCH, [*pieces, (rows[17:], 1)])[-2:], [lines[5], b""]
-    yield "run, lines that nobody reads", programs.ends_unread(BENCH), 1
-    yield "flatten, a card that cannot be written", programs.unwritten("flatten", BENCH), 1
+    yield "run, lines that nobody reads", programs.ends_unread(BENCH), (b"1 ok 1000 0 0 | - -\n", 1, True)
+    yield "flatten, a card that cannot be written", programs.unwritten("flatten", BENCH), (1, True)
     flat = programs.flatten(BENCH)
     yield "flatten, bench card A", flat, cards.encode(net.flatten(samples.bench_card()))
     yield "flatten, again", programs.flatten(flat), flat

@@ -56,25 +56,28 @@ def run_in_pieces(card, pieces):
 
 
 def ends_unread(card):
-    """The status with which the run program ends on an input without end, of zeros, once its first line has been read and nobody reads on; None
-    if it does not end."""
+    """The run program on an input without end, of zeros: its first line, and the status with which it ends, and whether it says why, once nobody
+    reads on; no status if it does not end."""
     with tempfile.TemporaryDirectory() as where, open("/dev/zero", "rb") as zeros:
         (pathlib.Path(where) / "net.card").write_bytes(card)
-        program = subprocess.Popen([folder / "run"], stdin=zeros, stdout=subprocess.PIPE, stderr=subprocess.DEVNULL, cwd=where)
-        program.stdout.readline()
+        program = subprocess.Popen([folder / "run"], stdin=zeros, stdout=subprocess.PIPE, stderr=subprocess.PIPE, cwd=where)
+        line = program.stdout.readline()
         program.stdout.close()
         try:
-            return program.wait(10)
+            status = program.wait(10)
         except subprocess.TimeoutExpired:
+            status = None
             program.kill()
             program.wait()
-            return None
+        with program.stderr as said:
+            return line, status, said.read() != b""
 
 
 def unwritten(program, card):
-    """The status with which a program ends whose output, the answer to that input, cannot be written."""
+    """The status with which a program ends whose output, the answer to that input, cannot be written, and whether it says why."""
     with open("/dev/full", "wb") as full:
-        return subprocess.run([folder / program], input=card, stdout=full, stderr=subprocess.DEVNULL, timeout=10).returncode
+        ended = subprocess.run([folder / program], input=card, stdout=full, stderr=subprocess.PIPE, timeout=10)
+        return ended.returncode, ended.stderr != b""
 
 
 def flatten(card):
