@@ -67,9 +67,6 @@ flatten_again c = rw (map_length flat_place_row c.places, places_again c.places,
 pub flatten_bytes : (c : Card) → encode (flatten (flatten c)) ≡ encode (flatten c)
 flatten_bytes c = ap encode (flatten_again c)
 
-abbrev no_arc_before : Arc
-no_arc_before = no_arc
-
 within : (c : Card) (t k : ℕ) → first_arc c t ≤ k → k < first_arc c (suc t) → k - first_arc c t < (transition_at c t).arcs
 unfolding first_arc sum_to
 within c t k a b = omega arith
@@ -184,21 +181,21 @@ module _ (c : Card) (m : Meets c) where
   flat_subnet =
       record { main = λ e. (refl, refl); parent = λ n. absurd (n refl); type = omega arith; places = some_places; transitions = some_transitions }
 
-  pub flat_place_kept : (p : ℕ) → p < length c.places → PlaceRow 0 (place_at (flatten c) p)
+  pub flat_place_fits : (p : ℕ) → p < length c.places → PlaceRow 0 (place_at (flatten c) p)
   unfolding first_place
-  flat_place_kept p l =
+  flat_place_fits p l =
       let o = sum_owner S (λ r. (subnet_at c r).places) p (omega (arith, rows.place_count)) in
       let k = rows.place o.range p o.below o.low o.high in
       rw (place_flat c p) (record { main = λ e. refl; kind = omega arith; positive = k.positive; capacity = k.capacity; tokens = k.tokens })
 
-  flat_arc_row : (k : ℕ) → k < length c.arcs → ArcRow (flat_arc c (get_or c.arcs k no_arc_before))
+  flat_arc_fits : (k : ℕ) → k < length c.arcs → ArcRow (flat_arc c (get_or c.arcs k no_arc))
   unfolding first_arc
-  flat_arc_row k l =
+  flat_arc_fits k l =
       let o = sum_owner (length c.transitions) (λ t. (transition_at c t).arcs) k (omega (arith, rows.arc_count)) in
       let e : sum_to o.range (λ t. (transition_at c t).arcs) + (k - sum_to o.range (λ t. (transition_at c t).arcs)) ≡ k = omega (arith, o.low) in
       let b = arc_below o.range (home o.range o.below) (k - first_arc c o.range) (within c o.range k o.low o.high) in
-      let d : flat_place c (get_or c.arcs k no_arc_before) < length c.places = rw e at b in
-      let a = all_at ArcRow c.arcs no_arc_before rows.arcs k l in
+      let d : flat_place c (get_or c.arcs k no_arc) < length c.places = rw e at b in
+      let a = all_at ArcRow c.arcs no_arc rows.arcs k l in
       record { direction = a.direction; subnet = omega arith; place = omega (arith, rows.few_places); weight = a.weight }
 
   flat_rows : Rows (flatten c)
@@ -211,9 +208,9 @@ module _ (c : Card) (m : Meets c) where
         few_places = omega (arith, map_length flat_place_row c.places, rows.few_places);
         few_transitions = rows.few_transitions;
         subnet = λ s l. let e : s ≡ 0 = omega arith in rw e flat_subnet;
-        place = λ s p l a b. let e : s ≡ 0 = omega arith in rw e (flat_place_kept p (rw (e, zero-add) at b));
+        place = λ s p l a b. let e : s ≡ 0 = omega arith in rw e (flat_place_fits p (rw (e, zero-add) at b));
         transitions = rows.transitions;
-        arcs = all_map ArcRow (flat_arc c) c.arcs (all_of (λ a. ArcRow (flat_arc c a)) c.arcs no_arc_before flat_arc_row);
+        arcs = all_map ArcRow (flat_arc c) c.arcs (all_of (λ a. ArcRow (flat_arc c a)) c.arcs no_arc flat_arc_fits);
       }
 
 -- THE FLAT CARD OF A CARD THAT MEETS THE CONDITIONS MEETS THEM

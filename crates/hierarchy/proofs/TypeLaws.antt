@@ -61,8 +61,8 @@ kinds_differ c r s n x y e f d = rw (← e, ← f, ne_eqb x y d)
 pub capacities_differ : (c : Card) (r s n x y : ℕ) → x ≡ capacity_of c r n → y ≡ capacity_of c s n → (x ≡ y → ⊥) → place_alike c r s n ≡ false
 capacities_differ c r s n x y e f d = rw (← e, ← f, ne_eqb x y d) (and_no (eqb (kind_of c r n) (kind_of c s n)))
 
-pub places_alike_is : (c : Card) (r s n x y v w : ℕ) → x ≡ kind_of c r n → y ≡ kind_of c s n → x ≡ y → v ≡ capacity_of c r n → w ≡ capacity_of c s n → v ≡ w → place_alike c r s n ≡ true
-places_alike_is c r s n x y v w e f p g h q = rw (← e, ← f, ← g, ← h, eq-eqb x y p, eq-eqb v w q)
+pub place_alike_is : (c : Card) (r s n x y v w : ℕ) → x ≡ kind_of c r n → y ≡ kind_of c s n → x ≡ y → v ≡ capacity_of c r n → w ≡ capacity_of c s n → v ≡ w → place_alike c r s n ≡ true
+place_alike_is c r s n x y v w e f p g h q = rw (← e, ← f, ← g, ← h, eq-eqb x y p, eq-eqb v w q)
 
 -- an arc's subnet
 pub other_first : (a b r s : ℕ) (x y : Bool) → (a ≡ r → ⊥) → x ≡ y → x ≡ eqb a r && eqb b s || y

@@ -7,7 +7,7 @@ use Rattle.card.proofs.Sums.{map_length}
 use Rattle.hierarchy.specs.Judgement.{accepted, judge}
 use Rattle.hierarchy.proofs.Accepted.{accepted_meets}
 use Rattle.flattening.specs.Flattening.{flat_place_row, flatten}
-use Rattle.flattening.proofs.FlatLaws.{flat_place_kept}
+use Rattle.flattening.proofs.FlatLaws.{flat_place_fits}
 use Rattle.runners.specs.State.{NetState, fresh}
 use Rattle.runners.specs.Rows.{Act, act_of}
 use Rattle.runners.specs.Calls.{view, fresh_lent, fresh_call, each_once}
@@ -23,7 +23,7 @@ fresh_view f = view_store f _ (fresh f) (record { places = refl; transitions = r
 module _ (card : List ℕ) (c : Card) (e : judge card ≡ accepted c) where
   tokens : (p : ℕ) → p < length (flatten c).places → (place_at (flatten c) p).tokens ≤ (place_at (flatten c) p).capacity
   unfolding flatten
-  tokens p l = (flat_place_kept c (accepted_meets card c e) p (omega (arith, map_length flat_place_row c.places))).tokens
+  tokens p l = (flat_place_fits c (accepted_meets card c e) p (omega (arith, map_length flat_place_row c.places))).tokens
 
   start_consistent : Consistent (flatten c) (fresh (flatten c))
   start_consistent = fresh_consistent (flatten c) tokens

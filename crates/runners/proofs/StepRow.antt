@@ -12,7 +12,7 @@ use Rattle.card.proofs.Copy.{Copying, copy_start, copy_more, copy_done}
 use Rattle.card.specs.Spelling.{put_into}
 use Rattle.hierarchy.specs.Conditions.{Meets}
 use Rattle.flattening.specs.Flattening.{flat_place_row, flatten}
-use Rattle.flattening.proofs.FlatLaws.{flat_below, flat_place_kept}
+use Rattle.flattening.proofs.FlatLaws.{flat_below, flat_place_fits}
 use Rattle.runners.specs.Numbers.{row_outcome}
 use Rattle.runners.specs.State.{NetState, scale, entry, transfer, remaining, flow, owed, due, full_marking, covered}
 use Rattle.runners.specs.Step.{idle, candidate_on, candidate, started, conflict, moves, arrives_on, next}
@@ -279,7 +279,7 @@ module _ (c : Card) (m : Meets c) (l : Lent) (v : valid (flatten c) l ≡ true) 
       few_p p b = omega (arith, m.wellformed.rows.few_places)
 
       room : (p : ℕ) → p < length c.places → full_marking (flatten c) p ≤ 2550000
-      room p b = let k : (place_at (flatten c) p).capacity ≤ 255 = (flat_place_kept c m p b).capacity in mul-le-mul (scale_few (flatten c)) k
+      room p b = let k : (place_at (flatten c) p).capacity ≤ 255 = (flat_place_fits c m p b).capacity in mul-le-mul (scale_few (flatten c)) k
 
       flow_past : (way p : ℕ) → length c.places ≤ p → flow (flatten c) (amount moving (step_turn c was row)) way p ≡ 0
       flow_past way p b =
