@@ -71,7 +71,7 @@ def state(s):
 
 def lent(s, counts):
     names = dict(zip(("places", "transitions", "signals"), counts))
-    return (f"record {{ markings = {listed(s.markings)}; slots = map slot ({transfers(s.progress)});"
+    return (f"record {{ markings = {listed(s.markings)}; transfers = {transfers(s.progress)};"
             f" degrees = {listed(s.degrees)}; "
             + " ".join(f"{name} = {count};" for name, count in names.items()) + " }")
 
@@ -209,7 +209,6 @@ use Rattle.hierarchy.specs.Judgement.{answer}
 use Rattle.hierarchy.specs.Output.{write_rows}
 use Rattle.runners.specs.Numbers as replies
 use Rattle.programs.specs.Programs.{flatten_program}
-use Rattle.runners.specs.Calls.{slot}
 use Rattle.runners.specs.declared.Transfer.TheVariants.{Idle, Carrying}""", uses]
     text = "\n".join(dict.fromkeys("\n".join(parts).split("\n"))) + "\n"
     more = "all_fit counted read_tables tables_in whole_rows read_rows put_into write_rows flatten_program"

@@ -4,17 +4,11 @@
 #![tactic(auto)]
 
 use card::INPUT_BYTES;
-use console::{put, put_first, read_file, read_input};
-use hierarchy::Answer;
+use console::{put, read_file, read_input};
+use hierarchy::check::check;
 use programs::agree::agree;
-use programs::line::{Line, card_line};
-use runners::fresh::fresh;
+use programs::line::Line;
 use std::io;
-
-fn put_line(rt: &HostRuntime, l: Line) -> io::Result<()> {
-    let bytes = l.bytes;
-    put_first(rt, &bytes, l.length)
-}
 
 fn put_agreed(rt: &HostRuntime, yes: bool) -> io::Result<()> {
     if yes {
@@ -24,11 +18,9 @@ fn put_agreed(rt: &HostRuntime, yes: bool) -> io::Result<()> {
 }
 
 fn put_answer(rt: &HostRuntime, card: &[u8], calls: &[u8]) -> io::Result<()> {
-    let f = fresh(card);
-    let a = f.answer;
-    match a {
-        Answer::Refused(why, at) => put_line(rt, card_line(why, at)),
-        Answer::Accepted(_s, _p, _t) => put_agreed(rt, agree(card, calls)),
+    match check(card) {
+        Ok(_counts) => put_agreed(rt, agree(card, calls)),
+        Err(refusal) => put(rt, Line::from(refusal).as_slice()),
     }
 }
 

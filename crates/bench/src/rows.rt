@@ -2,32 +2,38 @@
 use runners::State;
 use runners::flat_runner::flat_net;
 use runners::fresh::fresh;
-use runners::nets::{card_net, net_rows};
+use runners::nets::card_net;
 
 // The markings as one number.
 fn sum(state: State) -> u64 {
-    let mut n: u64 = 0;
-    let mut p: usize = 0;
-    while p < 255 {
-        n = (n * 31 + state.markings[p] as u64 % 4294967296) % 4294967291;
-        p += 1;
+    let markings = state.markings;
+    let mut n = 0;
+    for marking in markings {
+        n = (n * 31 + u64::from(marking)) % 4294967291;
     }
     n
 }
 
-// The rows on the flat card, and how the markings end.
+// The rows on the flat card, and how the markings end. A refused card has none.
 #[unsafe(no_mangle)]
 pub extern "C" fn flat_rows(card: &[u8], rows: &[u16]) -> u64 {
-    let f = fresh(card);
-    let state = f.state;
-    let order = [0];
-    sum(net_rows(flat_net(card), &order, state, rows))
+    let Ok(net) = flat_net(card) else {
+        return 0;
+    };
+    let Ok(state) = fresh(card) else {
+        return 0;
+    };
+    sum(net.rows(&[0], state, rows))
 }
 
-// The rows on the card's own subnets, visited in this order, and how the markings end.
+// The rows on the card's own subnets, visited in this order, and how the markings end. A refused card has none.
 #[unsafe(no_mangle)]
 pub extern "C" fn subnet_rows(card: &[u8], order: &[u16], rows: &[u16]) -> u64 {
-    let f = fresh(card);
-    let state = f.state;
-    sum(net_rows(card_net(card), order, state, rows))
+    let Ok(net) = card_net(card) else {
+        return 0;
+    };
+    let Ok(state) = fresh(card) else {
+        return 0;
+    };
+    sum(net.rows(order, state, rows))
 }

@@ -8,24 +8,24 @@ use lib.Dec.{ltb}
 use borrow.Author.Tests.{ltb-true, lt-ltb}
 use Rattle.card.specs.Format.{Format, done, get, size}
 use Rattle.card.specs.Grammar.{max_version, max_count, header, subnet, place, transition, arc, max_subnets, max_arcs, since, rank_width}
-use Rattle.card.specs.inner.Layout.{fault_at, start_of, pick, move_at, or_bad, step_of, headed, Sane}
+use Rattle.card.specs.inner.Layout.{fault_at, start_of, pick, move_at, Move, or_bad, step_of, headed, Sane}
 use Rattle.card.specs.declared.FormatFault.{FormatFault}
 use Rattle.card.specs.declared.layout.Phase.{Phase}
 use Rattle.card.specs.declared.layout.Phase.TheVariants.{Version, SubnetCount, SignalCount, Limit, Scale, Parent, SubnetType, PlaceCount, TransitionCount, Kind, Capacity, Tokens, Signal, ArcCount, Rank, Direction, ArcSubnet, ArcPlace, Weight}
 use Rattle.card.specs.declared.layout.Layout.{Layout}
-use Rattle.card.specs.declared.layout.Move.{Move}
-use Rattle.card.specs.declared.layout.Move.TheVariants.{More, Done, Bad}
+use Rattle.card.specs.declared.layout.Next.{Next}
+use Rattle.card.specs.declared.layout.Next.TheVariants.{More, Done}
+use Rattle.std.specs.Prelude.{Ok}
 use Rattle.card.specs.Tables.{table_size, card_bits}
 use Rattle.card.specs.Writing.{bits_before}
 use Rattle.card.proofs.Decides.{le_is, and_is, some_unless_is}
 use Rattle.card.proofs.Shape.{One, times, arc_s, place_s, transition_s, subnets_s, card_s}
 
-abbrev SaneMove : Move → Type 0
+abbrev SaneMove : Next → Type 0
 SaneMove (More m) = Sane m
 SaneMove (Done k) = Unit {0}
-SaneMove (Bad f) = Unit {0}
 
-sane_pick : (b c : Bool) (x y : Move) → c ≡ b → (c ≡ true → SaneMove x) → SaneMove y → SaneMove (pick b x y)
+sane_pick : (b c : Bool) (x y : Next) → c ≡ b → (c ≡ true → SaneMove x) → SaneMove y → SaneMove (pick b x y)
 sane_pick true c x y e h k = h e
 sane_pick false c x y e h k = k
 
@@ -64,15 +64,14 @@ module _ (l : Layout) (v : ℕ) (small : l.subnet + l.subnets ≤ 31) (places : 
       (sane_pick (ltb 0 l.subnets) (ltb 0 l.subnets) _ _ refl
       (λ q. record { head = tt; subnet = omega (arith, ltb-true 0 l.subnets q); places = places; transitions = transitions }) tt))
 
-pub sane_step : (l m : Layout) (v : ℕ) → Sane l → step_of l v ≡ More m → Sane m
+pub sane_step : (l m : Layout) (v : ℕ) → Sane l → step_of l v ≡ Ok (More m) → Sane m
 sane_step l m v s e = go (fault_at l.phase l v) refl e
   where
-    move : (x : Move) → SaneMove x → x ≡ More m → Sane m
+    move : (x : Next) → SaneMove x → ◌≡◌ {A = Move} (Ok x) (Ok (More m)) → Sane m
     move (More k) h q = let r : k ≡ m = cc in subst Sane r h
     move (Done k) h q = let z : ◌≡◌ {A = ℕ} 0 1 = cc in absurd (omega arith)
-    move (Bad f) h q = let z : ◌≡◌ {A = ℕ} 0 1 = cc in absurd (omega arith)
 
-    go : (x : Option FormatFault) → fault_at l.phase l v ≡ x → or_bad x (move_at l.phase l v) ≡ More m → Sane m
+    go : (x : Option FormatFault) → fault_at l.phase l v ≡ x → or_bad x (move_at l.phase l v) ≡ Ok (More m) → Sane m
     go none p q = move (move_at l.phase l v) (sane_move l v s.subnet s.places s.transitions l.phase s.head p) q
     go (some f) p q = let z : ◌≡◌ {A = ℕ} 0 1 = cc in absurd (omega arith)
 

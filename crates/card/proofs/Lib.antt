@@ -17,7 +17,6 @@ pub mod Shape
 pub mod Simulates
 pub mod Bounds
 pub mod Turn
-pub mod PushLaws
 pub mod RunLaws
 pub mod RowNumbers
 pub mod Positions
@@ -33,3 +32,4 @@ pub mod FitLaws
 pub mod NumberLaws
 pub mod TableSpell
 pub mod SliceLaws
+pub mod ViewLaws

@@ -8,8 +8,8 @@ use mathlib.Core.Option.{Option, none, some}
 use native.Mathlib.Omega.{arith}
 use native.Mathlib.Nat.{add-zero}
 use native.Mathlib.Numerals.{add-one}
-use lib.ListN.{length, get_or, take, set, replicate, length-take, length-set, length-replicate, get_or-eq_default}
-use lib.Seq.{ext_get_or, get_or-take, get_or-set_other, get_or-set_same}
+use lib.ListN.{length, get_or, take, replicate, length-take, length-replicate, get_or-eq_default}
+use lib.Seq.{ext_get_or, get_or-take}
 use lib.Dec.{eqb}
 use borrow.Author.Tests.{lt-ltb, le-ltb, eq-eqb, ne_eqb}
 use Rattle.card.specs.Numbers.{number}
@@ -20,24 +20,23 @@ use Rattle.card.specs.Format.{Format, done, get}
 use Rattle.card.specs.Grammar.{card}
 use Rattle.card.specs.Parsing.{Parsing, refused, whole, read, excess, read_card}
 use Rattle.card.specs.Writing.{fields}
-use Rattle.card.specs.Tables.{numbers_of, numbers_table, ReadOutcome, read_outcome, outcome_of, has_room, starts_read, IsRead, IsTable, IsLent}
-use Rattle.card.specs.declared.reader.ReadAnswer.{ReadAnswer}
-use Rattle.card.specs.declared.reader.ReadAnswer.TheVariants.{Whole, Refused}
-use Rattle.card.specs.inner.Reader.{ended_as, IsFilled}
+use Rattle.card.specs.Tables.{numbers_of, numbers_table, ReadOutcome, outcome_of, has_room, IsRead, IsTable, IsLent}
+use Rattle.card.specs.inner.Reader.{ended_as, filled_outcome, IsFilled}
+use Rattle.card.specs.declared.FormatRefusal.{FormatRefusal}
+use Rattle.std.specs.Prelude.{Result, Ok, Err}
 use Rattle.card.specs.declared.FormatFault.{FormatFault}
 use Rattle.card.specs.declared.FormatFault.TheVariants.{BadFill}
 use Rattle.card.specs.declared.Counts.{Counts}
 use Rattle.card.proofs.Sums.{table_length, table_at}
 use Rattle.card.proofs.Yields.{bit_small, field_small, not_whole}
 use Rattle.card.proofs.BitLaws.{lt_or_ge, field_join}
-use Rattle.card.specs.Index.{Laid, Loaded, starts_size, starts_of}
+use Rattle.card.specs.Index.{Laid, Loaded, starts_of}
 use Rattle.card.specs.Wellformed.{Wellformed}
 use Rattle.card.proofs.Ranges.{read_wellformed}
 use Rattle.card.proofs.Positions.{laid}
 use Rattle.card.proofs.IndexLaws.{starts_indexed}
 use Rattle.card.proofs.Walk.{Spelt}
 use Rattle.card.proofs.Tied.{tied_card}
-use Rattle.card.proofs.Turn.{zero_in}
 use Rattle.card.proofs.Shape.{numbers_in, part, card_s, counts_of, read_shape, numbers_shape}
 
 -- bytes that spell the fields of u hold its numbers
@@ -80,23 +79,6 @@ zeros_table from (suc n) = ap (λ (xs : List ℕ). 0 ∷ xs) (zeros_table (suc f
 pub blank_table : (n : ℕ) → replicate {A = ℕ} n 0 ≡ table 0 n (λ i. 0)
 blank_table n = zeros_table 0 n
 
--- a table is cleared up to entry i
-pub record Cleared (before now : List ℕ) (i : ℕ) : Type 0 where
-  pub long : length now ≡ length before
-  pub low : i ≤ length before
-  pub zeros : (j : ℕ) → j < i → get_or now j 0 ≡ 0
-
-pub cleared_more : (before t : List ℕ) (i : ℕ) → Cleared before t i → i < length t → Cleared before (set t i 0) (i + 1)
-cleared_more before t i h l = record { long = length-set t i 0 ∙ h.long; low = omega (arith, h.long); zeros = λ j m. go j m (lt_or_ge j i) }
-  where
-    go : (j : ℕ) → j < i + 1 → (j < i) ⊎ (i ≤ j) → get_or (set t i 0) j 0 ≡ 0
-    go j m (inl q) = get_or-set_other t i j 0 0 (λ e. omega arith) ∙ h.zeros j q
-    go j m (inr q) = let e : j ≡ i = omega arith in rw e (get_or-set_same t i 0 0 l)
-
-pub cleared_done : (before t : List ℕ) (i : ℕ) → Cleared before t i → length t ≤ i → t ≡ replicate (length before) 0
-cleared_done before t i h l =
-    ext_get_or 0 t (replicate (length before) 0) (h.long ∙ sym (length-replicate {A = ℕ} (length before) 0)) (λ j m. h.zeros j (omega arith) ∙ sym (zero_in (length before) j))
-
 pub cleared_all : (t : List ℕ) (bytes n : ℕ) → t ≡ replicate n 0 → has_room bytes n ≡ true → (t ≡ replicate (length t) 0) × (has_room bytes (length t) ≡ true)
 cleared_all t bytes n e h =
     let q : length t ≡ n = ap length e ∙ length-replicate {A = ℕ} n 0 in
@@ -122,14 +104,14 @@ module _ (bytes : List ℕ) where
   card_refused n at e = rw (part_refused counts_of (read bytes card 0) n at (sym (read_shape bytes) ∙ e))
 
   -- the walk is refused
-  pub refused_is : (f : FormatFault) (at : ℕ) (t : List ℕ) → read bytes card_s 0 ≡ refused (number f) at → IsFilled (read_card bytes) (Refused f at) t
+  pub refused_is : (f : FormatFault) (at : ℕ) (t : List ℕ) → read bytes card_s 0 ≡ refused (number f) at → IsFilled (read_card bytes) (Err (record { fault = f; bit = at })) t
   refused_is f at t e = rw (card_refused (number f) at e) (record { answer = refl; table = λ c end q. absurd (not_whole _ _ _ _ q); fits = λ c end q. absurd (not_whole _ _ _ _ q) })
 
   found : (k : Counts) (end : ℕ) → read bytes card_s 0 ≡ whole k end → Found counts_of (read bytes card 0) k end
   found k end e = part_whole counts_of (read bytes card 0) k end (sym (read_shape bytes) ∙ e)
 
   -- something follows the card
-  excess_is : (k : Counts) (end i : ℕ) (t : List ℕ) → read bytes card_s 0 ≡ whole k end → excess bytes end ≡ some i → IsFilled (read_card bytes) (Refused BadFill i) t
+  excess_is : (k : Counts) (end i : ℕ) (t : List ℕ) → read bytes card_s 0 ≡ whole k end → excess bytes end ≡ some i → IsFilled (read_card bytes) (Err (record { fault = BadFill; bit = i })) t
   unfolding read_card
   excess_is k end i t e x =
       let f = found k end e in
@@ -150,7 +132,7 @@ module _ (bytes : List ℕ) where
   numbers_are c end r = spelt_numbers bytes card c 0 (tied_card bytes c end r).spelt
 
   whole_is : (k : Counts) (end n : ℕ) (t : List ℕ) → read bytes card_s 0 ≡ whole k end → excess bytes end ≡ none → ((i : ℕ) → n ≤ i → get_or t i 0 ≡ 0)
-      → take n t ≡ numbers_in bytes card_s 0 → IsFilled (read_card bytes) (Whole k) t
+      → take n t ≡ numbers_in bytes card_s 0 → IsFilled (read_card bytes) (Ok k) t
   unfolding read_card
   whole_is k end n t e x zeros v =
       let f = found k end e in
@@ -163,7 +145,7 @@ module _ (bytes : List ℕ) where
         fits = λ c m q. subst (λ (y : Card). length (numbers_of y) ≤ length t) (let z : f.value ≡ c = cc in z) few;
       })
 
-  pub ended_is : (k : Counts) (end n : ℕ) (t : List ℕ) (r : ReadAnswer) → read bytes card_s 0 ≡ whole k end → ((i : ℕ) → n ≤ i → get_or t i 0 ≡ 0)
+  pub ended_is : (k : Counts) (end n : ℕ) (t : List ℕ) (r : Result Counts FormatRefusal) → read bytes card_s 0 ≡ whole k end → ((i : ℕ) → n ≤ i → get_or t i 0 ≡ 0)
       → take n t ≡ numbers_in bytes card_s 0 → r ≡ ended_as (excess bytes end) k → IsFilled (read_card bytes) r t
   ended_is k end n t r e zeros v h = rw h (go (excess bytes end) refl)
     where
@@ -171,27 +153,28 @@ module _ (bytes : List ℕ) where
       go none q = whole_is k end n t e q zeros v
       go (some i) q = excess_is k end i t e q
 
-  -- what is made of it: of a refused card, tables of zeros
-  pub fill_refused : (a : ReadAnswer) (f : FormatFault) (at size : ℕ) (t t' : List ℕ) → IsFilled (read_card bytes) a t → a ≡ Refused f at → t' ≡ replicate size 0
-      → IsRead (read_card bytes) (record { answer = a; starts = replicate starts_size 0 }) × IsTable (read_card bytes) size t'
-  fill_refused a f at size t t' h e z = go (read_card bytes) h.answer (sym (ap read_outcome e) ∙ h.answer)
+  -- what is made of it: of a refused card, a table of zeros
+  pub fill_refused : (a : Result Counts FormatRefusal) (e : FormatRefusal) (size : ℕ) (t t' : List ℕ) → IsFilled (read_card bytes) a t → a ≡ Err e → t' ≡ replicate size 0
+      → IsRead (read_card bytes) (Err e) × IsTable (read_card bytes) size t'
+  fill_refused a e size t t' h q z = go (read_card bytes) (sym (ap filled_outcome q) ∙ h.answer)
     where
-      go : (x : Parsing Card) → read_outcome a ≡ outcome_of x → read_outcome (Refused f at) ≡ outcome_of x → IsRead x (record { answer = a; starts = replicate starts_size 0 }) × IsTable x size t'
-      go (refused n i) p q = (record { answer = p; starts = blank_table starts_size }, record { is = z ∙ blank_table size; fits = λ c end r. absurd (not_whole _ _ _ _ r) })
-      go (whole c end) p q = absurd (let z : ◌≡◌ {A = ℕ} 0 1 = cc in omega arith)
+      go : (x : Parsing Card) → filled_outcome (Err e) ≡ outcome_of x → IsRead x (Err e) × IsTable x size t'
+      go (refused n i) p = (record { answer = p; starts = λ c end r. tt }, record { is = z ∙ blank_table size; fits = λ c end r. absurd (not_whole _ _ _ _ r) })
+      go (whole c end) p = absurd (let z : ◌≡◌ {A = ℕ} 0 1 = cc in omega arith)
 
-  pub fill_whole : (a : ReadAnswer) (k : Counts) (size : ℕ) (t starts : List ℕ) → IsFilled (read_card bytes) a t → a ≡ Whole k → length t ≡ size
+  pub fill_whole : (a : Result Counts FormatRefusal) (k : Counts) (size : ℕ) (t starts : List ℕ) → IsFilled (read_card bytes) a t → a ≡ Ok k → length t ≡ size
       → ((c : Card) → Wellformed c → Laid c t → k.subnets ≡ length c.subnets → starts ≡ starts_of c)
-      → IsRead (read_card bytes) (record { answer = Whole k; starts = starts }) × IsTable (read_card bytes) size t
-  fill_whole a k size t starts h e long g = go (read_card bytes) refl (sym (ap read_outcome e) ∙ h.answer)
+      → IsRead (read_card bytes) (Ok (record { counts = k; starts = starts })) × IsTable (read_card bytes) size t
+  fill_whole a k size t starts h e long g = go (read_card bytes) refl (sym (ap filled_outcome e) ∙ h.answer)
     where
-      go : (x : Parsing Card) → read_card bytes ≡ x → read_outcome (Whole k) ≡ outcome_of x → IsRead x (record { answer = Whole k; starts = starts }) × IsTable x size t
+      go : (x : Parsing Card) → read_card bytes ≡ x → filled_outcome (Ok k) ≡ outcome_of x → IsRead x (Ok (record { counts = k; starts = starts })) × IsTable x size t
       go (refused n i) p q = absurd (let z : ◌≡◌ {A = ℕ} 0 1 = cc in omega arith)
       go (whole c end) p q =
           let is = h.table c end p in
           let few = h.fits c end p in
-          let w = read_wellformed bytes c end p in (
-            record { answer = q; starts = g c w (subst (Laid c) (sym is) (laid c w (numbers_table (length t) c) (entered (length t) c few))) cc },
+          let w = read_wellformed bytes c end p in
+          let s : starts ≡ starts_of c = g c w (subst (Laid c) (sym is) (laid c w (numbers_table (length t) c) (entered (length t) c few))) cc in (
+            record { answer = q; starts = λ d m y. s ∙ ap starts_of (let z : c ≡ d = cc in z) },
             record { is = is ∙ ap (λ (n : ℕ). numbers_table n c) long; fits = λ d m y. subst (λ (z : Card). length (numbers_of z) ≤ size) (let z : c ≡ d = cc in z) (omega (arith, few, long)) },
           )
 
@@ -209,12 +192,11 @@ lent_kept x room before e = rw e refl
 pub tables_loaded : (size : ℕ) (c : Card) → Wellformed c → length (numbers_of c) ≤ size → Loaded c (numbers_table size c) (starts_of c)
 tables_loaded size c w few = record { laid = laid c w (numbers_table size c) (entered size c few); indexed = starts_indexed c w }
 
-pub read_loaded : (bytes : List ℕ) (c : Card) (end size : ℕ) (numbers starts : List ℕ) → read_card bytes ≡ whole c end → starts ≡ starts_read (read_card bytes)
+pub read_loaded : (bytes : List ℕ) (c : Card) (end size : ℕ) (numbers starts : List ℕ) → read_card bytes ≡ whole c end → starts ≡ starts_of c
     → IsTable (read_card bytes) size numbers → Loaded c numbers starts
 read_loaded bytes c end size numbers starts e s h =
     let g : IsTable (whole c end) size numbers = subst (λ (x : Parsing Card). IsTable x size numbers) e h in
-    let q : starts ≡ starts_of c = s ∙ ap starts_read e in
-    rw (g.is, q) (tables_loaded size c (read_wellformed bytes c end e) (g.fits c end refl))
+    rw (g.is, s) (tables_loaded size c (read_wellformed bytes c end e) (g.fits c end refl))
 
 -- nothing is in excess up to bit i
 pub record Checked (bytes : List ℕ) (end i : ℕ) : Type 0 where

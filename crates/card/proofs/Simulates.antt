@@ -15,8 +15,8 @@ use Rattle.card.specs.declared.layout.Phase.{Phase}
 use Rattle.card.specs.declared.layout.Phase.TheVariants.{Version, SubnetCount, SignalCount, Limit, Scale, Parent, SubnetType, PlaceCount, TransitionCount, Kind, Capacity, Tokens, Signal, ArcCount, Rank, Direction, ArcSubnet, ArcPlace, Weight}
 use Rattle.card.specs.declared.layout.Layout.{Layout}
 use Rattle.card.specs.declared.Counts.{Counts}
-use Rattle.card.specs.declared.layout.Move.{Move}
-use Rattle.card.specs.declared.layout.Move.TheVariants.{More, Done, Bad}
+use Rattle.card.specs.declared.layout.Next.{Next}
+use Rattle.card.specs.declared.layout.Next.TheVariants.{More, Done}
 use Rattle.card.proofs.Decides.{le_is, and_is, some_unless_is}
 use Rattle.card.proofs.Shape.{One, strip, times, arc_s, place_s, transition_s, subnet_s, subnets_s, card_s}
 
@@ -69,10 +69,9 @@ denote_at Weight l = fed (arc_s (rest_arcs l)) (0 ∷ 0 ∷ 0 ∷ [])
 abbrev pub denote : Layout → Format One Counts
 denote l = denote_at l.phase l
 
-abbrev pub move_f : Move → Format One Counts
+abbrev pub move_f : Next → Format One Counts
 move_f (More m) = denote m
 move_f (Done k) = done k
-move_f (Bad f) = done (record { subnets = 0; places = 0; transitions = 0 })
 
 abbrev pub next_of : Format One Counts → ℕ → Format One Counts
 next_of (done a) v = done a
@@ -119,7 +118,7 @@ after_subnet l false e =
     ∙ ap (λ (s : ℕ). subnets_s l.version l.signals 0 s l.places l.transitions) (sym (add-one l.subnet))
 
 -- so many times, or none
-times_more : (n : ℕ) (one : Format One Counts → Format One Counts) (k : Format One Counts) (x y : Move) (b : Bool) → ltb 0 n ≡ b
+times_more : (n : ℕ) (one : Format One Counts → Format One Counts) (k : Format One Counts) (x y : Next) (b : Bool) → ltb 0 n ≡ b
     → (b ≡ true → one (times (n - 1) one k) ≡ move_f x) → (b ≡ false → k ≡ move_f y) → times n one k ≡ move_f (pick b x y)
 times_more n one k x y true e f g = ap (λ (i : ℕ). times i one k) (less_one n (ltb-true 0 n e)) ∙ f refl
 times_more n one k x y false e f g =

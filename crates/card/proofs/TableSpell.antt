@@ -13,9 +13,11 @@ use Rattle.card.specs.Parsing.{read_card}
 use Rattle.card.specs.Writing.{fields, encode, all_fit, counted, read_tables}
 use Rattle.card.specs.Rows.{tables_in, whole_rows, read_rows}
 use Rattle.card.specs.inner.Runs.{Tells, ValuesFit, Leads, TablesInside, Gathered, in_order}
-use Rattle.card.specs.Spelling.{Lines, IsSpelt, IsUnspelt}
+use Rattle.card.specs.Spelling.{Lines, IsSpelt}
 use Rattle.card.specs.declared.FormatFault.TheVariants.{BadTable}
-use Rattle.card.specs.declared.writer.CardSpelt.{CardSpelt}
+use Rattle.card.specs.declared.FormatRefusal.{FormatRefusal}
+use Rattle.card.specs.declared.writer.Spelt.{Spelt}
+use Rattle.std.specs.Prelude.{Result, Err}
 use Rattle.card.specs.declared.Head.{Head}
 use Rattle.card.specs.Tables.{table_size}
 use Rattle.card.proofs.Decides.{and_is, eq_is}
@@ -56,23 +58,25 @@ module _ (head : Head) (subnets places transitions arcs : List ℕ) where
       record { place_rows = omega (arith, a); transition_rows = omega (arith, b); arc_rows = rw (← b) (omega (arith, d)) }
 
   -- 17
-  module _ (r : CardSpelt) (u : IsUnspelt BadTable 0 r) where
-    pub rows_ragged : whole_rows subnets places transitions arcs ≡ false → IsSpelt (read_rows head subnets places transitions arcs) r
-    unfolding read_rows
-    rows_ragged e = rw e (record { answer = rw u.answer; bytes = u.bytes })
+  abbrev unfit : Result Spelt FormatRefusal
+  unfit = Err (record { fault = BadTable; bit = 0 })
 
-    pub rows_uncounted : whole_rows subnets places transitions arcs ≡ true → counted c ≡ false → IsSpelt (read_rows head subnets places transitions arcs) r
-    unfolding read_rows read_tables
-    rows_uncounted e k = rw (e, k) (record { answer = rw u.answer; bytes = u.bytes })
+  pub rows_ragged : whole_rows subnets places transitions arcs ≡ false → IsSpelt (read_rows head subnets places transitions arcs) unfit
+  unfolding read_rows
+  rows_ragged e = rw e (record { answer = refl; bytes = λ d m z. tt })
 
-    pub rows_unfit : whole_rows subnets places transitions arcs ≡ true → counted c ≡ true → (b : Bool) → Tells b (ValuesFit head subnets places transitions arcs) → b ≡ false
-        → IsSpelt (read_rows head subnets places transitions arcs) r
-    unfolding read_rows read_tables
-    rows_unfit e k b t q = go (all_fit (fields card c)) refl
-      where
-        go : (x : Bool) → all_fit (fields card c) ≡ x → IsSpelt (cond (whole_rows subnets places transitions arcs) (cond (counted c && all_fit (fields card c)) (read_card (encode c)) (Rattle.card.specs.Parsing.refused (number BadTable) 0)) (Rattle.card.specs.Parsing.refused (number BadTable) 0)) r
-        go false p = rw (e, k, p) (record { answer = rw u.answer; bytes = u.bytes })
-        go true p = absurd (let z = sym q ∙ t.1 (fields_fit head subnets places transitions arcs ((counted_is c).0 k) (whole_is e) p) in let y : ◌≡◌ {A = ℕ} 0 1 = cc in omega arith)
+  pub rows_uncounted : whole_rows subnets places transitions arcs ≡ true → counted c ≡ false → IsSpelt (read_rows head subnets places transitions arcs) unfit
+  unfolding read_rows read_tables
+  rows_uncounted e k = rw (e, k) (record { answer = refl; bytes = λ d m z. tt })
+
+  pub rows_unfit : whole_rows subnets places transitions arcs ≡ true → counted c ≡ true → (b : Bool) → Tells b (ValuesFit head subnets places transitions arcs) → b ≡ false
+      → IsSpelt (read_rows head subnets places transitions arcs) unfit
+  unfolding read_rows read_tables
+  rows_unfit e k b t q = go (all_fit (fields card c)) refl
+    where
+      go : (x : Bool) → all_fit (fields card c) ≡ x → IsSpelt (cond (whole_rows subnets places transitions arcs) (cond (counted c && all_fit (fields card c)) (read_card (encode c)) (Rattle.card.specs.Parsing.refused (number BadTable) 0)) (Rattle.card.specs.Parsing.refused (number BadTable) 0)) unfit
+      go false p = rw (e, k, p) (record { answer = refl; bytes = λ d m z. tt })
+      go true p = absurd (let z = sym q ∙ t.1 (fields_fit head subnets places transitions arcs ((counted_is c).0 k) (whole_is e) p) in let y : ◌≡◌ {A = ℕ} 0 1 = cc in omega arith)
 
   -- else the card
   pub rows_lines : (numbers : List ℕ) → counted c ≡ true → ValuesFit head subnets places transitions arcs → Gathered (in_order head subnets places transitions arcs) numbers → Lines c numbers
@@ -81,7 +85,7 @@ module _ (head : Head) (subnets places transitions arcs : List ℕ) where
       let q = numbers_runs head subnets places transitions arcs n in
       record { counts = k; fit = fits_fields head subnets places transitions arcs n f; entries = λ i l m. h.entries i l (rw q at m) ∙ ap (λ xs. get_or xs i 0) (sym q) }
 
-  pub rows_spelt : whole_rows subnets places transitions arcs ≡ true → counted c ≡ true → all_fit (fields card c) ≡ true → (r : CardSpelt) → IsSpelt (read_card (encode c)) r
+  pub rows_spelt : whole_rows subnets places transitions arcs ≡ true → counted c ≡ true → all_fit (fields card c) ≡ true → (r : Result Spelt FormatRefusal) → IsSpelt (read_card (encode c)) r
       → IsSpelt (read_rows head subnets places transitions arcs) r
   unfolding read_rows read_tables
   rows_spelt e k f r h = rw (e, k, f) h

@@ -16,15 +16,16 @@ use Rattle.card.specs.Bits.{bit, bit_field}
 use Rattle.card.specs.Format.{Format, done, get}
 use Rattle.card.specs.Grammar.{header, subnet, place, transition, arc}
 use Rattle.card.specs.Parsing.{Parsing, refused, whole, read}
-use Rattle.card.specs.inner.Layout.{width_at, width_of, fault_at, start_of, to, pick, move_at, or_bad, step_at, step_of, Sane}
+use Rattle.card.specs.inner.Layout.{width_at, width_of, fault_at, start_of, to, pick, move_at, Move, or_bad, step_at, step_of, Sane}
 use Rattle.card.specs.declared.FormatFault.{FormatFault}
 use Rattle.card.specs.declared.FormatFault.TheVariants.{Truncated}
 use Rattle.card.specs.declared.layout.Phase.{Phase}
 use Rattle.card.specs.declared.layout.Phase.TheVariants.{Version, SubnetCount, SignalCount, Limit, Scale, Parent, SubnetType, PlaceCount, TransitionCount, Kind, Capacity, Tokens, Signal, ArcCount, Rank, Direction, ArcSubnet, ArcPlace, Weight}
 use Rattle.card.specs.declared.layout.Layout.{Layout}
 use Rattle.card.specs.declared.Counts.{Counts}
-use Rattle.card.specs.declared.layout.Move.{Move}
-use Rattle.card.specs.declared.layout.Move.TheVariants.{More, Done, Bad}
+use Rattle.card.specs.declared.layout.Next.{Next}
+use Rattle.card.specs.declared.layout.Next.TheVariants.{More, Done}
+use Rattle.std.specs.Prelude.{Ok, Err}
 use Rattle.card.specs.inner.Reader.{arc_head_width, IsArcHead}
 use Rattle.card.specs.declared.reader.ArcHead.{ArcHead}
 use Rattle.card.specs.Tables.{table_size, card_bits, has_room}
@@ -33,53 +34,21 @@ use Rattle.card.proofs.Shape.{One, numbers_in, card_s}
 use Rattle.card.proofs.Simulates.{denote, move_f, next_of, waits, sim, denote_start}
 use Rattle.card.proofs.Bounds.{Budget, budget_card, sane_step, sane_start}
 
--- a number that is not at fault leads on
-abbrev Good : Move → Type 0
-Good (More m) = Unit {0}
-Good (Done k) = Unit {0}
-Good (Bad f) = ⊥
-
-good_pick : (b : Bool) (x y : Move) → Good x → Good y → Good (pick b x y)
-good_pick true x y h k = h
-good_pick false x y h k = k
-
-good_move : (p : Phase) (l : Layout) (v : ℕ) → Good (move_at p l v)
-good_move Version l v = tt
-good_move SubnetCount l v = tt
-good_move SignalCount l v = tt
-good_move Limit l v = tt
-good_move Scale l v = tt
-good_move Parent l v = tt
-good_move SubnetType l v = tt
-good_move PlaceCount l v = tt
-good_move TransitionCount l v = tt
-good_move Kind l v = tt
-good_move Capacity l v = tt
-good_move Tokens l v = good_pick (ltb 0 l.place_rows) _ _ tt tt
-good_move Signal l v = tt
-good_move ArcCount l v = tt
-good_move Rank l v = tt
-good_move Direction l v = tt
-good_move ArcSubnet l v = tt
-good_move ArcPlace l v = tt
-good_move Weight l v = good_pick (ltb 0 l.arc_rows) _ _ tt (good_pick (ltb 0 l.transition_rows) _ _ tt (good_pick (ltb 0 l.subnets) _ _ tt tt))
-
 -- what a field leads to
 abbrev pub Leads : Layout → ℕ → Move → Type 0
-Leads l v (More m) = (fault_at l.phase l v ≡ none) × (next_of (denote l) v ≡ denote m)
-Leads l v (Done k) = (fault_at l.phase l v ≡ none) × (next_of (denote l) v ≡ done k)
-Leads l v (Bad f) = fault_at l.phase l v ≡ some f
+Leads l v (Ok (More m)) = (fault_at l.phase l v ≡ none) × (next_of (denote l) v ≡ denote m)
+Leads l v (Ok (Done k)) = (fault_at l.phase l v ≡ none) × (next_of (denote l) v ≡ done k)
+Leads l v (Err f) = fault_at l.phase l v ≡ some f
 
 pub leads : (l : Layout) (v : ℕ) (r : Move) → r ≡ step_of l v → Leads l v r
 leads l v r e = go (fault_at l.phase l v) refl e
   where
-    move : (x r : Move) → fault_at l.phase l v ≡ none → next_of (denote l) v ≡ move_f x → Good x → r ≡ x → Leads l v r
-    move x (More m) p q g r = (p, q ∙ ap move_f (sym r))
-    move x (Done k) p q g r = (p, q ∙ ap move_f (sym r))
-    move x (Bad f) p q g r = absurd (subst Good (sym r) g)
+    move : (x : Next) → fault_at l.phase l v ≡ none → next_of (denote l) v ≡ move_f x → Leads l v (Ok x)
+    move (More m) p q = (p, q)
+    move (Done k) p q = (p, q)
 
     go : (x : Option FormatFault) → fault_at l.phase l v ≡ x → r ≡ or_bad x (move_at l.phase l v) → Leads l v r
-    go none p q = move (move_at l.phase l v) r p (sim l.phase l v p) (good_move l.phase l v) q
+    go none p q = subst (Leads l v) (sym q) (move (move_at l.phase l v) p (sim l.phase l v p))
     go (some f) p q = subst (Leads l v) (sym q) p
 
 -- A field may have no bits; so many such fields may come, this one among them, before one that has some. Bits that were read before pay for them,
@@ -127,12 +96,11 @@ spare_width ArcSubnet v = omega arith
 spare_width ArcPlace v = omega arith
 spare_width Weight v = omega arith
 
-abbrev Spared : (w : ℕ) → Move → Type 0
+abbrev Spared : (w : ℕ) → Next → Type 0
 Spared w (More m) = suc (spare m.phase) ≤ w
 Spared w (Done k) = Unit {0}
-Spared w (Bad f) = Unit {0}
 
-spared_pick : (b : Bool) (x y : Move) (w : ℕ) → Spared w x → Spared w y → Spared w (pick b x y)
+spared_pick : (b : Bool) (x y : Next) (w : ℕ) → Spared w x → Spared w y → Spared w (pick b x y)
 spared_pick true x y w h k = h
 spared_pick false x y w h k = k
 
@@ -158,11 +126,11 @@ spared_move ArcSubnet l v = omega arith
 spared_move ArcPlace l v = omega arith
 spared_move Weight l v = spared_pick (ltb 0 l.arc_rows) _ _ _ (omega arith) (spared_pick (ltb 0 l.transition_rows) _ _ _ (omega arith) (spared_pick (ltb 0 l.subnets) _ _ _ (omega arith) tt))
 
-spare_step : (l m : Layout) (v : ℕ) → step_of l v ≡ More m → suc (spare m.phase) ≤ width_of l + spare l.phase
+spare_step : (l m : Layout) (v : ℕ) → step_of l v ≡ Ok (More m) → suc (spare m.phase) ≤ width_of l + spare l.phase
 spare_step l m v e = go (fault_at l.phase l v) e
   where
-    go : (x : Option FormatFault) → or_bad x (move_at l.phase l v) ≡ More m → suc (spare m.phase) ≤ width_of l + spare l.phase
-    go none q = subst (Spared (width_of l + spare l.phase)) q (spared_move l.phase l v)
+    go : (x : Option FormatFault) → or_bad x (move_at l.phase l v) ≡ Ok (More m) → suc (spare m.phase) ≤ width_of l + spare l.phase
+    go none q = let e : move_at l.phase l v ≡ More m = cc in subst (Spared (width_of l + spare l.phase)) e (spared_move l.phase l v)
     go (some f) q = let z : ◌≡◌ {A = ℕ} 0 1 = cc in absurd (omega arith)
 
 -- a table of so many numbers has room for those of so many bytes
@@ -244,7 +212,7 @@ module _ (bytes : List ℕ) (size : ℕ) where
       unfolding read
       on x e = rw (le-ltb (8 * length bytes) (at + w) g, ← ev, e)
 
-      pub left_bad : (f : FormatFault) → r ≡ Bad f → read bytes card_s 0 ≡ refused (number f) at
+      pub left_bad : (f : FormatFault) → r ≡ Err f → read bytes card_s 0 ≡ refused (number f) at
       left_bad f e =
           let k = subst (Leads l v) e (leads l v r er) in
           sym waiting ∙ on (some f) k
@@ -259,7 +227,7 @@ module _ (bytes : List ℕ) (size : ℕ) where
       more_zeros : (i : ℕ) → n + 1 ≤ i → get_or (set t n v) i 0 ≡ 0
       more_zeros i m = get_or-set_other t n i v 0 (λ e. omega arith) ∙ h.zeros i (omega arith)
 
-      pub left_more : (m : Layout) → r ≡ More m → Left m (at + w) (n + 1) (set t n v)
+      pub left_more : (m : Layout) → r ≡ Ok (More m) → Left m (at + w) (n + 1) (set t n v)
       left_more m e =
           let k = subst (Leads l v) e (leads l v r er) in
           record {
@@ -283,7 +251,7 @@ module _ (bytes : List ℕ) (size : ℕ) where
               let b : Budget (get w (λ u. 0) (fault_at l.phase l) (next_of (denote l))) (suc (table_size - (n + 1))) (card_bits - at) = rw q at waited in
               rw p at (b.1 v (rw ev (field_small (bit bytes) (bit_small bytes) at w)) e)
 
-      pub left_done : (k : Counts) → r ≡ Done k → (read bytes card_s 0 ≡ whole k (at + w)) × (take (n + 1) (set t n v) ≡ numbers_in bytes card_s 0) × (length (set t n v) ≡ size)
+      pub left_done : (k : Counts) → r ≡ Ok (Done k) → (read bytes card_s 0 ≡ whole k (at + w)) × (take (n + 1) (set t n v) ≡ numbers_in bytes card_s 0) × (length (set t n v) ≡ size)
           × ((i : ℕ) → n + 1 ≤ i → get_or (set t n v) i 0 ≡ 0)
       unfolding read
       left_done k e =
@@ -296,20 +264,20 @@ module _ (bytes : List ℕ) (size : ℕ) where
 
   -- an arc's fields before the weight, read at once
   module _ (l : Layout) (at n : ℕ) (t : List ℕ) (h : Left l at n t) (e : l.phase ≡ Direction) (g : at + arc_head_width ≤ 8 * length bytes) (x : ArcHead) (ex : IsArcHead bytes at x) where
-    untested : (p q : Phase) (v : ℕ) → l.phase ≡ p → step_at p l v ≡ More (to l q) → More (to l q) ≡ step_of l v
+    untested : (p q : Phase) (v : ℕ) → l.phase ≡ p → step_at p l v ≡ Ok (More (to l q)) → Ok (More (to l q)) ≡ step_of l v
     untested p q v i s = sym (ap (λ (y : Phase). step_at y l v) i ∙ s)
 
     first : Left (to l ArcSubnet) (at + 1) (n + 1) (set t n x.direction)
     unfolding arc
-    first = left_more l at n t 1 h (sym (ap (λ (p : Phase). width_at p l.version) e)) x.direction (More (to l ArcSubnet)) (omega arith) ex.direction (untested Direction ArcSubnet x.direction e refl) (to l ArcSubnet) refl
+    first = left_more l at n t 1 h (sym (ap (λ (p : Phase). width_at p l.version) e)) x.direction (Ok (More (to l ArcSubnet))) (omega arith) ex.direction (untested Direction ArcSubnet x.direction e refl) (to l ArcSubnet) refl
 
     second : Left (to l ArcPlace) (at + 1 + 5) (n + 1 + 1) (set (set t n x.direction) (n + 1) x.subnet)
     unfolding arc
-    second = left_more (to l ArcSubnet) (at + 1) (n + 1) _ 5 first refl x.subnet (More (to l ArcPlace)) (omega arith) ex.subnet refl (to l ArcPlace) refl
+    second = left_more (to l ArcSubnet) (at + 1) (n + 1) _ 5 first refl x.subnet (Ok (More (to l ArcPlace))) (omega arith) ex.subnet refl (to l ArcPlace) refl
 
     third : Left (to l Weight) (at + 1 + 5 + 8) (n + 1 + 1 + 1) (set (set (set t n x.direction) (n + 1) x.subnet) (n + 1 + 1) x.place)
     unfolding arc
-    third = left_more (to l ArcPlace) (at + 1 + 5) (n + 1 + 1) _ 8 second refl x.place (More (to l Weight)) (omega arith) ex.place refl (to l Weight) refl
+    third = left_more (to l ArcPlace) (at + 1 + 5) (n + 1 + 1) _ 8 second refl x.place (Ok (More (to l Weight))) (omega arith) ex.place refl (to l Weight) refl
 
     pub arc_room : (n + 2 < table_size) × (n + 2 < size)
     unfolding arc

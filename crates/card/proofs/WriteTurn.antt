@@ -21,16 +21,16 @@ use Rattle.card.specs.Grammar.{card}
 use Rattle.card.specs.Parsing.{refused, whole, read_card}
 use Rattle.card.specs.Writing.{Field, fields, encode, all_fit, counted}
 use Rattle.card.specs.Tables.{numbers_of, table_size, card_bits, card_bytes}
-use Rattle.card.specs.Spelling.{Lines, IsSpelt, IsUnspelt}
+use Rattle.card.specs.Spelling.{Lines, IsSpelt, bytes_of}
 use Rattle.card.specs.Spelling
-use Rattle.card.specs.inner.Layout.{width_of, fault_at, start_of, step_of, Sane}
+use Rattle.card.specs.inner.Layout.{width_of, fault_at, start_of, Move, step_of, Sane}
 use Rattle.card.specs.declared.FormatFault.{FormatFault}
 use Rattle.card.specs.declared.layout.Layout.{Layout}
 use Rattle.card.specs.declared.Counts.{Counts}
-use Rattle.card.specs.declared.layout.Move.{Move}
-use Rattle.card.specs.declared.layout.Move.TheVariants.{More, Done, Bad}
-use Rattle.card.specs.declared.writer.CardSpelt.{CardSpelt}
-use Rattle.card.specs.declared.writer.SpellAnswer.TheVariants.{Whole}
+use Rattle.card.specs.declared.layout.Next.TheVariants.{More, Done}
+use Rattle.card.specs.declared.FormatRefusal.{FormatRefusal}
+use Rattle.card.specs.declared.writer.Spelt as Writer
+use Rattle.std.specs.Prelude.{Result, Ok, Err}
 use Rattle.card.proofs.Sums.{total_append, table_length, table_at}
 use Rattle.card.proofs.Walk.{bits, walk, Spelt}
 use Rattle.card.proofs.BitLaws.{field_local, byte_field, lt_or_ge}
@@ -180,11 +180,14 @@ module _ (c : Card) (bytes : List ℕ) (end : ℕ) (k : all_fit (fields card c) 
       ext_get_or 0 bytes (table 0 card_bytes (λ i. get_or (encode c) i 0)) (long ∙ sym (table_length 0 card_bytes (λ i. get_or (encode c) i 0)))
       (λ i l. whole_byte i ∙ sym (table_at card_bytes (λ j. get_or (encode c) j 0) 0 i (omega (arith, long))))
 
-  pub whole_spelt : counted c ≡ true → (d : Card) → walk card c 0 ≡ whole d end → (r : CardSpelt) → r.answer ≡ Whole ((end + 7) / 8) → r.bytes ≡ bytes → IsSpelt (read_card (encode c)) r
+  pub whole_spelt : counted c ≡ true → (d : Card) → walk card c 0 ≡ whole d end → (r : Writer.Spelt) → r.length ≡ (end + 7) / 8 → r.bytes ≡ bytes → IsSpelt (read_card (encode c)) (Ok r)
   unfolding encode
   whole_spelt n d w r ea eb =
       let q : d ≡ c = (walk_whole c d end ((counted_is c).0 n) w).0 in
-      rw (read_encode c k, w, q) (record { answer = rw ea (ap Spelling.whole (omega (arith, spell_length (fields card c)))); bytes = eb ∙ whole_bytes })
+      rw (read_encode c k, w, q) (record {
+        answer = rw ea (ap Spelling.whole (omega (arith, spell_length (fields card c))));
+        bytes = λ x m z. eb ∙ whole_bytes ∙ ap bytes_of (let y : c ≡ x = cc in y);
+      })
 
 -- a field more
 spelt_keep : (old new : List ℕ) (at : ℕ) (fs : List Field) → ((i : ℕ) → i < at + bits fs → bit new i ≡ bit old i) → Spelt old at fs → Spelt new at fs
@@ -213,19 +216,19 @@ module _ (numbers : List ℕ) (l : Layout) (at n : ℕ) (bytes : List ℕ) (w v 
       go (suc k) e h = (omega arith, omega (arith, h.0, b.low))
 
   -- a number that does not fit is none of a card's
-  pub behind_wide : v ≡ get_or numbers n 0 → 2 ^ w ≤ v → (c : Card) → Lines c numbers → (r : CardSpelt) → IsSpelt (read_card (encode c)) r
+  pub behind_wide : v ≡ get_or numbers n 0 → 2 ^ w ≤ v → (c : Card) → Lines c numbers → (r : Result Writer.Spelt FormatRefusal) → IsSpelt (read_card (encode c)) r
   behind_wide ev h c k r = let x = next_of_rest numbers c k l at n bytes w v behind_room.0 ew ev (b.rest c k) in absurd (omega (arith, x.fits))
 
   module _ (r : Move) (new : List ℕ) (ev : v ≡ get_or numbers n 0) (fits : v < 2 ^ w) (put : Put bytes at w v new) (er : r ≡ step_of l v) where
     next : (c : Card) → Lines c numbers → Next numbers c l at n bytes w v
     next c k = next_of_rest numbers c k l at n bytes w v behind_room.0 ew ev (b.rest c k)
 
-    pub behind_bad : (f : FormatFault) → r ≡ Bad f → (c : Card) → Lines c numbers → (s : CardSpelt) → IsUnspelt f at s → IsSpelt (read_card (encode c)) s
-    behind_bad f e c k s u =
+    pub behind_bad : (f : FormatFault) → r ≡ Err f → (c : Card) → Lines c numbers → IsSpelt (read_card (encode c)) (Err (record { fault = f; bit = at }))
+    behind_bad f e c k =
         let x = next c k in
         let y = subst (Leads l v) e (leads l v r er) in
         let q : walk card c 0 ≡ refused (number f) at = sym x.walks ∙ rw (x.right, x.faults, y) in
-        rw (read_encode c k.fit, q) (record { answer = rw u.answer; bytes = u.bytes })
+        rw (read_encode c k.fit, q) (record { answer = refl; bytes = λ d m z. tt })
 
     -- the number is spelt behind the others
     abbrev field : Field
@@ -236,7 +239,7 @@ module _ (numbers : List ℕ) (l : Layout) (at n : ℕ) (bytes : List ℕ) (w v 
         spelt_snoc new 0 front field (spelt_keep bytes new 0 front (λ i m. put.outside i (inl (omega arith))) s)
         (let q : 0 + bits front ≡ at = omega arith in rw q put.value)
 
-    pub behind_more : (m : Layout) → r ≡ More m → Behind numbers m (at + w) (n + 1) new
+    pub behind_more : (m : Layout) → r ≡ Ok (More m) → Behind numbers m (at + w) (n + 1) new
     behind_more m e =
         let y = subst (Leads l v) e (leads l v r er) in
         record {
@@ -271,17 +274,17 @@ module _ (numbers : List ℕ) (l : Layout) (at n : ℕ) (bytes : List ℕ) (w v 
             }
 
     -- the last number: what is spelt is the card
-    pub behind_done : (m : Counts) → r ≡ Done m → (c : Card) → Lines c numbers → (s : CardSpelt) → s.answer ≡ Whole ((at + w + 7) / 8) → s.bytes ≡ new → IsSpelt (read_card (encode c)) s
+    pub behind_done : (m : Counts) → r ≡ Ok (Done m) → (c : Card) → Lines c numbers → (s : Writer.Spelt) → s.length ≡ (at + w + 7) / 8 → s.bytes ≡ new → IsSpelt (read_card (encode c)) (Ok s)
     unfolding fields
     behind_done m e c k s ea eb = go (x.after v) refl
       where
         x : Next numbers c l at n bytes w v
         x = next c k
 
-        y : Leads l v (Done m)
+        y : Leads l v (Ok (Done m))
         y = subst (Leads l v) e (leads l v r er)
 
-        go : (f : Format Card Card) → x.after v ≡ f → IsSpelt (read_card (encode c)) s
+        go : (f : Format Card Card) → x.after v ≡ f → IsSpelt (read_card (encode c)) (Ok s)
         go (get u value fault after) q = absurd (let p = ap (erase counts_of) (sym q) ∙ x.shape ∙ y.1 in let z : ◌≡◌ {A = ℕ} 0 1 = cc in omega arith)
         go (done d) q =
             let all : x.front ++ (field ∷ []) ≡ fields card c = rw q at x.joined in

@@ -5,7 +5,6 @@ use Rattle.card.specs.Card.{Subnet, Place, Transition, Arc, Card, subnet_at, pla
 use Rattle.card.specs.Format.{count}
 use Rattle.card.specs.Grammar.{max_subnets, max_count, header, subnet, place, transition, arc}
 use Rattle.card.specs.Writing.{subnet_bit, transition_bit}
-use Rattle.card.specs.declared.tables.Arc as declared
 
 -- the fields in front of so many subnets, places, transitions and arcs
 abbrev pub fields_before : (subnets places transitions arcs : ℕ) → ℕ
@@ -48,20 +47,11 @@ pub record ArcThere (numbers : List ℕ) (row j : ℕ) (a : Arc) : Type 0 where
   pub place : get_or numbers (arc_field row j 2) 0 ≡ a.place
   pub weight : get_or numbers (arc_field row j 3) 0 ≡ a.weight
 
--- an arc that the code holds, as one of a card
-abbrev pub arc_of : declared.Arc → Arc
-arc_of a = record { direction = a.direction; subnet = a.subnet; place = a.place; weight = a.weight }
-
 -- transition t is one of subnet s
 pub record Lists (c : Card) (s t : ℕ) : Type 0 where
   pub subnet : s < length c.subnets
   pub first : first_transition c s ≤ t
   pub last : t < first_transition c (suc s)
-
--- transition t, which is one of subnet i, begins at this row
-pub record Begins (c : Card) (row i t : ℕ) : Type 0 where
-  pub lists : Lists c i t
-  pub at : row ≡ transition_row c i t
 
 -- a table holds the rows of a card
 pub record Laid (c : Card) (numbers : List ℕ) : Type 0 where

@@ -12,4 +12,5 @@ pub mod Index
 pub mod Tables
 pub mod Spelling
 pub mod Rows
+pub mod View
 pub mod inner

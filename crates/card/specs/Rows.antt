@@ -7,7 +7,12 @@ use Rattle.card.specs.Card.{Subnet, Place, Transition, Arc, Card, subnet_fields,
 use Rattle.card.specs.Parsing.{Parsing, refused}
 use Rattle.card.specs.Writing.{read_tables}
 use Rattle.card.specs.declared.Head.{Head}
+use Rattle.card.specs.declared.rows.Rows.{Rows}
 use Rattle.card.specs.declared.FormatFault.TheVariants.{BadTable}
+
+-- a function that takes the four slices one by one, at the rows that hold them
+abbrev pub on_rows {ℓ} : {A : Type ℓ} → (List ℕ → List ℕ → List ℕ → List ℕ → A) → Rows → A
+on_rows f r = f r.subnets.now r.places.now r.transitions.now r.arcs.now
 
 -- number k of row i, where a row has so many numbers
 abbrev pub entry : (rows : List ℕ) → (width i k : ℕ) → ℕ

@@ -1,14 +1,13 @@
 -- A card's numbers in one table, as the reader leaves them for the layers above.
-use Rattle.std.specs.Prelude.{ℕ, ◌+◌, ◌*◌, ◌/◌, ◌≤◌, ◌≡◌, Bool, true, false, cond, List, map, length, get_or, leb}
+use Rattle.std.specs.Prelude.{ℕ, ◌+◌, ◌*◌, ◌/◌, ◌≤◌, ◌≡◌, Bool, true, false, cond, List, map, length, get_or, leb, Result, Ok, Err, IfOk}
 use Rattle.card.specs.Finite.{table}
 use Rattle.card.specs.Numbers.{number}
 use Rattle.card.specs.Card.{Card, header_fields, subnet_fields, place_fields, transition_fields, arc_fields}
 use Rattle.card.specs.Grammar.{max_subnets, max_count, max_arcs, card}
 use Rattle.card.specs.Parsing.{Parsing}
 use Rattle.card.specs.Writing.{fields}
-use Rattle.card.specs.Index.{starts_size, starts_of}
-use Rattle.card.specs.declared.reader.ReadAnswer.{ReadAnswer}
-use Rattle.card.specs.declared.reader.ReadAnswer.TheVariants.{Whole, Refused}
+use Rattle.card.specs.Index.{starts_of}
+use Rattle.card.specs.declared.FormatRefusal.{FormatRefusal}
 use Rattle.card.specs.declared.reader.CardRead.{CardRead}
 
 -- the most fields of a card: those of its header, and of so many subnets, places, and transitions with their arcs
@@ -31,9 +30,9 @@ pub data ReadOutcome : Type 0 where
   whole : (subnets places transitions : ℕ) → ReadOutcome
   refused : (number bit : ℕ) → ReadOutcome
 
-abbrev pub read_outcome : ReadAnswer → ReadOutcome
-read_outcome (Whole k) = whole k.subnets k.places k.transitions
-read_outcome (Refused f at) = refused (number f) at
+abbrev pub read_outcome : Result CardRead FormatRefusal → ReadOutcome
+read_outcome (Ok r) = whole r.counts.subnets r.counts.places r.counts.transitions
+read_outcome (Err e) = refused (number e.fault) e.bit
 
 abbrev pub outcome_of : Parsing Card → ReadOutcome
 outcome_of (Parsing.whole c end) = whole (length c.subnets) (length c.places) (length c.transitions)
@@ -46,18 +45,15 @@ numbers_table size c = table 0 size (λ i. get_or (numbers_of c) i 0)
 abbrev pub zeros : (size : ℕ) → List ℕ
 zeros size = table 0 size (λ i. 0)
 
--- the two tables of a card that was read: its numbers, and where its rows begin; of a refused one, zeros
+-- the numbers of a card that was read; of a refused one, zeros
 abbrev pub table_of : (size : ℕ) → Parsing Card → List ℕ
 table_of size (Parsing.whole c end) = numbers_table size c
 table_of size (Parsing.refused n at) = zeros size
 
-abbrev pub starts_read : Parsing Card → List ℕ
-starts_read (Parsing.whole c end) = starts_of c
-starts_read (Parsing.refused n at) = zeros starts_size
-
-pub record IsRead (x : Parsing Card) (r : CardRead) : Type 0 where
-  pub answer : read_outcome r.answer ≡ outcome_of x
-  pub starts : r.starts ≡ starts_read x
+-- the answer, and where the rows of a card that is whole begin
+pub record IsRead (x : Parsing Card) (r : Result CardRead FormatRefusal) : Type 0 where
+  pub answer : read_outcome r ≡ outcome_of x
+  pub starts : (c : Card) (end : ℕ) → x ≡ Parsing.whole c end → IfOk r (λ k. k.starts ≡ starts_of c)
 
 -- A table has room for the numbers of any card of so many bytes: it is the largest card's, or has a number for each bit. (Where fields of no
 -- bits stand on a card, fields with more bits than one stand before them.)

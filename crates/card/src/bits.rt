@@ -3,18 +3,11 @@ ghost use Rattle.std.specs.Prelude.{◌≡◌, ◌+◌, ◌*◌, ◌^◌, ◌<�
 ghost use Rattle.card.specs.Bits.{bit, bit_field};
 ghost use Rattle.card.specs.inner.Spans.{Span, patch, Put};
 
-fn byte(card: &[u8], k: usize) -> u32
-    requires { k < length card.now }
-    ensures { (result ≡ get_or card.now k 0) × (result < 256) }
-{
-    card[k] as u32
-}
-
 // Byte k, and 0 past the end.
-pub fn byte_at(card: &[u8], k: usize) -> u32
+fn byte_at(card: &[u8], k: usize) -> u32
     ensures { (result ≡ get_or card.now k 0) × (result < 256) }
 {
-    if k < card.len() { byte(card, k) } else { 0 }
+    card.get(k).copied().unwrap_or(0) as u32
 }
 
 pub fn pow2(n: usize) -> u32
@@ -37,10 +30,10 @@ fn span_at(card: &[u8], k: usize) -> u32
     requires { k ≤ length card.now }
     ensures { Span card.now k result }
 {
-    if k + 2 < card.len() {
-        return 65536 * byte(card, k) + (256 * byte(card, k + 1) + byte(card, k + 2));
+    match &card[k..] {
+        [a, b, c, ..] => 65536 * (*a as u32) + (256 * (*b as u32) + *c as u32),
+        _ => 65536 * byte_at(card, k) + (256 * byte_at(card, k + 1) + byte_at(card, k + 2)),
     }
-    65536 * byte_at(card, k) + (256 * byte_at(card, k + 1) + byte_at(card, k + 2))
 }
 
 // The field of width bits from bit at on.

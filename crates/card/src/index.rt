@@ -1,5 +1,5 @@
 // Where the rows of a card stand: among its numbers, and on the card.
-ghost use Rattle.std.specs.Prelude.{◌≡◌, ℕ, ◌+◌, ◌*◌, ◌<◌, length};
+ghost use Rattle.std.specs.Prelude.{◌≡◌, ℕ, ◌+◌, ◌*◌, ◌≤◌, length, get_or, set};
 ghost use Rattle.card.specs.Card.{Card};
 ghost use Rattle.card.specs.Format.{count, size};
 ghost use Rattle.card.specs.Grammar.{subnet, place, transition, arc};
@@ -12,7 +12,6 @@ use crate::layout::{
     arc_fields, arc_width, header_fields, header_width, place_fields, place_width, subnet_fields,
     subnet_width, transition_fields, transition_width,
 };
-use crate::tables::{arc_count, place_count, put_wide, transition_count, version};
 use crate::{
     FIRST_PLACES, FIRST_TRANSITIONS, STARTS, SUBNET_BITS, TRANSITION_BITS, TRANSITION_ROWS,
 };
@@ -24,35 +23,88 @@ struct Position {
     pub bit: u32,
 }
 
-// Whether a position can be on a card. A walk ends where it is not, so that no sum overflows, whatever the table holds.
-fn on_card(p: Position) -> bool
-    ensures { Tells result (OnCard p) }
-{
-    if 100000 < p.row {
-        return false;
+impl Position {
+    // Whether it can be on a card. A walk ends where it is not, so that no sum overflows, whatever the table holds.
+    fn is_on_card(self) -> bool
+        ensures { Tells result (OnCard self) }
+    {
+        self.row <= 100000 && self.bit <= 1000000
     }
-    p.bit <= 1000000
+
+    // So many numbers and bits further on.
+    fn after(self, numbers: u32, bits: u32) -> Position
+        requires on_card { OnCard self }
+        requires few_numbers { numbers ≤ 1000000 }
+        requires few_bits { bits ≤ 10000000 }
+        ensures { Moved self result numbers bits }
+    {
+        Position {
+            row: self.row + numbers,
+            bit: self.bit + bits,
+        }
+    }
+
+    // Behind a transition and its arcs.
+    fn after_transition(self, version: u16, arcs: u16) -> Position
+        requires { OnCard self }
+        ensures { Moved self result (count (transition 0 0) + count arc * arcs) (size (transition version 0) + size arc * arcs) }
+    {
+        self.after(
+            transition_fields() + arc_fields() * arcs as u32,
+            transition_width(version) + arc_width() * arcs as u32,
+        )
+    }
+
+    // Behind a subnet's row and its places.
+    fn after_places(self, places: u16) -> Position
+        requires { OnCard self }
+        ensures { Moved self result (count (subnet 0 0 0) + count (place 0) * places) (size (subnet 0 0 0) + size (place 0) * places) }
+    {
+        self.after(
+            subnet_fields() + place_fields() * places as u32,
+            subnet_width() + place_width() * places as u32,
+        )
+    }
 }
 
-// Behind a transition and its arcs.
-fn after_transition(p: Position, version: u16, arcs: u16) -> Position
-    requires { OnCard p }
-    ensures { Moved p result (count (transition 0 0) + count arc * arcs) (size (transition version 0) + size arc * arcs) }
+// Number i of a table, and 0 past its end.
+pub fn number_at(numbers: &[u16], i: usize) -> u16
+    ensures { result ≡ get_or numbers.now i 0 }
 {
-    Position {
-        row: p.row + (transition_fields() + arc_fields() * arcs as u32),
-        bit: p.bit + (transition_width(version) + arc_width() * arcs as u32),
-    }
+    numbers.get(i).copied().unwrap_or(0)
 }
 
-// Behind a subnet's row and its places.
-fn after_places(p: Position, places: u16) -> Position
-    requires { OnCard p }
-    ensures { Moved p result (count (subnet 0 0 0) + count (place 0) * places) (size (subnet 0 0 0) + size (place 0) * places) }
+// What the walk reads: the version, and the counts of a subnet or a transition whose row begins at row.
+fn version(numbers: &[u16]) -> u16
+    ensures { result ≡ get_or numbers.now 0 0 }
 {
-    Position {
-        row: p.row + (subnet_fields() + place_fields() * places as u32),
-        bit: p.bit + (subnet_width() + place_width() * places as u32),
+    number_at(numbers, 0)
+}
+
+fn place_count(numbers: &[u16], row: u32) -> u16
+    ensures { result ≡ get_or numbers.now (row + 2) 0 }
+{
+    number_at(numbers, row as usize + 2)
+}
+
+fn transition_count(numbers: &[u16], row: u32) -> u16
+    ensures { result ≡ get_or numbers.now (row + 3) 0 }
+{
+    number_at(numbers, row as usize + 3)
+}
+
+fn arc_count(numbers: &[u16], row: u32) -> u16
+    ensures { result ≡ get_or numbers.now (row + 1) 0 }
+{
+    number_at(numbers, row as usize + 1)
+}
+
+// Stores entry i of a slice; past its end it stores nothing.
+fn put_start(starts: &mut [u32], i: usize, v: u32)
+    ensures { starts.new ≡ set starts.old i v }
+{
+    if i < starts.len() {
+        starts[i] = v;
     }
 }
 
@@ -61,10 +113,10 @@ fn put_subnet(starts: &mut [u32], s: u16, p: Position, place: u32, transition: u
     ensures { starts.new ≡ put_subnet starts.old s p.row p.bit place transition }
 {
     let i = s as usize;
-    put_wide(starts, i, p.row);
-    put_wide(starts, SUBNET_BITS + i, p.bit);
-    put_wide(starts, FIRST_PLACES + i, place);
-    put_wide(starts, FIRST_TRANSITIONS + i, transition);
+    put_start(starts, i, p.row);
+    put_start(starts, SUBNET_BITS + i, p.bit);
+    put_start(starts, FIRST_PLACES + i, place);
+    put_start(starts, FIRST_TRANSITIONS + i, transition);
 }
 
 // Stores where transitions begin, from transition first on, and says where the last one ends.
@@ -81,17 +133,14 @@ fn index_transitions(
     if 1000 < first {
         return from;
     }
-    let end = first + count as u32;
     let mut p = from;
-    let mut t = first;
-    while t < end {
-        if !on_card(p) {
+    for t in first..first + count as u32 {
+        if !p.is_on_card() {
             return p;
         }
-        put_wide(starts, TRANSITION_ROWS + t as usize, p.row);
-        put_wide(starts, TRANSITION_BITS + t as usize, p.bit);
-        p = after_transition(p, version(numbers), arc_count(numbers, p.row));
-        t += 1;
+        put_start(starts, TRANSITION_ROWS + t as usize, p.row);
+        put_start(starts, TRANSITION_BITS + t as usize, p.bit);
+        p = p.after_transition(version(numbers), arc_count(numbers, p.row));
     }
     p
 }
@@ -105,21 +154,19 @@ pub fn index(numbers: &[u16], subnets: u16) -> [u32; STARTS]
         row: header_fields(),
         bit: header_width(version(numbers)),
     };
-    let mut place: u32 = 0;
-    let mut transition: u32 = 0;
-    let mut s: u16 = 0;
-    while s < subnets {
-        if !on_card(p) {
+    let mut place = 0;
+    let mut transition = 0;
+    for s in 0..subnets {
+        if !p.is_on_card() {
             return starts;
         }
         put_subnet(&mut starts, s, p, place, transition);
         let n = place_count(numbers, p.row);
         let k = transition_count(numbers, p.row);
-        p = index_transitions(numbers, &mut starts, after_places(p, n), transition, k);
+        p = index_transitions(numbers, &mut starts, p.after_places(n), transition, k);
         place += n as u32;
         transition += k as u32;
-        s += 1;
     }
-    put_subnet(&mut starts, s, p, place, transition);
+    put_subnet(&mut starts, subnets, p, place, transition);
     starts
 }

@@ -1,10 +1,11 @@
 // The order of a card's fields, as a machine that reader and writer share: what comes next, how wide it is, where its number leads.
-ghost use Rattle.std.specs.Prelude.{◌≡◌, true, ℕ, ◌+◌, ◌^◌, ◌<◌, ◌≤◌};
+ghost use Rattle.std.specs.Prelude.{◌≡◌, true, ℕ, ◌+◌, ◌^◌, ◌<◌, ◌≤◌, Ok, Some};
 ghost use Rattle.card.specs.Format.{count, size, size_from};
 ghost use Rattle.card.specs.Grammar;
 ghost use Rattle.card.specs.Grammar.{header, subnet, place, transition, arc};
-ghost use Rattle.card.specs.inner.Layout.{start_of, width_at, width_of, to, step_at, step_of, IsArcField, ArcGoesOn, Sane};
-ghost use Rattle.card.specs.declared.layout.Move.TheVariants.{More};
+ghost use Rattle.card.specs.inner.Layout.{start_of, width_at, width_of, to, step_at, step_of, Sane};
+ghost use Rattle.card.specs.declared.layout.Next.TheVariants.{More};
+ghost use Rattle.card.specs.declared.layout.Layout.{Layout};
 ghost use Rattle.card.specs.declared.layout.Phase.TheVariants.{Version, SubnetCount, SignalCount, Limit, Scale, Parent, SubnetType, PlaceCount, TransitionCount, Kind, Capacity, Tokens, Signal, ArcCount, Rank, Direction, ArcSubnet, ArcPlace, Weight};
 
 use crate::{
@@ -37,7 +38,7 @@ pub enum Phase {
 
 // The field that comes next, and what the fields before it say of those behind it: the version; how many signals there are; how many subnets
 // come after this one, and its number; how many places and transitions are listed so far; how many rows of each kind come after this one;
-// the capacity of the place at hand. The phase stands last, so that in Move it does not lie over a count of Counts: else the compiled
+// the capacity of the place at hand. The phase stands last, so that in Next it does not lie over a count of Counts: else the compiled
 // reader keeps it in memory as one byte, loads two, and waits for that at each field.
 #[derive(Clone, Copy)]
 pub struct Layout {
@@ -54,11 +55,11 @@ pub struct Layout {
     pub phase: Phase,
 }
 
+// What comes behind a field: another, or nothing, and then so much was listed.
 #[derive(Clone, Copy)]
-pub enum Move {
+pub enum Next {
     More(Layout),
     Done(Counts),
-    Bad(FormatFault),
 }
 
 pub fn start() -> Layout
@@ -116,81 +117,42 @@ pub fn width_at(p: Phase, version: u16) -> usize
 pub fn width(l: Layout) -> usize
     ensures { (result ≡ width_of l) × (result ≤ 16) }
 {
-    let p = l.phase;
-    width_at(p, l.version)
-}
-
-// The same layout at another phase.
-pub fn moved(l: Layout, p: Phase) -> Layout
-    ensures { result ≡ to l p }
-{
-    Layout {
-        phase: p,
-        version: l.version,
-        signals: l.signals,
-        subnets: l.subnets,
-        subnet: l.subnet,
-        places: l.places,
-        transitions: l.transitions,
-        place_rows: l.place_rows,
-        transition_rows: l.transition_rows,
-        arc_rows: l.arc_rows,
-        capacity: l.capacity,
-    }
+    width_at(l.phase, l.version)
 }
 
 // Says yes only where an arc comes next.
 pub fn arc_next(l: Layout) -> bool
     ensures { result ≡ true → l.phase ≡ Direction }
 {
-    let p = l.phase;
-    match p {
-        Phase::Direction => true,
-        _ => false,
-    }
+    matches!(l.phase, Phase::Direction)
 }
 
-// Which field of an arc comes next: 0 to 3; of 4 nothing is said.
-pub fn arc_field(l: Layout) -> usize
-    ensures { IsArcField l result }
+// What comes behind a field of an arc that has another field of the transition's arcs behind it, whatever the number. Reader and writer ask
+// this first: most fields are arcs', and a `step` answers through memory.
+#[tactic(auto, unfolding(crate::specs::Grammar::arc))]
+pub fn arc_step(l: Layout) -> Option<Layout>
+    ensures { (m : Layout) → result ≡ Some m → (v : ℕ) → Ok (More m) ≡ step_of l v }
 {
-    let p = l.phase;
-    match p {
-        Phase::Direction => 0,
-        Phase::ArcSubnet => 1,
-        Phase::ArcPlace => 2,
-        Phase::Weight => 3,
-        _ => 4,
+    match l.phase {
+        Phase::Direction => Some(Layout {
+            phase: Phase::ArcSubnet,
+            ..l
+        }),
+        Phase::ArcSubnet => Some(Layout {
+            phase: Phase::ArcPlace,
+            ..l
+        }),
+        Phase::ArcPlace => Some(Layout {
+            phase: Phase::Weight,
+            ..l
+        }),
+        Phase::Weight if 0 < l.arc_rows => Some(Layout {
+            phase: Phase::Direction,
+            arc_rows: l.arc_rows - 1,
+            ..l
+        }),
+        _ => None,
     }
-}
-
-// Says yes only where another field of the transition's arcs stands behind field k of this one.
-pub fn arc_goes_on(l: Layout, k: usize) -> bool
-    ensures { result ≡ true → ArcGoesOn l k }
-{
-    if k == 3 {
-        return 0 < l.arc_rows;
-    }
-    k < 3
-}
-
-// Then that field comes next, whatever the number. Reader and writer take it so: most fields are arcs', and a `step` answers through memory.
-pub fn arc_step(l: Layout, k: usize) -> Layout
-    requires { IsArcField l k × ArcGoesOn l k }
-    ensures { (v : ℕ) → More result ≡ step_of l v }
-{
-    if k == 0 {
-        return moved(l, Phase::ArcSubnet);
-    }
-    if k == 1 {
-        return moved(l, Phase::ArcPlace);
-    }
-    if k == 2 {
-        return moved(l, Phase::Weight);
-    }
-    let mut m = l;
-    m.arc_rows = l.arc_rows - 1;
-    moved(m, Phase::Direction)
 }
 
 // How wide an arc's fields before the weight are. Nothing tests them, so that they may be read at once.
@@ -270,201 +232,236 @@ pub fn arc_width() -> u32
     (arc_head_width() + width_at(Phase::Weight, 0)) as u32
 }
 
-fn after_version(l: Layout, v: u16) -> Move
+#[tactic(auto, unfolding(crate::specs::Grammar::header))]
+fn after_version(l: Layout, v: u16) -> Result<Next, FormatFault>
     ensures { result ≡ step_at Version l v }
 {
-    if v < 1 {
-        return Move::Bad(FormatFault::BadVersion);
+    if v < 1 || MAX_VERSION < v {
+        return Err(FormatFault::BadVersion);
     }
-    if MAX_VERSION < v {
-        return Move::Bad(FormatFault::BadVersion);
-    }
-    let mut m = l;
-    m.version = v;
-    Move::More(moved(m, Phase::SubnetCount))
+    Ok(Next::More(Layout {
+        phase: Phase::SubnetCount,
+        version: v,
+        ..l
+    }))
 }
 
-fn after_subnet_count(l: Layout, v: u16) -> Move
+#[tactic(auto, unfolding(crate::specs::Grammar::header))]
+fn after_subnet_count(l: Layout, v: u16) -> Result<Next, FormatFault>
     ensures { result ≡ step_at SubnetCount l v }
 {
-    if v < 1 {
-        return Move::Bad(FormatFault::BadSize);
+    if v < 1 || MAX_SUBNETS < v {
+        return Err(FormatFault::BadSize);
     }
-    if MAX_SUBNETS < v {
-        return Move::Bad(FormatFault::BadSize);
-    }
-    let mut m = l;
-    m.subnets = v - 1;
-    Move::More(moved(m, Phase::SignalCount))
+    Ok(Next::More(Layout {
+        phase: Phase::SignalCount,
+        subnets: v - 1,
+        ..l
+    }))
 }
 
-fn after_signal_count(l: Layout, v: u16) -> Move
+#[tactic(auto, unfolding(crate::specs::Grammar::header))]
+fn after_signal_count(l: Layout, v: u16) -> Result<Next, FormatFault>
     ensures { result ≡ step_at SignalCount l v }
 {
     if v < 1 {
-        return Move::Bad(FormatFault::BadSize);
+        return Err(FormatFault::BadSize);
     }
-    let mut m = l;
-    m.signals = v;
-    Move::More(moved(m, Phase::Limit))
+    Ok(Next::More(Layout {
+        phase: Phase::Limit,
+        signals: v,
+        ..l
+    }))
 }
 
-fn after_parent(l: Layout, v: u16) -> Move
+// The main net is its own parent; any other subnet's parent is a lower one.
+#[tactic(auto, unfolding(crate::specs::Grammar::subnet))]
+fn after_parent(l: Layout, v: u16) -> Result<Next, FormatFault>
     ensures { result ≡ step_at Parent l v }
 {
-    if l.subnet == 0 {
-        if v == 0 {
-            return Move::More(moved(l, Phase::SubnetType));
-        }
-        return Move::Bad(FormatFault::BadParent);
+    let fits = if l.subnet == 0 { v == 0 } else { v < l.subnet };
+    if !fits {
+        return Err(FormatFault::BadParent);
     }
-    if v < l.subnet {
-        return Move::More(moved(l, Phase::SubnetType));
-    }
-    Move::Bad(FormatFault::BadParent)
+    Ok(Next::More(Layout {
+        phase: Phase::SubnetType,
+        ..l
+    }))
 }
 
-fn after_type(l: Layout, v: u16) -> Move
+#[tactic(auto, unfolding(crate::specs::Grammar::subnet))]
+fn after_type(l: Layout, v: u16) -> Result<Next, FormatFault>
     ensures { result ≡ step_at SubnetType l v }
 {
-    if l.subnet == 0 {
-        if v == 0 {
-            return Move::More(moved(l, Phase::PlaceCount));
-        }
-        return Move::Bad(FormatFault::BadType);
+    if l.subnet == 0 && v != 0 {
+        return Err(FormatFault::BadType);
     }
-    Move::More(moved(l, Phase::PlaceCount))
+    Ok(Next::More(Layout {
+        phase: Phase::PlaceCount,
+        ..l
+    }))
 }
 
-fn after_place_count(l: Layout, v: u16) -> Move
+#[tactic(auto, unfolding(crate::specs::Grammar::subnet))]
+fn after_place_count(l: Layout, v: u16) -> Result<Next, FormatFault>
     requires { Sane l × (v < 2 ^ width_at PlaceCount 0) }
     ensures { result ≡ step_at PlaceCount l v }
 {
-    if v < 1 {
-        return Move::Bad(FormatFault::BadCount);
+    if v < 1 || MAX_COUNT < l.places + v {
+        return Err(FormatFault::BadCount);
     }
-    if MAX_COUNT < l.places + v {
-        return Move::Bad(FormatFault::BadCount);
-    }
-    let mut m = l;
-    m.places = l.places + v;
-    m.place_rows = v - 1;
-    Move::More(moved(m, Phase::TransitionCount))
+    Ok(Next::More(Layout {
+        phase: Phase::TransitionCount,
+        places: l.places + v,
+        place_rows: v - 1,
+        ..l
+    }))
 }
 
-fn after_transition_count(l: Layout, v: u16) -> Move
+#[tactic(auto, unfolding(crate::specs::Grammar::subnet))]
+fn after_transition_count(l: Layout, v: u16) -> Result<Next, FormatFault>
     requires { Sane l × (v < 2 ^ width_at TransitionCount 0) }
     ensures { result ≡ step_at TransitionCount l v }
 {
-    if v < 1 {
-        return Move::Bad(FormatFault::BadCount);
+    if v < 1 || MAX_COUNT < l.transitions + v {
+        return Err(FormatFault::BadCount);
     }
-    if MAX_COUNT < l.transitions + v {
-        return Move::Bad(FormatFault::BadCount);
-    }
-    let mut m = l;
-    m.transitions = l.transitions + v;
-    m.transition_rows = v - 1;
-    Move::More(moved(m, Phase::Kind))
+    Ok(Next::More(Layout {
+        phase: Phase::Kind,
+        transitions: l.transitions + v,
+        transition_rows: v - 1,
+        ..l
+    }))
 }
 
-fn after_kind(l: Layout, v: u16) -> Move
+#[tactic(auto, unfolding(crate::specs::Grammar::place))]
+fn after_kind(l: Layout, v: u16) -> Result<Next, FormatFault>
     ensures { result ≡ step_at Kind l v }
 {
-    if l.subnet == 0 {
-        if v == 0 {
-            return Move::More(moved(l, Phase::Capacity));
-        }
-        return Move::Bad(FormatFault::BadPlace);
+    if l.subnet == 0 && v != 0 {
+        return Err(FormatFault::BadPlace);
     }
-    Move::More(moved(l, Phase::Capacity))
+    Ok(Next::More(Layout {
+        phase: Phase::Capacity,
+        ..l
+    }))
 }
 
-fn after_capacity(l: Layout, v: u16) -> Move
+#[tactic(auto, unfolding(crate::specs::Grammar::place))]
+fn after_capacity(l: Layout, v: u16) -> Result<Next, FormatFault>
     ensures { result ≡ step_at Capacity l v }
 {
     if v < 1 {
-        return Move::Bad(FormatFault::BadPlace);
+        return Err(FormatFault::BadPlace);
     }
-    let mut m = l;
-    m.capacity = v;
-    Move::More(moved(m, Phase::Tokens))
+    Ok(Next::More(Layout {
+        phase: Phase::Tokens,
+        capacity: v,
+        ..l
+    }))
 }
 
-fn after_tokens(l: Layout, v: u16) -> Move
+#[tactic(auto, unfolding(crate::specs::Grammar::place))]
+fn after_tokens(l: Layout, v: u16) -> Result<Next, FormatFault>
     ensures { result ≡ step_at Tokens l v }
 {
     if l.capacity < v {
-        return Move::Bad(FormatFault::BadPlace);
+        return Err(FormatFault::BadPlace);
     }
     if 0 < l.place_rows {
-        let mut m = l;
-        m.place_rows = l.place_rows - 1;
-        return Move::More(moved(m, Phase::Kind));
+        return Ok(Next::More(Layout {
+            phase: Phase::Kind,
+            place_rows: l.place_rows - 1,
+            ..l
+        }));
     }
-    Move::More(moved(l, Phase::Signal))
+    Ok(Next::More(Layout {
+        phase: Phase::Signal,
+        ..l
+    }))
 }
 
-fn after_signal(l: Layout, v: u16) -> Move
+#[tactic(auto, unfolding(crate::specs::Grammar::transition))]
+fn after_signal(l: Layout, v: u16) -> Result<Next, FormatFault>
     ensures { result ≡ step_at Signal l v }
 {
-    if v < l.signals {
-        return Move::More(moved(l, Phase::ArcCount));
+    if l.signals <= v {
+        return Err(FormatFault::BadTransition);
     }
-    Move::Bad(FormatFault::BadTransition)
+    Ok(Next::More(Layout {
+        phase: Phase::ArcCount,
+        ..l
+    }))
 }
 
-fn after_arc_count(l: Layout, v: u16) -> Move
+#[tactic(auto, unfolding(crate::specs::Grammar::transition))]
+fn after_arc_count(l: Layout, v: u16) -> Result<Next, FormatFault>
     ensures { result ≡ step_at ArcCount l v }
 {
     if v < 1 {
-        return Move::Bad(FormatFault::BadTransition);
+        return Err(FormatFault::BadTransition);
     }
-    let mut m = l;
-    m.arc_rows = v - 1;
-    Move::More(moved(m, Phase::Rank))
+    Ok(Next::More(Layout {
+        phase: Phase::Rank,
+        arc_rows: v - 1,
+        ..l
+    }))
 }
 
 // Behind an arc comes another, or a transition, or a subnet, or nothing.
-fn after_weight(l: Layout, v: u16) -> Move
+#[tactic(auto, unfolding(crate::specs::Grammar::arc))]
+fn after_weight(l: Layout, v: u16) -> Next
     requires { Sane l }
-    ensures { result ≡ step_at Weight l v }
+    ensures { Ok result ≡ step_at Weight l v }
 {
     if 0 < l.arc_rows {
-        let mut m = l;
-        m.arc_rows = l.arc_rows - 1;
-        return Move::More(moved(m, Phase::Direction));
+        return Next::More(Layout {
+            phase: Phase::Direction,
+            arc_rows: l.arc_rows - 1,
+            ..l
+        });
     }
     if 0 < l.transition_rows {
-        let mut m = l;
-        m.transition_rows = l.transition_rows - 1;
-        return Move::More(moved(m, Phase::Signal));
+        return Next::More(Layout {
+            phase: Phase::Signal,
+            transition_rows: l.transition_rows - 1,
+            ..l
+        });
     }
     if 0 < l.subnets {
-        let mut m = l;
-        m.subnets = l.subnets - 1;
-        m.subnet = l.subnet + 1;
-        return Move::More(moved(m, Phase::Parent));
+        return Next::More(Layout {
+            phase: Phase::Parent,
+            subnets: l.subnets - 1,
+            subnet: l.subnet + 1,
+            ..l
+        });
     }
-    Move::Done(Counts {
+    Next::Done(Counts {
         subnets: l.subnet + 1,
         places: l.places,
         transitions: l.transitions,
     })
 }
 
+// A field that holds any number, and another behind it.
+fn then(l: Layout, phase: Phase) -> Result<Next, FormatFault>
+    ensures { result ≡ Ok (More (to l phase)) }
+{
+    Ok(Next::More(Layout { phase, ..l }))
+}
+
 // Where the number v of the next field leads.
-pub fn step(l: Layout, v: u16) -> Move
+#[tactic(auto, unfolding(crate::specs::Grammar::header, crate::specs::Grammar::transition, crate::specs::Grammar::arc))]
+pub fn step(l: Layout, v: u16) -> Result<Next, FormatFault>
     requires { Sane l × (v < 2 ^ width_of l) }
     ensures { result ≡ step_of l v }
 {
-    let p = l.phase;
-    match p {
+    match l.phase {
         Phase::Version => after_version(l, v),
         Phase::SubnetCount => after_subnet_count(l, v),
         Phase::SignalCount => after_signal_count(l, v),
-        Phase::Limit => Move::More(moved(l, Phase::Scale)),
-        Phase::Scale => Move::More(moved(l, Phase::Parent)),
+        Phase::Limit => then(l, Phase::Scale),
+        Phase::Scale => then(l, Phase::Parent),
         Phase::Parent => after_parent(l, v),
         Phase::SubnetType => after_type(l, v),
         Phase::PlaceCount => after_place_count(l, v),
@@ -474,10 +471,10 @@ pub fn step(l: Layout, v: u16) -> Move
         Phase::Tokens => after_tokens(l, v),
         Phase::Signal => after_signal(l, v),
         Phase::ArcCount => after_arc_count(l, v),
-        Phase::Rank => Move::More(moved(l, Phase::Direction)),
-        Phase::Direction => Move::More(moved(l, Phase::ArcSubnet)),
-        Phase::ArcSubnet => Move::More(moved(l, Phase::ArcPlace)),
-        Phase::ArcPlace => Move::More(moved(l, Phase::Weight)),
-        Phase::Weight => after_weight(l, v),
+        Phase::Rank => then(l, Phase::Direction),
+        Phase::Direction => then(l, Phase::ArcSubnet),
+        Phase::ArcSubnet => then(l, Phase::ArcPlace),
+        Phase::ArcPlace => then(l, Phase::Weight),
+        Phase::Weight => Ok(after_weight(l, v)),
     }
 }

@@ -7,11 +7,13 @@ pub mod index;
 mod layout;
 pub mod reader;
 mod rows;
-pub mod tables;
+pub mod view;
 pub mod writer;
 
 ghost use Rattle.std.specs.Prelude.{◌≡◌};
 ghost use Rattle.card.specs.Numbers.{number};
+
+pub use rows::Rows;
 
 // The newest version of a card, the most subnets, and the most places or transitions, as the numbers of 16 bits that they are compared with.
 pub const MAX_VERSION: u16 = 2;
@@ -73,7 +75,7 @@ pub const TRANSITION_BITS: usize = TRANSITION_ROWS + MOST_TRANSITIONS + 1;
 pub const STARTS: usize = TRANSITION_BITS + MOST_TRANSITIONS + 1;
 
 // What a card's tables have beside its rows. The limit and the scale are of later versions, and 0 below them.
-#[derive(Clone, Copy)]
+#[derive(Clone, Copy, PartialEq, Eq, Debug)]
 pub struct Head {
     pub version: u16,
     pub signals: u16,
@@ -82,7 +84,7 @@ pub struct Head {
 }
 
 // How many subnets, places and transitions a card lists.
-#[derive(Clone, Copy)]
+#[derive(Clone, Copy, PartialEq, Eq, Debug)]
 pub struct Counts {
     pub subnets: u16,
     pub places: u16,
@@ -90,7 +92,7 @@ pub struct Counts {
 }
 
 // Why bytes, or tables, are no card. specs/Numbers.antt gives the paper's number of each.
-#[derive(Clone, Copy)]
+#[derive(Clone, Copy, PartialEq, Eq, Debug)]
 pub enum FormatFault {
     Truncated,
     BadVersion,
@@ -104,20 +106,29 @@ pub enum FormatFault {
     BadTable,
 }
 
-// The paper's number of a fault.
-pub fn fault_number(f: FormatFault) -> u64
-    ensures { result ≡ number f }
-{
-    match f {
-        FormatFault::Truncated => 1,
-        FormatFault::BadVersion => 2,
-        FormatFault::BadSize => 3,
-        FormatFault::BadParent => 4,
-        FormatFault::BadType => 5,
-        FormatFault::BadCount => 6,
-        FormatFault::BadPlace => 7,
-        FormatFault::BadTransition => 8,
-        FormatFault::BadFill => 9,
-        FormatFault::BadTable => 17,
+impl FormatFault {
+    // The paper's number of a fault.
+    pub fn number(self) -> u64
+        ensures { result ≡ number self }
+    {
+        match self {
+            FormatFault::Truncated => 1,
+            FormatFault::BadVersion => 2,
+            FormatFault::BadSize => 3,
+            FormatFault::BadParent => 4,
+            FormatFault::BadType => 5,
+            FormatFault::BadCount => 6,
+            FormatFault::BadPlace => 7,
+            FormatFault::BadTransition => 8,
+            FormatFault::BadFill => 9,
+            FormatFault::BadTable => 17,
+        }
     }
+}
+
+// Why bytes, or tables, are no card, and at which bit.
+#[derive(Clone, Copy, PartialEq, Eq, Debug)]
+pub struct FormatRefusal {
+    pub fault: FormatFault,
+    pub bit: usize,
 }

@@ -8,49 +8,32 @@ ghost use Rattle.card.specs.declared.layout.Phase.TheVariants.{Direction};
 use crate::bits::{bit_field, pow2};
 use crate::index::index;
 use crate::layout::{
-    Layout, Move, Phase, arc_field, arc_goes_on, arc_head_width, arc_next, arc_step, moved, start,
-    step, width, width_at,
+    Layout, Next, Phase, arc_head_width, arc_next, arc_step, start, step, width, width_at,
 };
-use crate::tables::clear;
-use crate::{Counts, FormatFault, STARTS, TABLE};
+use crate::{Counts, FormatFault, FormatRefusal, STARTS, TABLE};
 
-// Whole: how many subnets, places and transitions. Refused: why, and at which bit.
-#[derive(Clone, Copy)]
-pub enum ReadAnswer {
-    Whole(Counts),
-    Refused(FormatFault, usize),
-}
-
-// The answer, and where the card's rows begin among its numbers (see tables.rt).
+// A card that was read: how many subnets, places and transitions it has, and where its rows begin among its numbers (see view.rt).
 #[derive(Clone, Copy)]
 pub struct CardRead {
-    pub answer: ReadAnswer,
+    pub counts: Counts,
     pub starts: [u32; STARTS],
 }
 
-#[derive(Clone, Copy)]
-pub enum Excess {
-    Nothing,
-    At(usize),
-}
-
 // What follows a card that ends before bit end: its first nonzero fill bit, else the first bit of a further byte.
-fn excess_at(card: &[u8], end: usize) -> Excess
+fn excess_at(card: &[u8], end: usize) -> Option<usize>
     requires { (end ≤ 8 * length card.now) × (end ≤ card_bits) }
     ensures { excess_of result ≡ excess card.now end }
 {
     let bytes = (end + 7) / 8;
-    let mut i = end;
-    while i < 8 * bytes {
+    for i in end..8 * bytes {
         if bit_field(card, i, 1) == 1 {
-            return Excess::At(i);
+            return Some(i);
         }
-        i += 1;
     }
     if bytes < card.len() {
-        return Excess::At(8 * bytes);
+        return Some(8 * bytes);
     }
-    Excess::Nothing
+    None
 }
 
 // An arc's fields before the weight.
@@ -88,18 +71,21 @@ fn arc_head(card: &[u8], at: usize) -> ArcHead
 }
 
 // The answer once the last field, which ends before bit end, is read.
-fn ended(card: &[u8], end: usize, k: Counts) -> ReadAnswer
+fn ended(card: &[u8], end: usize, counts: Counts) -> Result<Counts, FormatRefusal>
     requires { (end ≤ 8 * length card.now) × (end ≤ card_bits) }
-    ensures { result ≡ ended_as (excess card.now end) k }
+    ensures { result ≡ ended_as (excess card.now end) counts }
 {
     match excess_at(card, end) {
-        Excess::At(i) => ReadAnswer::Refused(FormatFault::BadFill, i),
-        Excess::Nothing => ReadAnswer::Whole(k),
+        Some(bit) => Err(FormatRefusal {
+            fault: FormatFault::BadFill,
+            bit,
+        }),
+        None => Ok(counts),
     }
 }
 
 // Reads the fields of a card into a lent table of zeros. Of a card that is refused some numbers may stand there.
-fn fill(card: &[u8], numbers: &mut [u16]) -> ReadAnswer
+fn read_fields(card: &[u8], numbers: &mut [u16]) -> Result<Counts, FormatRefusal>
     requires { (numbers.old ≡ replicate (length numbers.old) 0) × (has_room (length card.now) (length numbers.old) ≡ true) }
     ensures numbers_len_unchanged { length numbers.new ≡ length numbers.old }
     ensures filled { IsFilled (read_card card.now) result numbers.new }
@@ -113,34 +99,39 @@ fn fill(card: &[u8], numbers: &mut [u16]) -> ReadAnswer
             numbers[n] = h.direction;
             numbers[n + 1] = h.subnet;
             numbers[n + 2] = h.place;
-            l = moved(l, Phase::Weight);
+            l = Layout {
+                phase: Phase::Weight,
+                ..l
+            };
             at += arc_head_width();
             n += 3;
         } else {
             let w = width(l);
             if card.len() < (at + w + 7) / 8 {
-                return ReadAnswer::Refused(FormatFault::Truncated, at);
+                return Err(FormatRefusal {
+                    fault: FormatFault::Truncated,
+                    bit: at,
+                });
             }
             let v = bit_field(card, at, w);
-            let k = arc_field(l);
-            if arc_goes_on(l, k) {
+            if let Some(m) = arc_step(l) {
                 numbers[n] = v;
-                l = arc_step(l, k);
+                l = m;
                 at += w;
                 n += 1;
             } else {
                 match step(l, v) {
-                    Move::More(m) => {
+                    Ok(Next::More(m)) => {
                         numbers[n] = v;
                         l = m;
                         at += w;
                         n += 1;
                     }
-                    Move::Done(k) => {
+                    Ok(Next::Done(counts)) => {
                         numbers[n] = v;
-                        return ended(card, at + w, k);
+                        return ended(card, at + w, counts);
                     }
-                    Move::Bad(f) => return ReadAnswer::Refused(f, at),
+                    Err(fault) => return Err(FormatRefusal { fault, bit: at }),
                 }
             }
         }
@@ -159,31 +150,29 @@ pub fn has_room(bytes: usize, size: usize) -> bool
 }
 
 // Reads a card into a lent table that has room for it.
-fn read_into(card: &[u8], numbers: &mut [u16]) -> CardRead
+fn read_into(card: &[u8], numbers: &mut [u16]) -> Result<CardRead, FormatRefusal>
     requires { has_room (length card.now) (length numbers.old) ≡ true }
     ensures numbers_len_unchanged { length numbers.new ≡ length numbers.old }
     ensures read { IsRead (read_card card.now) result }
     ensures table { IsTable (read_card card.now) (length numbers.old) numbers.new }
 {
-    clear(numbers);
-    let a = fill(card, numbers);
-    let ReadAnswer::Whole(k) = a else {
-        clear(numbers);
-        return CardRead {
-            answer: a,
-            starts: [0; STARTS],
-        };
-    };
-    CardRead {
-        answer: a,
-        starts: index(numbers, k.subnets),
+    numbers.fill(0);
+    match read_fields(card, numbers) {
+        Ok(counts) => Ok(CardRead {
+            counts,
+            starts: index(numbers, counts.subnets),
+        }),
+        Err(refusal) => {
+            numbers.fill(0);
+            Err(refusal)
+        }
     }
 }
 
 // Reads a card, and leaves its numbers in a lent table, field after field with zeros behind them; of a refused card, zeros. A table that may be
 // too small is left as it was. Two wrong readers that this rules out: one that does not look at the fill bits, and one that leaves gaps
 // between the numbers.
-pub fn read(card: &[u8], numbers: &mut [u16]) -> CardRead
+pub fn read(card: &[u8], numbers: &mut [u16]) -> Result<CardRead, FormatRefusal>
     ensures numbers_len_unchanged { length numbers.new ≡ length numbers.old }
     ensures read { IsRead (read_card card.now) result }
     ensures lent { IsLent (read_card card.now) (has_room (length card.now) (length numbers.old)) numbers.old numbers.new }

@@ -3,40 +3,31 @@ ghost use Rattle.std.specs.Prelude.{◌≡◌, length, leb};
 ghost use Rattle.card.specs.Card.{Card};
 ghost use Rattle.card.specs.Parsing.{read_card};
 ghost use Rattle.card.specs.Writing.{encode};
-ghost use Rattle.card.specs.Rows.{read_rows};
-ghost use Rattle.card.specs.Spelling.{IsSpelt, Lines, IsUnspelt, put_into};
+ghost use Rattle.card.specs.Rows.{on_rows, read_rows};
+ghost use Rattle.card.specs.Spelling.{IsSpelt, Lines, put_into};
 
 use crate::bits::{put_field, too_wide};
-use crate::layout::{Move, arc_field, arc_goes_on, arc_step, start, step, width};
-use crate::rows::{counts_match, gather, values_fit, whole_rows};
-use crate::{CARD_BYTES, FormatFault, Head, TABLE};
+use crate::index::number_at;
+use crate::layout::{Next, arc_step, start, step, width};
+use crate::rows::Rows;
+use crate::{CARD_BYTES, FormatFault, FormatRefusal, Head};
 
-// Whole: how many bytes the card has. Refused: why, and at which bit.
+// A card that was spelt: its bytes, with zeros behind them, and how many they are.
 #[derive(Clone, Copy)]
-pub enum SpellAnswer {
-    Whole(usize),
-    Refused(FormatFault, usize),
-}
-
-// The answer, and the card's bytes with zeros behind them.
-#[derive(Clone, Copy)]
-pub struct CardSpelt {
-    pub answer: SpellAnswer,
+pub struct Spelt {
     pub bytes: [u8; CARD_BYTES],
+    pub length: usize,
 }
 
-fn unspelt(f: FormatFault, at: usize) -> CardSpelt
-    ensures { IsUnspelt f at result }
-{
-    CardSpelt {
-        answer: SpellAnswer::Refused(f, at),
-        bytes: [0; CARD_BYTES],
-    }
-}
+// How tables that make no card are refused.
+const BAD_TABLE: FormatRefusal = FormatRefusal {
+    fault: FormatFault::BadTable,
+    bit: 0,
+};
 
 // Spells the numbers of a card, field after field. A number that does not fit its field is not one of a card's (see Lines). Two wrong
 // writers that this rules out: one that counts a byte too many, and one that refuses at the number of a field instead of its bit.
-fn spell_numbers(numbers: &[u16; TABLE]) -> CardSpelt
+pub fn spell_numbers(numbers: &[u16]) -> Result<Spelt, FormatRefusal>
     ensures { (c : Card) → Lines c numbers.now → IsSpelt (read_card (encode c)) result }
 {
     let mut bytes = [0; CARD_BYTES];
@@ -45,30 +36,29 @@ fn spell_numbers(numbers: &[u16; TABLE]) -> CardSpelt
     let mut n = 0;
     loop {
         let w = width(l);
-        let v = numbers[n];
+        let v = number_at(numbers, n);
         if too_wide(v, w) {
-            return unspelt(FormatFault::BadTable, 0);
+            return Err(BAD_TABLE);
         }
         put_field(&mut bytes, at, w, v);
-        let k = arc_field(l);
-        if arc_goes_on(l, k) {
-            l = arc_step(l, k);
+        if let Some(m) = arc_step(l) {
+            l = m;
             at += w;
             n += 1;
         } else {
             match step(l, v) {
-                Move::More(m) => {
+                Ok(Next::More(m)) => {
                     l = m;
                     at += w;
                     n += 1;
                 }
-                Move::Done(_k) => {
-                    return CardSpelt {
-                        answer: SpellAnswer::Whole((at + w + 7) / 8),
-                        bytes: bytes,
-                    };
+                Ok(Next::Done(_counts)) => {
+                    return Ok(Spelt {
+                        bytes,
+                        length: (at + w + 7) / 8,
+                    });
                 }
-                Move::Bad(f) => return unspelt(f, at),
+                Err(fault) => return Err(FormatRefusal { fault, bit: at }),
             }
         }
     }
@@ -76,25 +66,13 @@ fn spell_numbers(numbers: &[u16; TABLE]) -> CardSpelt
 
 // Spells the card that tables make: a head, and numbers in lent slices, row after row. Two wrong writers that this rules out: one that
 // lets a count differ from the rows, and one that cuts a number down to its field.
-pub fn spell(
-    head: Head,
-    subnets: &[u16],
-    places: &[u16],
-    transitions: &[u16],
-    arcs: &[u16],
-) -> CardSpelt
-    ensures { IsSpelt (read_rows head subnets.now places.now transitions.now arcs.now) result }
+pub fn spell(head: Head, rows: &Rows<'_>) -> Result<Spelt, FormatRefusal>
+    ensures { IsSpelt (on_rows (read_rows head) rows.now) result }
 {
-    if !whole_rows(subnets, places, transitions, arcs) {
-        return unspelt(FormatFault::BadTable, 0);
+    if !rows.is_whole() || !rows.counts_match() || !rows.values_fit(head) {
+        return Err(BAD_TABLE);
     }
-    if !counts_match(subnets, places, transitions, arcs) {
-        return unspelt(FormatFault::BadTable, 0);
-    }
-    if !values_fit(head, subnets, places, transitions, arcs) {
-        return unspelt(FormatFault::BadTable, 0);
-    }
-    let numbers = gather(head, subnets, places, transitions, arcs);
+    let numbers = rows.gather(head);
     spell_numbers(&numbers)
 }
 
@@ -107,10 +85,6 @@ pub fn put_card(card: &[u8], out: &mut [u8]) -> bool
     if out.len() < card.len() {
         return false;
     }
-    let mut i = 0;
-    while i < card.len() {
-        out[i] = card[i];
-        i += 1;
-    }
+    out[..card.len()].copy_from_slice(card);
     true
 }

@@ -8,84 +8,99 @@ mod lines;
 mod tables;
 mod writers;
 
-use crate::back::tables_of;
+use crate::back::CardRows;
 use crate::lines::{put_counts, put_refusal};
-use crate::tables::put_tables;
-use card::TABLE;
-use card::reader::{ReadAnswer, read};
-use console::cases::{NO_CASE, numbers_in, read_lead, read_rest};
+use crate::tables::Tables;
+use crate::writers::put_writers;
+use card::reader::read;
+use card::{Counts, TABLE};
+use console::cases::{numbers_in, read_lead, read_rest};
 use console::put;
-use hierarchy::Answer;
+use hierarchy::CardRefusal;
 use hierarchy::check::check;
 use std::io;
 
-fn put_check(rt: &HostRuntime, a: Answer) -> io::Result<()> {
-    put(rt, b"check")?;
-    match a {
-        Answer::Accepted(s, p, t) => put_counts(rt, s as u64, p as u64, t as u64),
-        Answer::Refused(f, at) => put_refusal(rt, hierarchy::fault_number(f), at),
-    }?;
-    put(rt, b"\n")
+// The most numbers of a case's tables.
+const MOST_NUMBERS: usize = 40000;
+
+#[derive(Clone, Copy)]
+enum Kind {
+    Card,
+    Tables,
 }
 
-fn put_read(rt: &HostRuntime, a: ReadAnswer) -> io::Result<()> {
-    put(rt, b"read")?;
-    match a {
-        ReadAnswer::Whole(k) => put_counts(
-            rt,
-            k.subnets as u64,
-            k.places as u64,
-            k.transitions as u64,
-        ),
-        ReadAnswer::Refused(f, at) => put_refusal(rt, card::fault_number(f), at),
+#[derive(Clone, Copy)]
+struct EndOfRun;
+
+impl TryFrom<u8> for Kind {
+    type Error = EndOfRun;
+
+    fn try_from(kind: u8) -> Result<Self, EndOfRun> {
+        match kind {
+            0 => Ok(Kind::Card),
+            255 => Err(EndOfRun),
+            _ => Ok(Kind::Tables),
+        }
+    }
+}
+
+fn put_answer(
+    rt: &HostRuntime,
+    word: &[u8],
+    answer: Result<Counts, CardRefusal>,
+) -> io::Result<()> {
+    put(rt, word)?;
+    match answer {
+        Ok(counts) => put_counts(rt, counts),
+        Err(refusal) => put_refusal(rt, refusal.fault.number(), refusal.bit),
     }?;
     put(rt, b"\n")
 }
 
 fn put_card_case(rt: &HostRuntime, card: &[u8]) -> io::Result<()> {
-    put_check(rt, check(card))?;
+    put_answer(rt, b"check", check(card))?;
     let mut numbers = [0; TABLE];
-    let r = read(card, &mut numbers);
-    let a = r.answer;
-    put_read(rt, a)?;
-    let ReadAnswer::Whole(k) = a else {
-        return Ok(());
-    };
-    let tables = tables_of(k, &numbers, card.len());
-    put_tables(rt, &tables)
-}
-
-// The numbers behind the case's end are 0, so that a case of many arcs can be short.
-fn put_tables_case(rt: &HostRuntime, case: &[u8]) -> io::Result<()> {
-    let mut tables = [0; 40000];
-    numbers_in(case, &mut tables);
-    put_tables(rt, &tables)
-}
-
-fn put_case(rt: &HostRuntime, kind: u8, case: &[u8]) -> io::Result<()> {
-    if kind == 0 {
-        return put_card_case(rt, case);
-    }
-    put_tables_case(rt, case)
-}
-
-// Ends where the input does, or at a case that is not all there. Nothing says that an input ends, so the turns are counted, from a number that
-// no run uses up.
-fn put_cases(rt: &HostRuntime, case: &mut [u8]) -> io::Result<()> {
-    let mut turns = u64::MAX;
-    while 0 < turns {
-        let lead = read_rest(rt, read_lead(rt), case);
-        if lead.kind == NO_CASE {
-            return Ok(());
+    match read(card, &mut numbers) {
+        Ok(read) => {
+            put_answer(rt, b"read", Ok(read.counts))?;
+            let rows = CardRows::of_card(rt.alloc(), &numbers)?;
+            put_writers(rt, rows.tables(card.len()))
         }
-        let n = lead.length;
-        put_case(rt, lead.kind, &case[..n])?;
-        turns -= 1;
+        Err(refusal) => put_answer(rt, b"read", Err(CardRefusal::from(refusal))),
+    }
+}
+
+// The numbers behind the case's end are 0, so that a case of many arcs can be short. Tables that are not all there have no line.
+fn put_tables_case(rt: &HostRuntime, case: &[u8]) -> io::Result<()> {
+    let mut numbers = [0; MOST_NUMBERS];
+    numbers_in(case, &mut numbers);
+    match Tables::in_case(&numbers) {
+        Some(tables) => put_writers(rt, tables),
+        None => Ok(()),
+    }
+}
+
+// Ends where the input does, or at a case that is not all there. Nothing says that an input ends, so the turns are counted, to a number that no
+// run reaches.
+fn put_cases(rt: &HostRuntime, buffer: &mut [u8]) -> io::Result<()> {
+    for _ in 0..u64::MAX {
+        let Some(lead) = read_lead(rt) else {
+            return Ok(());
+        };
+        let Some(lead) = read_rest(rt, lead, buffer) else {
+            return Ok(());
+        };
+        let case = &buffer[..lead.length];
+        match Kind::try_from(lead.kind) {
+            Ok(Kind::Card) => put_card_case(rt, case),
+            Ok(Kind::Tables) => put_tables_case(rt, case),
+            Err(EndOfRun) => return Ok(()),
+        }?;
     }
     Ok(())
 }
 
 fn main(rt: HostRuntime) -> io::Result<()> {
-    let mut case = [0; 65536];
-    put_cases(&rt, &mut case)
+    let mut buffer = [0; 65536];
+    put_cases(&rt, &mut buffer)
 }

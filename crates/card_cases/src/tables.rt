@@ -1,37 +1,51 @@
-// Tables in one slice of numbers: the head, the lengths of the four slices and of the buffer, then the four slices.
-use crate::writers::put_writers;
-use card::Head;
-use console::cases::wide;
-use std::io;
+// The tables of a case, which the writers are given.
+use card::{Head, Rows};
 
 // How many numbers stand in front of the slices.
-pub const LED: usize = 9;
+const LEAD: usize = 9;
 
-// Slices that are not all there have no line.
-pub fn put_tables(rt: &HostRuntime, t: &[u16]) -> io::Result<()> {
-    if t.len() < LED {
-        return Ok(());
+// A card's tables, and how long the buffer is that the card is written into.
+#[derive(Clone, Copy)]
+pub struct Tables<'a> {
+    pub head: Head,
+    pub rows: Rows<'a>,
+    pub room: usize,
+}
+
+impl<'a> Tables<'a> {
+    // Those in a case's numbers: the head, the lengths of the four slices and of the buffer, then the four slices; `None` where these are not
+    // all there.
+    pub fn in_case(numbers: &'a [u16]) -> Option<Tables<'a>> {
+        let (lead, rest) = numbers.split_first_chunk::<LEAD>()?;
+        let [
+            version,
+            signals,
+            limit,
+            scale,
+            subnets,
+            places,
+            transitions,
+            arcs,
+            room,
+        ] = *lead;
+        let (subnets, rest) = rest.split_at_checked(usize::from(subnets))?;
+        let (places, rest) = rest.split_at_checked(usize::from(places))?;
+        let (transitions, rest) = rest.split_at_checked(usize::from(transitions))?;
+        let (arcs, _rest) = rest.split_at_checked(usize::from(arcs))?;
+        Some(Tables {
+            head: Head {
+                version,
+                signals,
+                limit,
+                scale,
+            },
+            rows: Rows {
+                subnets,
+                places,
+                transitions,
+                arcs,
+            },
+            room: usize::from(room),
+        })
     }
-    let places = LED + wide(t[4]);
-    let transitions = places + wide(t[5]);
-    let arcs = transitions + wide(t[6]);
-    let end = arcs + wide(t[7]);
-    if t.len() < end {
-        return Ok(());
-    }
-    let head = Head {
-        version: t[0],
-        signals: t[1],
-        limit: t[2],
-        scale: t[3],
-    };
-    put_writers(
-        rt,
-        head,
-        &t[LED..places],
-        &t[places..transitions],
-        &t[transitions..arcs],
-        &t[arcs..end],
-        wide(t[8]),
-    )
 }

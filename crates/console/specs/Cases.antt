@@ -1,5 +1,5 @@
 -- What is read of the cases of the programs for the tests.
-use Rattle.std.specs.Prelude.{ℕ, ◌+◌, ◌*◌, ◌≤◌, ◌<◌, ◌≡◌, ◌⊎◌, List, length, get_or}
+use Rattle.std.specs.Prelude.{ℕ, ◌+◌, ◌*◌, ◌≤◌, ◌<◌, ◌≡◌, List, length, get_or}
 
 -- the 16-bit number at a byte, most significant byte first; a byte past the end is 0
 abbrev pub number_at : List ℕ → ℕ → ℕ
@@ -11,6 +11,8 @@ pub record IsNumbers (bytes before after : List ℕ) (n : ℕ) : Type 0 where
   pub front : (k : ℕ) → k < n → get_or after k 0 ≡ number_at bytes (2 * k)
   pub behind : (k : ℕ) → n ≤ k → get_or after k 0 ≡ get_or before k 0
 
--- the second kind and length are those of the case that the first lead, or of no case
-abbrev pub IsRest : ℕ → ℕ → ℕ → ℕ → Type 0
-IsRest kind size kind' size' = ((kind' ≡ kind) × (size' ≡ size)) ⊎ ((kind' ≡ 255) × (size' ≡ 0))
+-- the kind and the length in a lead's bytes
+pub record IsLead (head : List ℕ) (kind size : ℕ) : Type 0 where
+  pub kind_first : kind ≡ get_or head 0 0
+  pub length_behind : size ≡ number_at head 1
+  pub sixteen_bits : size < 65536

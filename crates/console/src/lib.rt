@@ -9,6 +9,7 @@ pub mod cases;
 ghost use Rattle.std.specs.Prelude.{◌≡◌, length};
 ghost use Rattle.io.specs.Counts.{IsPrefixLen};
 
+use std::fmt::Display;
 use std::fs::File;
 use std::io::{Print, Read};
 use std::{fs, io};
@@ -18,13 +19,11 @@ fn read_once<R: Read>(source: &mut R, buffer: &mut [u8]) -> usize
     ensures prefix_len { IsPrefixLen result buffer.new }
     ensures buffer_len_unchanged { length buffer.new ≡ length buffer.old }
 {
-    match source.read(buffer) {
-        Ok(n) => n,
-        Err(_why) => 0,
-    }
+    source.read(buffer).unwrap_or(0)
 }
 
-// Reads until the buffer is full, the source ends or a read fails.
+// Reads until the buffer is full, the source ends or a read fails. `read_exact` does not say how many bytes came before the end, and `read_to_end`
+// takes a heap, so that the reads are counted here.
 fn read_full<R: Read>(source: &mut R, buffer: &mut [u8]) -> usize
     ensures prefix_len { IsPrefixLen result buffer.new }
     ensures buffer_len_unchanged { length buffer.new ≡ length buffer.old }
@@ -82,25 +81,13 @@ pub fn put(rt: &HostRuntime, text: &[u8]) -> io::Result<()> {
 
 // The first n bytes; nothing if there are fewer.
 pub fn put_first(rt: &HostRuntime, bytes: &[u8], n: usize) -> io::Result<()> {
-    if n <= bytes.len() {
-        return put(rt, &bytes[..n]);
+    match bytes.get(..n) {
+        Some(front) => put(rt, front),
+        None => Ok(()),
     }
-    Ok(())
 }
 
-// A space and the number in decimal.
-pub fn put_number(rt: &HostRuntime, n: u64) -> io::Result<()> {
-    print!(rt; " {n}")
-}
-
-// A word and two numbers behind it.
-pub fn put_pair(rt: &HostRuntime, word: &[u8], number: u64, value: u64) -> io::Result<()> {
-    put(rt, word)?;
-    put_number(rt, number)?;
-    put_number(rt, value)
-}
-
-// A byte as two hexadecimal digits.
-pub fn put_hex(rt: &HostRuntime, b: u8) -> io::Result<()> {
-    print!(rt; "{b:02x}")
+// What a format makes, as `format_args!(" ok {n}")`.
+pub fn put_text<D: Display + Drop>(rt: &HostRuntime, text: D) -> io::Result<()> {
+    rt.print(text)
 }

@@ -4,14 +4,12 @@
 #![tactic(auto)]
 
 use card::INPUT_BYTES;
-use console::{put_first, read_input};
+use console::{put, read_input};
 use programs::flat::flat_text;
 use std::io;
 
 fn main(rt: HostRuntime) -> io::Result<()> {
     let mut card = [0; INPUT_BYTES];
     let n = read_input(&rt, &mut card);
-    let t = flat_text(&card[..n]);
-    let bytes = t.bytes;
-    put_first(&rt, &bytes, t.length)
+    put(&rt, flat_text(&card[..n]).as_slice())
 }

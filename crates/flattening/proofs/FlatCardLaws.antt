@@ -1,35 +1,35 @@
 -- A card that was loaded with its flat card. Assumes nothing.
-use Prim.Native.Nat.{ℕ, ◌≤◌, ◌<◌}
+use Prim.Native.Nat.{ℕ, ◌≤◌}
 use mathlib.Core.Path.{◌≡◌, refl, sym, ap, subst, ◌∙◌}
 use mathlib.Core.Bool.{Bool, true, false, ◌&&◌}
 use mathlib.Core.List.{List}
 use mathlib.Core.Option.{Option, none, some}
 use native.Mathlib.Omega.{arith}
-use lib.ListN.{length, get_or, replicate, length-replicate}
-use lib.Seq.{ext_get_or}
+use lib.ListN.{length, replicate}
 use lib.Dec.{eqb}
 use borrow.Author.Tests.{eqb-true}
 use Rattle.card.specs.Card.{Card}
-use Rattle.card.specs.Index.{starts_size, Loaded}
+use Rattle.card.specs.Index.{Loaded, starts_of}
 use Rattle.card.specs.Parsing.{Parsing, read_card}
 use Rattle.card.specs.Tables.{numbers_of, numbers_table, has_room, IsTable}
-use Rattle.card.proofs.Sums.{table_length, table_at}
-use Rattle.card.proofs.Turn.{zero_in}
+use Rattle.card.specs.View.{card_in, IsCounted}
+use Rattle.card.proofs.Sums.{map_length}
 use Rattle.card.proofs.ReadLaws.{blank_table, tables_loaded}
+use Rattle.card.proofs.ViewLaws.{card_in_table, table_holds}
 use Rattle.hierarchy.specs.Check.{Found, check}
 use Rattle.hierarchy.specs.Numbers.{check_outcome}
-use Rattle.hierarchy.specs.Judgement.{Judgement, accepted, refused, checked, judged, judge, outcome_of, IsChecked}
-use Rattle.hierarchy.specs.declared.Answer.TheVariants.{Accepted, Refused}
-use Rattle.hierarchy.specs.declared.CardFault.{CardFault}
+use Rattle.hierarchy.specs.Judgement.{Judgement, accepted, refused, checked, judged, judge, answer, outcome_of, counts_of, IsChecked, IsAccepted}
+use Rattle.hierarchy.specs.declared.CardRefusal.{CardRefusal}
+use Rattle.std.specs.Prelude.{Result, Ok, Err, IfOk}
 use Rattle.hierarchy.specs.declared.check.CheckedCard.{CheckedCard}
-use Rattle.hierarchy.proofs.Accepted.{not_accepted, accepted_meets, accepted_loaded}
-use Rattle.flattening.specs.Flattening.{flatten}
-use Rattle.flattening.specs.FlatCards.{flat_table, flat_starts, IsFlatTable, IsFlatCard, flat_room, IsLentFlat}
+use Rattle.hierarchy.proofs.Accepted.{not_accepted, accepted_meets}
+use Rattle.hierarchy.specs.Conditions.{Meets}
+use Rattle.flattening.specs.Flattening.{flat_place_row, flatten}
+use Rattle.flattening.specs.FlatCards.{flat_table, one_subnet, IsFlatTable, IsFlatCard, IsFlattened, flat_room, IsLentFlat}
 use Rattle.flattening.specs.inner.FlatNumbers.{FlatTables}
 use Rattle.flattening.specs.declared.FlatCard.{FlatCard}
 use Rattle.flattening.proofs.FlatLaws.{flat_meets}
 use Rattle.flattening.proofs.FlatNumberLaws.{flat_few}
-use Rattle.flattening.proofs.FlatWrite.{accepted_sizes}
 
 pub flat_room_is : (bytes n m : ℕ) → flat_room bytes n m ≡ true → (has_room bytes n ≡ true) × (n ≡ m)
 flat_room_is bytes n m e = go (has_room bytes n) refl e
@@ -38,12 +38,7 @@ flat_room_is bytes n m e = go (has_room bytes n) refl e
     go true p q = (p, eqb-true n m q)
     go false p q = absurd (let z : ◌≡◌ {A = ℕ} 0 1 = cc in omega arith)
 
--- a table that holds a card's numbers, and zeros behind them, is the table of them
-table_of : (t : List ℕ) (c : Card) → ((i : ℕ) → get_or t i 0 ≡ get_or (numbers_of c) i 0) → t ≡ numbers_table (length t) c
-unfolding numbers_table
-table_of t c h = ext_get_or 0 t _ (sym (table_length 0 (length t) _)) (λ i l. h i ∙ sym (table_at (length t) (λ j. get_or (numbers_of c) j 0) 0 i l))
-
-module _ (bytes : List ℕ) (k : CheckedCard) (size : ℕ) (numbers : List ℕ) (h : IsChecked bytes k) (tables : IsTable (read_card bytes) size numbers) where
+module _ (bytes : List ℕ) (size : ℕ) (numbers : List ℕ) (tables : IsTable (read_card bytes) size numbers) where
   -- an accepted card was read, and its table has room for its numbers
   accepted_fits : (c : Card) → judge bytes ≡ accepted c → length (numbers_of c) ≤ size
   unfolding judge
@@ -57,31 +52,70 @@ module _ (bytes : List ℕ) (k : CheckedCard) (size : ℕ) (numbers : List ℕ) 
       go (Parsing.refused n at) p q = absurd (not_accepted _ _ _ q)
       go (Parsing.whole d end) p q = found d end (check d) p q
 
-  pub flat_refused : (f : CardFault) (at n : ℕ) (flat : List ℕ) → k.answer ≡ Refused f at → flat ≡ replicate n 0
-      → IsFlatCard bytes (record { answer = k.answer; starts = k.starts; flat_starts = replicate starts_size 0 }) × IsFlatTable (judge bytes) n flat
-  flat_refused f at n flat e z = go (judge bytes) refl (sym (ap check_outcome e) ∙ h.answer)
-    where
-      go : (j : Judgement) → judge bytes ≡ j → check_outcome (Refused f at) ≡ outcome_of j
-          → IsFlatCard bytes (record { answer = k.answer; starts = k.starts; flat_starts = replicate starts_size 0 }) × IsFlatTable (judge bytes) n flat
-      go (refused m i) p q = (record { answer = h.answer; starts = h.starts; flat = blank_table starts_size ∙ sym (ap flat_starts p) }, z ∙ blank_table n ∙ sym (ap (flat_table n) p))
-      go (accepted c) p q = absurd (let z : ◌≡◌ {A = ℕ} 0 1 = cc in omega arith)
+-- what the check says of a card
+module _ (bytes : List ℕ) (r : Result CheckedCard CardRefusal) (h : IsChecked bytes r) where
+  told : (y : Result CheckedCard CardRefusal) → r ≡ y → check_outcome (counts_of y) ≡ answer bytes
+  told y e = sym (ap (λ (z : Result CheckedCard CardRefusal). check_outcome (counts_of z)) e) ∙ h.answer
 
-  pub flat_accepted : (s p t s' p' t' n : ℕ) (zero flat starts : List ℕ) → k.answer ≡ Accepted s p t → (s < 65536 → s' ≡ s) → (p < 65536 → p' ≡ p) → (t < 65536 → t' ≡ t)
-      → size ≡ n → zero ≡ replicate n 0 → FlatTables numbers k.starts s' p' t' zero flat starts
-      → IsFlatCard bytes (record { answer = Accepted s p t; starts = k.starts; flat_starts = starts }) × IsFlatTable (judge bytes) n flat
-  flat_accepted s p t s' p' t' n zero flat starts e es ep et same z x = go (judge bytes) refl (sym (ap check_outcome e) ∙ h.answer)
+  pub flat_refused : (e : CardRefusal) (n : ℕ) (flat : List ℕ) → r ≡ Err e → flat ≡ replicate n 0 → IsFlatCard bytes (Err e) × IsFlatTable (judge bytes) n flat
+  flat_refused e n flat q z = (record { answer = told (Err e) q; starts = λ c j. tt; flat = λ c j. tt }, go (judge bytes) (told (Err e) q))
     where
-      go : (j : Judgement) → judge bytes ≡ j → check_outcome (Accepted s p t) ≡ outcome_of j
-          → IsFlatCard bytes (record { answer = Accepted s p t; starts = k.starts; flat_starts = starts }) × IsFlatTable (judge bytes) n flat
-      go (refused m i) q r = absurd (let z : ◌≡◌ {A = ℕ} 0 1 = cc in omega arith)
-      go (accepted c) q r =
-          let m = accepted_meets bytes c q in
-          let long : length zero ≡ n = ap length z ∙ length-replicate {A = ℕ} n 0 in
-          let sizes = accepted_sizes bytes k.answer c h.answer q s p t s' p' t' e es ep et in
-          let y = x.flat c m ((accepted_loaded bytes k size numbers h tables).loaded c q) sizes (λ i. ap (λ xs. get_or xs i 0) z ∙ zero_in n i) (omega (arith, accepted_fits c q, flat_few c m, same, long)) in (
-            record { answer = sym (ap check_outcome e) ∙ h.answer; starts = h.starts; flat = y.begin ∙ sym (ap flat_starts q) },
-            table_of flat (flatten c) y.held ∙ ap (λ (i : ℕ). numbers_table i (flatten c)) (x.long ∙ long) ∙ sym (ap (flat_table n) q),
-          )
+      go : (j : Judgement) → check_outcome (Err e) ≡ outcome_of j → IsFlatTable j n flat
+      go (refused m i) p = z ∙ blank_table n
+      go (accepted c) p = absurd (let z : ◌≡◌ {A = ℕ} 0 1 = cc in omega arith)
+
+same_card : (c d : Card) → accepted c ≡ accepted d → c ≡ d
+same_card c d e = cc
+
+-- THE TABLES OF AN ACCEPTED CARD, AND THOSE OF ITS FLAT CARD, ARE VIEWS
+module _ (bytes : List ℕ) (k : CheckedCard) (numbers : List ℕ) (a : IsAccepted bytes numbers k) (d : Card) (is : d ≡ card_in numbers) (flat starts : List ℕ) (same : length flat ≡ length numbers) (t : FlatTables d flat starts) where
+  abbrev c : Card
+  c = card_in numbers
+
+  abbrev whole : FlatCard
+  whole = record { counts = k.counts; starts = k.starts; flat_starts = starts }
+
+  meets : Meets c
+  meets = accepted_meets bytes c a.judged
+
+  room : length (numbers_of (flatten c)) ≤ length flat
+  room = omega (arith, flat_few c meets, a.holds.fits, same)
+
+  tables : FlatTables c flat starts
+  tables = subst (λ (x : Card). FlatTables x flat starts) is t
+
+  flat_is : flat ≡ numbers_table (length flat) (flatten c)
+  flat_is = tables.numbers meets room
+
+  starts_are : starts ≡ starts_of (flatten c)
+  starts_are = tables.rows meets room
+
+  counts : IsCounted (flatten c) (one_subnet k.counts)
+  unfolding flatten
+  counts = record { subnets = refl; places = a.holds.counts.places ∙ sym (map_length flat_place_row c.places); transitions = a.holds.counts.transitions }
+
+  read : card_in flat ≡ flatten c
+  read = ap card_in flat_is ∙ card_in_table (length flat) (flatten c) (flat_meets c meets).wellformed room
+
+  pub flat_views : IsFlattened bytes numbers flat whole
+  flat_views =
+      record {
+        judged = a.judged;
+        holds = a.holds;
+        flattened = read;
+        flat_holds = rw read (rw (flat_is, starts_are) (table_holds (length flat) (flatten c) (one_subnet k.counts) (flat_meets c meets).wellformed room counts));
+      }
+
+  pub flat_filled : (n : ℕ) → length flat ≡ n → IsFlatTable (judge bytes) n flat
+  flat_filled n e = flat_is ∙ ap (λ (i : ℕ). numbers_table i (flatten c)) e ∙ ap (flat_table n) (sym a.judged)
+
+  pub flat_told : (r : Result CheckedCard CardRefusal) → IsChecked bytes r → r ≡ Ok k → IsFlatCard bytes (Ok whole)
+  flat_told r h e =
+      record {
+        answer = told bytes r h (Ok k) e;
+        starts = λ x j. subst (λ (y : Result CheckedCard CardRefusal). IfOk y (λ z. z.starts ≡ starts_of x)) e (h.starts x j);
+        flat = λ x j. starts_are ∙ ap (λ (y : Card). starts_of (flatten y)) (same_card c x (sym a.judged ∙ j));
+      }
 
 -- both lent tables are filled, or as they were
 pub lent_flat : (bytes : List ℕ) (room : Bool) (n n' f f' : List ℕ) → room ≡ true → IsTable (read_card bytes) (length n) n' → IsFlatTable (judge bytes) (length f) f' → IsLentFlat bytes room n n' f f'
@@ -91,15 +125,18 @@ pub lent_flat_kept : (bytes : List ℕ) (room : Bool) (n f : List ℕ) → room 
 lent_flat_kept bytes room n f e = rw e (refl, refl)
 
 pub lent_flat_is : (bytes : List ℕ) (room : Bool) (n n' f f' : List ℕ) → IsLentFlat bytes room n n' f f' → room ≡ true → IsTable (read_card bytes) (length n) n' × IsFlatTable (judge bytes) (length f) f'
-lent_flat_is bytes room n n' f f' h e = subst (λ (b : Bool). IsLentFlat bytes b n n' f f') e h
+lent_flat_is bytes _ n n' f f' h e = subst (λ (b : Bool). IsLentFlat bytes b n n' f f') e h
 
 -- `flat_loaded`: THE TWO TABLES HOLD THE FLAT CARD'S ROWS
-pub flat_loaded : (bytes : List ℕ) (r : FlatCard) (size n : ℕ) (numbers flat : List ℕ) → IsFlatCard bytes r → IsTable (read_card bytes) size numbers → IsFlatTable (judge bytes) n flat → size ≡ n
-    → (c : Card) → judge bytes ≡ accepted c → Loaded (flatten c) flat r.flat_starts
-flat_loaded bytes r size n numbers flat h t f same c e =
-    let m = accepted_meets bytes c e in
-    let k : CheckedCard = record { answer = r.answer; starts = r.starts } in
-    let fits = accepted_fits bytes k size numbers (record { answer = h.answer; starts = h.starts }) t c e in
-    let a : flat ≡ numbers_table n (flatten c) = f ∙ ap (flat_table n) e in
-    let b : r.flat_starts ≡ flat_starts (accepted c) = h.flat ∙ ap flat_starts e in
-    rw (a, b) (tables_loaded n (flatten c) (flat_meets c m).wellformed (omega (arith, fits, flat_few c m, same)))
+pub flat_loaded : (bytes : List ℕ) (r : Result FlatCard CardRefusal) (size n : ℕ) (numbers flat : List ℕ) → IsFlatCard bytes r → IsTable (read_card bytes) size numbers → IsFlatTable (judge bytes) n flat → size ≡ n
+    → (c : Card) → judge bytes ≡ accepted c → IfOk r (λ k. Loaded (flatten c) flat k.flat_starts)
+flat_loaded bytes r size n numbers flat h t f same c e = go r (h.flat c e)
+  where
+    m : Meets c
+    m = accepted_meets bytes c e
+
+    go : (y : Result FlatCard CardRefusal) → IfOk y (λ k. k.flat_starts ≡ starts_of (flatten c)) → IfOk y (λ k. Loaded (flatten c) flat k.flat_starts)
+    go (Ok k) b =
+        let a : flat ≡ numbers_table n (flatten c) = f ∙ ap (flat_table n) e in
+        rw (a, b) (tables_loaded n (flatten c) (flat_meets c m).wellformed (omega (arith, accepted_fits bytes size numbers t c e, flat_few c m, same)))
+    go (Err x) b = tt

@@ -12,8 +12,8 @@ use Rattle.card.specs.Writing.{encode}
 use Rattle.card.specs.Wellformed.{SubnetRow, PlaceRow, ArcRow, Rows}
 use Rattle.card.proofs.Sums.{sum_owner, sum_below, sum_unique, map_length, all_map, all_of, all_at}
 use Rattle.hierarchy.specs.Conditions.{IsPlace, Sees, Weighted, Repeats, SelfLoop, TransitionConditions, Conditions, Meets}
-use Rattle.hierarchy.specs.Judgement.{accepted, judge}
-use Rattle.hierarchy.proofs.Accepted.{accepted_meets, meets_accepted}
+use Rattle.hierarchy.specs.Judgement.{accepted, judge, judge_tables}
+use Rattle.hierarchy.proofs.Accepted.{accepted_meets, meets_accepted, meets_written}
 use Rattle.flattening.specs.Flattening.{flat_place_row, flat_arc, flatten, SameNet}
 
 -- the rows of the flat card
@@ -102,7 +102,7 @@ module _ (c : Card) (m : Meets c) where
       record { subnet = o.range; below = o.below; sound = m.conditions.transitions o.range t o.below o.low o.high }
 
   module _ (t : ℕ) (h : Home t) where
-    arc_below : (j : ℕ) → j < (transition_at c t).arcs → flat_place c (arc_at c t j) < length c.places
+    pub arc_below : (j : ℕ) → j < (transition_at c t).arcs → flat_place c (arc_at c t j) < length c.places
     arc_below j l = flat_below h.subnet _ _ h.below (h.sound.sees j l)
 
     flat_own : (j : ℕ) → j < (transition_at c t).arcs → ((arc_at (flatten c) t j).subnet ≡ 0) × IsPlace (flatten c) (arc_at (flatten c) t j).subnet (arc_at (flatten c) t j).place
@@ -234,3 +234,7 @@ flat_meets c m =
 -- THE FLAT CARD IS ACCEPTED
 pub flat_accepted : (card : List ℕ) (c : Card) → judge card ≡ accepted c → judge (encode (flatten c)) ≡ accepted (flatten c)
 flat_accepted card c e = meets_accepted (flatten c) (flat_meets c (accepted_meets card c e))
+
+-- THE WRITER TAKES THE FLAT CARD'S TABLES
+pub flat_taken : (c : Card) → Meets c → judge_tables (flatten c) ≡ accepted (flatten c)
+flat_taken c m = meets_written (flatten c) (flat_meets c m)

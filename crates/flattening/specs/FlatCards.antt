@@ -1,30 +1,34 @@
 -- A card that was loaded with its flat card: two tables of each, the numbers in tables that a caller lends.
-use Rattle.std.specs.Prelude.{ℕ, ◌≡◌, Bool, true, false, ◌&&◌, List, length, eqb}
-use Rattle.card.specs.Index.{starts_size, starts_of}
+use Rattle.std.specs.Prelude.{ℕ, ◌≡◌, Bool, true, false, ◌&&◌, List, length, eqb, Result, Ok, Err, IfOk}
+use Rattle.card.specs.Card.{Card}
+use Rattle.card.specs.Index.{starts_of}
 use Rattle.card.specs.Parsing.{read_card}
-use Rattle.card.specs.Tables.{numbers_table, zeros, starts_read, has_room, IsTable}
+use Rattle.card.specs.Tables.{numbers_table, zeros, has_room, IsTable}
+use Rattle.card.specs.View.{card_in, Holds}
 use Rattle.hierarchy.specs.Numbers.{check_outcome}
 use Rattle.hierarchy.specs.Judgement.{Judgement, accepted, refused, judge, answer}
 use Rattle.flattening.specs.Flattening.{flatten}
+use Rattle.card.specs.declared.Counts.{Counts}
+use Rattle.hierarchy.specs.declared.CardRefusal.{CardRefusal}
 use Rattle.flattening.specs.declared.FlatCard.{FlatCard}
 
--- the two tables of the flat card of an accepted card; of a refused one, zeros
+-- the numbers of the flat card of an accepted card; of a refused one, zeros
 abbrev pub flat_table : (size : ℕ) → Judgement → List ℕ
 flat_table size (accepted c) = numbers_table size (flatten c)
 flat_table size (refused n at) = zeros size
 
-abbrev pub flat_starts : Judgement → List ℕ
-flat_starts (accepted c) = starts_of (flatten c)
-flat_starts (refused n at) = zeros starts_size
-
 abbrev pub IsFlatTable : Judgement → (size : ℕ) → (numbers : List ℕ) → Type 0
 IsFlatTable j size numbers = numbers ≡ flat_table size j
 
--- the check's answer, and where the rows of both cards begin
-pub record IsFlatCard (bytes : List ℕ) (r : FlatCard) : Type 0 where
-  pub answer : check_outcome r.answer ≡ answer bytes
-  pub starts : r.starts ≡ starts_read (read_card bytes)
-  pub flat : r.flat_starts ≡ flat_starts (judge bytes)
+abbrev pub flat_counts : Result FlatCard CardRefusal → Result Counts CardRefusal
+flat_counts (Ok r) = Ok r.counts
+flat_counts (Err e) = Err e
+
+-- the check's answer, and where the rows of an accepted card and those of its flat card begin
+pub record IsFlatCard (bytes : List ℕ) (r : Result FlatCard CardRefusal) : Type 0 where
+  pub answer : check_outcome (flat_counts r) ≡ answer bytes
+  pub starts : (c : Card) → judge bytes ≡ accepted c → IfOk r (λ k. k.starts ≡ starts_of c)
+  pub flat : (c : Card) → judge bytes ≡ accepted c → IfOk r (λ k. k.flat_starts ≡ starts_of (flatten c))
 
 -- The flat card has no more numbers than the card: a table for its numbers is as long as the one for the card's.
 abbrev pub flat_room : (bytes size flat_size : ℕ) → Bool
@@ -34,3 +38,14 @@ flat_room bytes size flat_size = has_room bytes size && eqb size flat_size
 abbrev pub IsLentFlat : (bytes : List ℕ) → (room : Bool) → (before after flat_before flat_after : List ℕ) → Type 0
 IsLentFlat bytes true before after flat_before flat_after = IsTable (read_card bytes) (length before) after × IsFlatTable (judge bytes) (length flat_before) flat_after
 IsLentFlat bytes false before after flat_before flat_after = (after ≡ before) × (flat_after ≡ flat_before)
+
+-- the counts of a flat card: all places and transitions are in one subnet
+abbrev pub one_subnet : Counts → Counts
+one_subnet k = record { subnets = 1; places = k.places; transitions = k.transitions }
+
+-- The tables that were lent are views: of the card that was accepted, and of its flat card.
+pub record IsFlattened (bytes numbers flat : List ℕ) (k : FlatCard) : Type 0 where
+  pub judged : judge bytes ≡ accepted (card_in numbers)
+  pub holds : Holds (card_in numbers) numbers k.starts k.counts
+  pub flattened : card_in flat ≡ flatten (card_in numbers)
+  pub flat_holds : Holds (card_in flat) flat k.flat_starts (one_subnet k.counts)

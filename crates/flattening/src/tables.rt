@@ -1,158 +1,104 @@
-// The two tables of the flat card, out of a card's two tables. Every function takes any slices; what it stores is the flat card's where
-// they hold an accepted card.
-ghost use Rattle.std.specs.Prelude.{◌≡◌, ◌≤◌};
-ghost use Rattle.card.specs.Tables.{table_size};
-ghost use Rattle.flattening.specs.inner.FlatNumbers.{put_three, put_four, HeadPut, PlacePut, PlacesPut, AllPlacesPut, ArcPut, ArcsPut, TransitionPut, AllTransitionsPut, FlatTables};
+// The two tables of the flat card. Every function takes any table; what it stores is the flat card's where the card meets the conditions and
+// the table has room.
+ghost use Rattle.std.specs.Prelude.{◌≡◌, ℕ, suc, ◌+◌, ◌≤◌, ◌<◌, length, replicate};
+ghost use Rattle.card.specs.Card.{arc_at};
+ghost use Rattle.card.specs.View.{direction_number};
+ghost use Rattle.flattening.specs.inner.FlatNumbers.{place_position, transition_position, stored, Fills, FlatTables};
 
 use card::index::index;
-use card::tables::{
-    arc_at, arc_count, capacity, first_place, limit, narrow, place_count, put_number, rank, scale,
-    signal, signals, subnet_row, tokens, transition_row, version,
-};
-use card::{
-    ARC_FIELDS, HEADER_FIELDS, PLACE_FIELDS, STARTS, SUBNET_FIELDS, TABLE, TRANSITION_FIELDS,
-};
+use card::view::{CardView, Direction};
+use card::{ARC_FIELDS, HEADER_FIELDS, PLACE_FIELDS, STARTS, SUBNET_FIELDS, TRANSITION_FIELDS};
 
 // Where the places begin: behind the header and the row of the one subnet.
 const PLACES: usize = HEADER_FIELDS + SUBNET_FIELDS;
 
-// Three numbers, from position at on.
-fn put_three(out: &mut [u16], at: usize, a: u16, b: u16, d: u16)
-    requires { at ≤ 1000000 }
-    ensures { out.new ≡ put_three out.old at a b d }
+// Stores a row's numbers from position at on, if the table has room for all of them.
+fn put(out: &mut [u16], at: usize, row: &[u16])
+    ensures { at + length row.now ≤ length out.old → out.new ≡ stored row.now at out.old }
 {
-    put_number(out, at, a);
-    put_number(out, at + 1, b);
-    put_number(out, at + 2, d);
-}
-
-fn put_four(out: &mut [u16], at: usize, a: u16, b: u16, d: u16, e: u16)
-    requires { at ≤ 1000000 }
-    ensures { out.new ≡ put_four out.old at a b d e }
-{
-    put_three(out, at, a, b, d);
-    put_number(out, at + 3, e);
+    if at <= out.len() && row.len() <= out.len() - at {
+        out[at..at + row.len()].copy_from_slice(row);
+    }
 }
 
 // The header and the row of the one subnet.
-fn put_head(numbers: &[u16], places: u16, transitions: u16, out: &mut [u16])
-    ensures { HeadPut numbers.now places transitions out.old out.new }
+fn put_head(card: &CardView<'_>, out: &mut [u16])
+    ensures { Fills card.now 0 (place_position 0) out.old out.new }
 {
-    put_three(out, 0, version(numbers), 1, signals(numbers));
-    put_number(out, 3, limit(numbers));
-    put_number(out, 4, scale(numbers));
-    put_four(out, HEADER_FIELDS, 0, 0, places, transitions);
-}
-
-// Place n of the subnet whose row begins at row; first is the flat number of the subnet's first one.
-fn put_place(numbers: &[u16], row: u32, first: u16, n: u16, out: &mut [u16])
-    ensures { PlacePut numbers.now row first n out.old out.new }
-{
-    let at = PLACES + PLACE_FIELDS * (first as usize + n as usize);
-    put_three(
-        out,
-        at,
-        0,
-        capacity(numbers, row, n),
-        tokens(numbers, row, n),
-    );
-}
-
-// The places of a subnet.
-fn put_places(numbers: &[u16], row: u32, first: u16, out: &mut [u16])
-    ensures { PlacesPut numbers.now row first out.old out.new }
-{
-    let count = place_count(numbers, row);
-    let mut n = 0;
-    while n < count {
-        put_place(numbers, row, first, n, out);
-        n += 1;
-    }
+    let header = [
+        card.version(),
+        1,
+        card.signals(),
+        card.limit(),
+        card.scale(),
+    ];
+    put(out, 0, &header);
+    let main_net = [0, 0, card.places(), card.transitions()];
+    put(out, HEADER_FIELDS, &main_net);
 }
 
 // The places of all subnets.
-fn put_all_places(numbers: &[u16], starts: &[u32], subnets: u16, out: &mut [u16])
-    ensures { AllPlacesPut numbers.now starts.now subnets out.old out.new }
+fn put_places(card: &CardView<'_>, out: &mut [u16])
+    ensures { Fills card.now (place_position 0) (place_position (length card.now.places)) out.old out.new }
 {
-    let mut s = 0;
-    while s < subnets {
-        let first = narrow(first_place(starts, s) as usize);
-        put_places(numbers, subnet_row(starts, s), first, out);
-        s += 1;
-    }
-}
-
-// Arc j of the transition whose row begins at row, from position at on.
-fn put_arc(numbers: &[u16], starts: &[u32], row: u32, j: u16, at: usize, out: &mut [u16])
-    requires { at ≤ 1000000 }
-    ensures { ArcPut numbers.now starts.now row j at out.old out.new }
-{
-    let arc = arc_at(numbers, row, j);
-    let first = first_place(starts, arc.subnet);
-    let place = narrow(first as usize + arc.place as usize);
-    put_four(out, at, arc.direction, 0, place, arc.weight);
-}
-
-// The arcs of a transition, which has count of them.
-fn put_arcs(numbers: &[u16], starts: &[u32], row: u32, count: u16, at: usize, out: &mut [u16])
-    requires { at ≤ 100000 }
-    ensures { ArcsPut numbers.now starts.now row count at out.old out.new }
-{
-    let mut j = 0;
-    while j < count {
-        put_arc(numbers, starts, row, j, at + ARC_FIELDS * j as usize, out);
-        j += 1;
-    }
-}
-
-// The transition whose row begins at row, with its arcs, from position at on. The answer is where the next one goes.
-fn put_transition(numbers: &[u16], starts: &[u32], row: u32, at: usize, out: &mut [u16]) -> usize
-    requires { at ≤ table_size }
-    ensures { TransitionPut numbers.now starts.now row at result out.old out.new }
-{
-    let count = arc_count(numbers, row);
-    put_three(out, at, signal(numbers, row), count, rank(numbers, row));
-    let arcs = at + TRANSITION_FIELDS;
-    put_arcs(numbers, starts, row, count, arcs, out);
-    arcs + ARC_FIELDS * count as usize
-}
-
-// All transitions. The walk ends where no card has a number, so that no sum overflows, whatever the tables hold.
-fn put_all_transitions(
-    numbers: &[u16],
-    starts: &[u32],
-    places: u16,
-    transitions: u16,
-    out: &mut [u16],
-)
-    ensures { AllTransitionsPut numbers.now starts.now places transitions out.old out.new }
-{
-    let mut at = PLACES + PLACE_FIELDS * places as usize;
-    let mut t = 0;
-    while t < transitions {
-        if TABLE < at {
-            return;
+    for s in 0..card.subnets() {
+        for n in 0..card.subnet(s).places {
+            let place = card.place(s, n);
+            let at = PLACES + PLACE_FIELDS * (card.first_place(s) as usize + n as usize);
+            put(out, at, &[0, place.capacity, place.tokens]);
         }
-        let row = transition_row(starts, t as u32);
-        at = put_transition(numbers, starts, row, at, out);
-        t += 1;
     }
 }
 
-// Stores the numbers of the flat card in a lent table of zeros, and says where its rows begin. The card in the tables has so many subnets,
-// places and transitions.
-pub fn flat_tables<'a>(
-    numbers: &'a [u16],
-    starts: &'a [u32],
-    subnets: u16,
-    places: u16,
-    transitions: u16,
-    out: &mut [u16],
-) -> [u32; STARTS]
-    ensures { FlatTables numbers.now starts.now subnets places transitions out.old out.new result }
+// The number that a card has for a direction.
+fn number_of(direction: Direction) -> u16
+    ensures { result ≡ direction_number direction }
 {
-    put_head(numbers, places, transitions, out);
-    put_all_places(numbers, starts, subnets, out);
-    put_all_transitions(numbers, starts, places, transitions, out);
+    match direction {
+        Direction::Draws => 0,
+        Direction::Fills => 1,
+    }
+}
+
+// Transition t with its arcs, from position at on. The answer is where the next one goes.
+fn put_transition(card: &CardView<'_>, t: u16, at: usize, out: &mut [u16]) -> usize
+    requires position { at ≡ transition_position card.now t }
+    requires small { at ≤ 100000000 }
+    ensures next { result ≡ transition_position card.now (suc t) }
+    ensures near { result ≤ at + 300000 }
+    ensures filled { t < length card.now.transitions → Fills card.now (transition_position card.now t) (transition_position card.now (suc t)) out.old out.new }
+{
+    let transition = card.transition(t);
+    let row = [transition.signal, transition.arcs, transition.rank];
+    put(out, at, &row);
+    let first = at + TRANSITION_FIELDS;
+    let arcs = card.arcs(t);
+    for j in 0..transition.arcs {
+        let arc = arcs.get(j);
+        // No flat number is too large; the other arm is for a card that does not meet the conditions.
+        let place = u16::try_from(card.flat_place(arc)).unwrap_or(0);
+        let row = [number_of(arc.direction), 0, place, arc.weight];
+        put(out, first + ARC_FIELDS * j as usize, &row);
+    }
+    first + ARC_FIELDS * transition.arcs as usize
+}
+
+// All transitions.
+fn put_transitions(card: &CardView<'_>, out: &mut [u16])
+    ensures { Fills card.now (transition_position card.now 0) (transition_position card.now (length card.now.transitions)) out.old out.new }
+{
+    let mut at = PLACES + PLACE_FIELDS * card.places() as usize;
+    for t in 0..card.transitions() {
+        at = put_transition(card, t, at, out);
+    }
+}
+
+// Stores the numbers of the flat card in a lent table of zeros, and says where its rows begin.
+pub fn flat_tables(card: &CardView<'_>, out: &mut [u16]) -> [u32; STARTS]
+    ensures { out.old ≡ replicate (length out.old) 0 → FlatTables card.now out.new result }
+{
+    put_head(card, out);
+    put_places(card, out);
+    put_transitions(card, out);
     index(out, 1)
 }

@@ -7,7 +7,8 @@ use mathlib.Core.Logic.{◌↔◌}
 use native.Mathlib.Omega.{arith}
 use lib.ListN.{get_or}
 use Rattle.card.specs.Card.{Card}
-use Rattle.card.specs.Index.{Loaded}
+use Rattle.card.specs.Index.{Loaded, starts_of}
+use Rattle.std.specs.Prelude.{Result, Ok, Err, IfOk}
 use Rattle.card.specs.Parsing.{Parsing, read_card}
 use Rattle.card.specs.Tables.{IsTable}
 use Rattle.card.specs.Writing.{encode, read_tables}
@@ -16,9 +17,9 @@ use Rattle.card.proofs.ReadLaws.{read_loaded}
 use Rattle.card.proofs.RoundTrip.{read_write, write_read, wellformed_reads, wellformed_tables}
 use Rattle.hierarchy.specs.Conditions.{Meets}
 use Rattle.hierarchy.specs.Check.{Found, check}
-use Rattle.hierarchy.specs.Judgement.{Judgement, accepted, refused, checked, judged, judge, judge_tables, outcome_of, IsChecked}
+use Rattle.hierarchy.specs.Judgement.{Judgement, accepted, refused, checked, judged, judge, judge_tables, outcome_of, counts_of, IsChecked}
 use Rattle.hierarchy.specs.Numbers.{check_outcome}
-use Rattle.hierarchy.specs.declared.Answer.{Answer}
+use Rattle.hierarchy.specs.declared.CardRefusal.{CardRefusal}
 use Rattle.hierarchy.specs.declared.check.CheckedCard.{CheckedCard}
 use Rattle.hierarchy.proofs.Agree.{check_is}
 
@@ -88,20 +89,24 @@ written_accepted c d e = go (read_tables c) refl e
     go (Parsing.whole x end) p q = found x end (check x) p refl q
 
 -- the check's answer to a card's bytes, and the tables that it left
-pub record Checked (j : Judgement) (a : Answer) (numbers starts : List ℕ) : Type 0 where
-  pub answer : check_outcome a ≡ outcome_of j
-  pub loaded : (c : Card) → j ≡ accepted c → Loaded c numbers starts
+pub record Checked (j : Judgement) (r : Result CheckedCard CardRefusal) (numbers : List ℕ) : Type 0 where
+  pub answer : check_outcome (counts_of r) ≡ outcome_of j
+  pub loaded : (c : Card) → j ≡ accepted c → IfOk r (λ k. Loaded c numbers k.starts)
 
 -- `accepted_loaded`: THE TABLES THAT THE CHECK LEAVES HOLD AN ACCEPTED CARD'S ROWS
-pub accepted_loaded : (bytes : List ℕ) (k : CheckedCard) (size : ℕ) (numbers : List ℕ) → IsChecked bytes k → IsTable (read_card bytes) size numbers
-    → Checked (judge bytes) k.answer numbers k.starts
+pub accepted_loaded : (bytes : List ℕ) (r : Result CheckedCard CardRefusal) (size : ℕ) (numbers : List ℕ) → IsChecked bytes r → IsTable (read_card bytes) size numbers
+    → Checked (judge bytes) r numbers
 unfolding judge
-accepted_loaded bytes k size numbers h t = record { answer = h.answer; loaded = λ c e. go c (read_card bytes) refl e }
+accepted_loaded bytes r size numbers h t = record { answer = h.answer; loaded = λ c e. read c (read_card bytes) refl e (h.starts c e) }
   where
-    found : (c d : Card) (end : ℕ) (x : Option Found) → read_card bytes ≡ Parsing.whole d end → checked x d ≡ accepted c → Loaded c numbers k.starts
-    found c d end (some f) p r = absurd (not_accepted _ _ _ r)
-    found c d end none p r = let s : d ≡ c = cc in subst (λ (x : Card). Loaded x numbers k.starts) s (read_loaded bytes d end size numbers k.starts p h.starts t)
+    rows : (c : Card) (end : ℕ) (y : Result CheckedCard CardRefusal) → read_card bytes ≡ Parsing.whole c end → IfOk y (λ k. k.starts ≡ starts_of c) → IfOk y (λ k. Loaded c numbers k.starts)
+    rows c end (Ok k) p s = read_loaded bytes c end size numbers k.starts p s t
+    rows c end (Err e) p s = tt
 
-    go : (c : Card) (x : Parsing Card) → read_card bytes ≡ x → judged x ≡ accepted c → Loaded c numbers k.starts
-    go c (Parsing.refused n at) p q = absurd (not_accepted _ _ _ q)
-    go c (Parsing.whole d end) p q = found c d end (check d) p q
+    found : (c d : Card) (end : ℕ) (x : Option Found) → read_card bytes ≡ Parsing.whole d end → checked x d ≡ accepted c → IfOk r (λ k. k.starts ≡ starts_of c) → IfOk r (λ k. Loaded c numbers k.starts)
+    found c d end (some f) p q s = absurd (not_accepted _ _ _ q)
+    found c d end none p q s = let e : d ≡ c = cc in rows c end r (p ∙ ap (λ (y : Card). Parsing.whole y end) e) s
+
+    read : (c : Card) (x : Parsing Card) → read_card bytes ≡ x → judged x ≡ accepted c → IfOk r (λ k. k.starts ≡ starts_of c) → IfOk r (λ k. Loaded c numbers k.starts)
+    read c (Parsing.refused n at) p q s = absurd (not_accepted _ _ _ q)
+    read c (Parsing.whole d end) p q s = found c d end (check d) p q s

@@ -1,23 +1,22 @@
 -- The children of a subnet by their ordinals: the k-th child is the child whose ordinal is k. Assumes nothing.
-use Prim.Native.Nat.{ℕ, zero, suc, ◌+◌, ◌≤◌, ◌<◌}
+use Prim.Native.Nat.{ℕ, zero, suc, ◌+◌, ◌<◌}
 use mathlib.Core.Path.{◌≡◌, refl, sym, ap, subst, ◌∙◌}
 use mathlib.Core.Bool.{Bool, true, false, not, ◌&&◌, cond, false≢true}
 use mathlib.Core.List.{List, ◌∷◌}
 use native.Mathlib.Omega.{arith}
 use native.Mathlib.Nat.{zero-add}
-use lib.ListN.{length, get_or, set}
-use lib.Seq.{get_or-set_same, get_or-set_other}
+use lib.ListN.{length, get_or}
 use lib.Dec.{ltb, eqb}
-use borrow.Author.Tests.{ltb-true, lt-ltb, le-ltb, eqb-true, eqb-false, eq-eqb, ne_eqb}
+use borrow.Author.Tests.{ltb-true}
+use Rattle.std.specs.List.{filter, range_with_len}
 use Rattle.card.specs.Finite.{sum_to, table, keep}
 use Rattle.card.specs.Card.{Card, subnet_at}
 use Rattle.card.proofs.Sums.{sum_same, sum_front, sum_below}
 use Rattle.card.proofs.Decides.{Decides, Some, and_is, eq_is, any_is}
 use Rattle.hierarchy.specs.Conditions.{is_child, children, child}
 use Rattle.card.specs.Finite.{one}
-use Rattle.hierarchy.specs.inner.Ordinals.{ordinal, AllOrdinals}
+use Rattle.hierarchy.specs.inner.Ordinals.{ordinal}
 use Rattle.hierarchy.specs.inner.Likeness.{both_kth}
-use Rattle.hierarchy.proofs.WalkLaws.{Below, and_no}
 
 module _ (test : ℕ → Bool) where
   -- how many of from, from + 1, .., n of them, pass
@@ -82,6 +81,21 @@ ordinal_passing : (c : Card) (i j : ℕ) → ordinal c i j ≡ passing (is_child
 unfolding ordinal
 ordinal_passing c i j = sym (passing_sum (is_child c i) 0 j ∙ sum_same j _ _ (λ h l. ap (λ (k : ℕ). one (is_child c i k)) (zero-add h)))
 
+-- in the words of the library
+filtered : (test : ℕ → Bool) (from n : ℕ) → keep test (table from n (λ j. j)) ≡ filter test (range_with_len from n)
+unfolding keep table
+filtered test from zero = refl
+filtered test from (suc n) =
+    let e : from + 1 ≡ suc from = omega arith in
+    rw e (ap (λ (xs : List ℕ). cond (test from) (from ∷ xs) xs) (filtered test (suc from) n))
+
+pub children_filtered : (c : Card) (i : ℕ) → children c i ≡ filter (is_child c i) (range_with_len 0 (length c.subnets))
+unfolding children
+children_filtered c i = filtered (is_child c i) 0 (length c.subnets)
+
+pub ordinal_filtered : (c : Card) (i j : ℕ) → ordinal c i j ≡ length (filter (is_child c i) (range_with_len 0 j))
+ordinal_filtered c i j = ordinal_passing c i j ∙ sym (kept_length (is_child c i) 0 j) ∙ ap (λ (xs : List ℕ). length xs) (filtered (is_child c i) 0 j)
+
 -- as many children as there are below the number of subnets
 pub child_count : (c : Card) (i : ℕ) → length (children c i) ≡ ordinal c i (length c.subnets)
 unfolding children
@@ -96,9 +110,6 @@ child_below c i j e =
     let other : Bool = not (eqb j i) in
     let there : Bool = ltb j (length c.subnets) in
     ltb-true j (length c.subnets) (and_parts other there (and_parts (other && there) (eqb (subnet_at c j).parent i) e).0).1
-
-child_parent : (c : Card) (i j : ℕ) → is_child c i j ≡ true → (subnet_at c j).parent ≡ i
-child_parent c i j e = eqb-true (subnet_at c j).parent i (and_parts (not (eqb j i) && ltb j (length c.subnets)) (eqb (subnet_at c j).parent i) e).1
 
 -- a child is the one of its ordinal
 pub child_at : (c : Card) (i j : ℕ) → is_child c i j ≡ true → child c i (ordinal c i j) ≡ j
@@ -158,67 +169,10 @@ both_kth_is c r s a b e =
     back : AllOrdinals → Kept
     back (x, (y, z)) = (ordinal c r a, ordinal_below c r a x, (sym (child_at c r a x), rw (← z) (sym (child_at c s b y))))
 
--- counting a ordinal
-pub one_le : (b : Bool) → one b ≤ 1
-one_le true = omega arith
-one_le false = omega arith
-
-pub ordinal_start : (c : Card) (i : ℕ) → 0 ≡ ordinal c i 0
-unfolding ordinal sum_to
-ordinal_start c i = refl
-
-pub ordinal_more : (c : Card) (i h n m : ℕ) (b : Bool) → n ≡ ordinal c i h → b ≡ is_child c i h → m ≡ one b → n + m ≡ ordinal c i (h + 1)
-unfolding ordinal sum_to
-ordinal_more c i h n m b e f g = let s : h + 1 ≡ suc h = omega arith in rw (s, ← f) (omega (arith, e, g))
-
-pub ordinal_last : (c : Card) (i j h n : ℕ) → n ≡ ordinal c i h → h ≡ j → n ≡ ordinal c i j
-ordinal_last c i j h n e q = e ∙ ap (λ (k : ℕ). ordinal c i k) q
-
+-- counting children
 pub child_counted : (c : Card) (n i x : ℕ) → n ≡ length c.subnets → x ≡ ordinal c i n → x ≡ length (children c i)
 child_counted c n i x e f = f ∙ ap (λ (k : ℕ). ordinal c i k) e ∙ sym (child_count c i)
-
--- looking for the k-th child
-abbrev pub is_kth : Card → (i k j : ℕ) → Bool
-is_kth c i k j = is_child c i j && eqb (ordinal c i j) k
-
-pub kth_found : (c : Card) (i k j : ℕ) → is_kth c i k j ≡ true → j ≡ child c i k
-kth_found c i k j e =
-    let h : (is_child c i j ≡ true) × (eqb (ordinal c i j) k ≡ true) = and_parts (is_child c i j) (eqb (ordinal c i j) k) e in
-    sym (child_at c i j h.0) ∙ ap (λ (m : ℕ). child c i m) (eqb-true (ordinal c i j) k h.1)
-
-pub kth_below : (c : Card) (i k x : ℕ) → k < length (children c i) → x ≡ child c i k → x < length c.subnets
-kth_below c i k x l e = rw e (child_below c i (child c i k) (child_is c i k l).child)
-
-pub kth_passed : (c : Card) (n i k j : ℕ) → n ≡ length c.subnets → k < length (children c i) → n ≤ j → Below j (is_kth c i k) false → 0 ≡ child c i k
-kth_passed c n i k j e l m h =
-    let x : ℕ = child c i k in
-    let p : Kth c i k x = child_is c i k l in
-    let q : is_kth c i k x ≡ true = rw (p.child, eq-eqb (ordinal c i x) k p.ordinal) in
-    absurd (false≢true (sym (h x (omega (arith, e, m, kth_below c i k x l refl))) ∙ q))
 
 -- a table of ordinals, filled below j
 abbrev pub OrdinalsTo : Card → List ℕ → ℕ → Type 0
 OrdinalsTo c ordinals j = (i h : ℕ) → h < j → is_child c i h ≡ true → get_or ordinals h 0 ≡ ordinal c i h
-
-pub ordinals_more : (c : Card) (ordinals : List ℕ) (j p x : ℕ) → OrdinalsTo c ordinals j → j < length ordinals → p ≡ (subnet_at c j).parent → x ≡ ordinal c p j → OrdinalsTo c (set ordinals j x) (j + 1)
-ordinals_more c ordinals j p x w l e f i h m q = go (eqb h j) refl
-  where
-    go : (t : Bool) → eqb h j ≡ t → get_or (set ordinals j x) h 0 ≡ ordinal c i h
-    go true z =
-        let s : h ≡ j = eqb-true h j z in
-        let u : p ≡ i = e ∙ ap (λ (k : ℕ). (subnet_at c k).parent) (sym s) ∙ child_parent c i h q in
-        rw s (get_or-set_same ordinals j x 0 l ∙ f ∙ ap (λ (k : ℕ). ordinal c k j) u)
-    go false z = get_or-set_other ordinals j h x 0 (eqb-false h j z) ∙ w i h (omega (arith, eqb-false h j z)) q
-
-pub ordinals_end : (c : Card) (ordinals : List ℕ) (j : ℕ) → OrdinalsTo c ordinals j → length c.subnets ≤ j → AllOrdinals c ordinals
-ordinals_end c ordinals j w l i h e = w i h (omega (arith, child_below c i h e)) e
-
--- testing for a child
-pub not_itself : (c : Card) (i j : ℕ) → j ≡ i → false ≡ is_child c i j
-not_itself c i j e = rw (eq-eqb j i e)
-
-pub not_there : (c : Card) (n i j : ℕ) → n ≡ length c.subnets → n ≤ j → false ≡ is_child c i j
-not_there c n i j e l = rw (le-ltb j (length c.subnets) (omega arith), and_no (not (eqb j i)))
-
-pub child_named : (c : Card) (n i j x : ℕ) → n ≡ length c.subnets → (j ≡ i → ⊥) → j < n → x ≡ (subnet_at c j).parent → eqb x i ≡ is_child c i j
-child_named c n i j x e d l f = rw (ne_eqb j i d, lt-ltb j (length c.subnets) (omega arith), f)

@@ -1,11 +1,11 @@
 -- Searching and testing number after number. Assumes nothing.
 use Prim.Native.Nat.{ℕ, suc, ◌+◌, ◌-◌, ◌≤◌, ◌<◌}
 use mathlib.Core.Path.{◌≡◌, sym, ap, ◌∙◌}
-use mathlib.Core.Bool.{Bool, false}
+use mathlib.Core.Bool.{Bool, ◌&&◌}
 use mathlib.Core.Option.{Option, none, some}
 use native.Mathlib.Omega.{arith}
 use native.Mathlib.Numerals.{add-one}
-use Rattle.card.specs.Finite.{any, first_of}
+use Rattle.card.specs.Finite.{every, first_of}
 use Rattle.card.proofs.Decides.{first_of_is}
 
 -- what a search finds is what it finds from k on, up to end
@@ -32,7 +32,7 @@ module _ {A : Type 0} {whole : Option A} {f : ℕ → Option A} {end k : ℕ} (h
 pub none_at : {A : Type 0} (from n : ℕ) (f : ℕ → Option A) → first_of from n f ≡ none → (k : ℕ) → from ≤ k → k < from + n → f k ≡ none
 none_at from n f e = (first_of_is from n f (λ k. f k ≡ none) (λ k. (λ h. h, λ h. h))).0 e
 
--- a test of some number below k, and of k
-pub any_more : (k : ℕ) (f : ℕ → Bool) → any k f ≡ false → f k ≡ false → any (k + 1) f ≡ false
-unfolding any
-any_more k f h e = rw (add-one, h, e)
+-- a test of each number below k, and of k
+pub every_more : (k : ℕ) (f : ℕ → Bool) {x y : Bool} → x ≡ every k f → y ≡ f k → (x && y) ≡ every (k + 1) f
+unfolding every
+every_more k f e q = rw (add-one, e, q)

@@ -4,7 +4,7 @@ pub mod Accepted
 pub mod DeadLoopLaws
 pub mod FirstLaws
 pub mod WalkLaws
-pub mod LoadedLaws
+pub mod AllBelow
 pub mod ArcLaws
 pub mod ChildLaws
 pub mod TypeLaws
@@ -13,3 +13,4 @@ pub mod CheckLaws
 pub mod WriteLaws
 pub mod SliceTrip
 pub mod VersionLaws
+pub mod AnyBelow

@@ -1,16 +1,16 @@
 -- A loop that walks 0, 1, .., with a test at each number: what it knows at the start, after one more number, where it stops early and where
 -- it has passed the last. Assumes nothing.
 use Prim.Native.Nat.{ℕ, zero, suc, ◌+◌, ◌≤◌, ◌<◌}
-use mathlib.Core.Path.{◌≡◌, refl, sym, subst, ◌∙◌}
+use mathlib.Core.Path.{◌≡◌, refl, sym, subst}
 use mathlib.Core.Bool.{Bool, true, false, ◌&&◌, ◌||◌}
 use mathlib.Core.Option.{Option, none, some}
 use native.Mathlib.Omega.{arith}
 use lib.Dec.{eqb}
-use borrow.Author.Tests.{eqb-true, eqb-false, eq-eqb, ne_eqb}
+use borrow.Author.Tests.{eqb-true, eqb-false, ne_eqb}
 use Rattle.card.specs.Finite.{every, any, first_of}
 use Rattle.hierarchy.specs.Check.{fault_unless, finding_of}
 use Rattle.hierarchy.specs.declared.CardFault.{CardFault}
-use Rattle.hierarchy.specs.declared.Finding.TheVariants.{Nothing, Fault}
+use Rattle.std.specs.Prelude.{Ok, Err}
 
 -- f is y at each number below n
 abbrev pub Below : {A : Type 0} → (n : ℕ) → (ℕ → A) → A → Type 0
@@ -100,34 +100,17 @@ part_fails a b e = rw (← e)
 pub part_holds : (y a b : Bool) → true ≡ a → y ≡ b → y ≡ a && b
 part_holds y a b e f = rw (← e, f)
 
--- As many, and each two alike: both counts a and b are n, and the test has held at each number below i.
-pub record Compared (a b n i : ℕ) (f : ℕ → Bool) : Type 0 where
-  pub first : n ≡ a
-  pub second : n ≡ b
-  pub held : Below i f true
-
+-- not as many
 pub counts_differ : (a b x y : ℕ) (f : ℕ → Bool) → x ≡ a → y ≡ b → (x ≡ y → ⊥) → false ≡ eqb a b && every a f
 counts_differ a b x y f e g d = rw (← e, ← g, ne_eqb x y d)
 
-pub compared_start : (a b n m : ℕ) (f : ℕ → Bool) → n ≡ a → m ≡ b → n ≡ m → Compared a b n 0 f
-compared_start a b n m f e g q = record { first = e; second = q ∙ g; held = below_start f true }
-
-pub compared_more : (a b n i : ℕ) (f : ℕ → Bool) → Compared a b n i f → f i ≡ true → Compared a b n (i + 1) f
-compared_more a b n i f w e = record { first = w.first; second = w.second; held = below_more i f true w.held e }
-
-pub compared_fails : (a b n i : ℕ) (f : ℕ → Bool) → Compared a b n i f → i < n → f i ≡ false → false ≡ eqb a b && every a f
-compared_fails a b n i f w l e = rw (every_none a i f (omega (arith, w.first)) e) (sym (and_no (eqb a b)))
-
-pub compared_end : (a b n i : ℕ) (f : ℕ → Bool) → Compared a b n i f → n ≤ i → true ≡ eqb a b && every a f
-compared_end a b n i f w l = rw (every_all a i f w.held (omega (arith, w.first)), eq-eqb a b (sym w.first ∙ w.second))
-
 -- the first fault, by a test at each number
 pub first_fails : (n i : ℕ) (bit : ℕ → ℕ) (ok : ℕ → Bool) (why : CardFault) (x : ℕ) → Below i ok true → i < n → ok i ≡ false → x ≡ bit i
-    → finding_of (Fault why x) ≡ first_of 0 n (λ k. fault_unless (bit k) (ok k) why)
+    → finding_of (Err (record { fault = why; bit = x })) ≡ first_of 0 n (λ k. fault_unless (bit k) (ok k) why)
 first_fails n i bit ok why x h l e f =
     let z : fault_unless (bit i) (ok i) why ≡ some (record { why = why; bit = x }) = rw (e, f) in
     sym (first_found n i (λ k. fault_unless (bit k) (ok k) why) _ (λ k m. rw (h k m)) l z)
 
 pub first_passes : (n i : ℕ) (bit : ℕ → ℕ) (ok : ℕ → Bool) (why : CardFault) → Below i ok true → n ≤ i
-    → finding_of Nothing ≡ first_of 0 n (λ k. fault_unless (bit k) (ok k) why)
+    → finding_of (Ok tt) ≡ first_of 0 n (λ k. fault_unless (bit k) (ok k) why)
 first_passes n i bit ok why h l = sym (first_none n i (λ k. fault_unless (bit k) (ok k) why) (λ k m. rw (h k m)) l)

@@ -1,12 +1,11 @@
 -- Pass two of 'Why a card is turned back': the first fault of a card's hierarchy, and its bit.
-use Rattle.std.specs.Prelude.{ℕ, ◌+◌, Bool, not, ◌&&◌, ◌||◌, length, leb, ltb, eqb}
+use Rattle.std.specs.Prelude.{ℕ, ◌+◌, Bool, not, ◌&&◌, ◌||◌, length, leb, ltb, eqb, Result, Ok, Err}
 use Rattle.std.proofs.Math.Option.{Option, none, some}
 use Rattle.card.specs.Finite.{every, any, some_unless, first_of, ◌otherwise◌}
 use Rattle.card.specs.Card.{Arc, Place, Card, normal, input, output, in_out, draws, fills, subnet_at, place_at, transition_at, arc_at, first_place, first_transition, place_of}
 use Rattle.card.specs.Writing.{subnet_bit, transition_bit, arc_bit}
 use Rattle.hierarchy.specs.Conditions.{kind_of, is_child, children, child}
-use Rattle.hierarchy.specs.declared.Finding.{Finding}
-use Rattle.hierarchy.specs.declared.Finding.TheVariants.{Nothing, Fault}
+use Rattle.hierarchy.specs.declared.CardRefusal.{CardRefusal}
 use Rattle.hierarchy.specs.declared.CardFault.{CardFault}
 use Rattle.hierarchy.specs.declared.CardFault.TheVariants.{Unseen, Direction, Weight, Repeated, DeadLoop, NoUnit, NoInterface, Unlike}
 
@@ -90,9 +89,9 @@ abbrev pub fault_unless : (bit : ℕ) → Bool → CardFault → Option Found
 fault_unless bit ok why = some_unless ok (record { why = why; bit = bit })
 
 -- what a pass over the code's tables finds
-abbrev pub finding_of : Finding → Option Found
-finding_of Nothing = none
-finding_of (Fault f at) = some (record { why = f; bit = at })
+abbrev pub finding_of : Result (Unit {0}) CardRefusal → Option Found
+finding_of (Ok u) = none
+finding_of (Err e) = some (record { why = e.fault; bit = e.bit })
 
 -- 10 place not seen or not there; 11 direction; 12 weight; 13 repeated arc; 26 (CR 2), straight after 13, a loop that can never start: the arc's
 -- first bit, of the second arc of the pair

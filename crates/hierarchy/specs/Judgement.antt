@@ -1,15 +1,16 @@
 -- What becomes of a card's bytes, and of the tables of a card to be written: pass one, then pass two ('Why a card is turned back').
-use Rattle.std.specs.Prelude.{ℕ, ◌≡◌, List, length}
+use Rattle.std.specs.Prelude.{ℕ, ◌≡◌, List, length, Result, Ok, Err, IfOk}
 use Rattle.std.proofs.Math.Option.{Option, none, some}
 use Rattle.card.specs.Card.{Card}
-use Rattle.card.specs.Tables.{read_outcome, starts_read, IsTable}
-use Rattle.card.specs.Tables
+use Rattle.card.specs.Index.{starts_of}
 use Rattle.card.specs.Parsing.{Parsing, read_card}
 use Rattle.card.specs.Writing.{read_tables}
 use Rattle.hierarchy.specs.Numbers.{number, CheckOutcome, check_outcome}
 use Rattle.hierarchy.specs.Numbers
 use Rattle.hierarchy.specs.Check.{Found, check}
-use Rattle.card.specs.declared.reader.ReadAnswer.{ReadAnswer}
+use Rattle.card.specs.View.{card_in, Holds}
+use Rattle.card.specs.declared.Counts.{Counts}
+use Rattle.hierarchy.specs.declared.CardRefusal.{CardRefusal}
 use Rattle.hierarchy.specs.declared.check.CheckedCard.{CheckedCard}
 
 -- accepted: the card; refused: the paper's number and the bit
@@ -41,13 +42,16 @@ outcome_of (refused n at) = Numbers.CheckOutcome.refused n at
 abbrev pub answer : (bytes : List ℕ) → CheckOutcome
 answer bytes = outcome_of (judge bytes)
 
--- pass one read a card into two tables
-pub record IsReadInto (bytes : List ℕ) (a : ReadAnswer) (numbers starts : List ℕ) : Type 0 where
-  pub answer : read_outcome a ≡ Tables.outcome_of (read_card bytes)
-  pub rows : starts ≡ starts_read (read_card bytes)
-  pub table : IsTable (read_card bytes) (length numbers) numbers
+abbrev pub counts_of : Result CheckedCard CardRefusal → Result Counts CardRefusal
+counts_of (Ok r) = Ok r.counts
+counts_of (Err e) = Err e
 
--- what a caller gets beside the table of numbers that it lends: the answer, and where the rows begin
-pub record IsChecked (bytes : List ℕ) (r : CheckedCard) : Type 0 where
-  pub answer : check_outcome r.answer ≡ answer bytes
-  pub starts : r.starts ≡ starts_read (read_card bytes)
+-- what a caller gets beside the table of numbers that it lends: the answer, and where the rows of an accepted card begin
+pub record IsChecked (bytes : List ℕ) (r : Result CheckedCard CardRefusal) : Type 0 where
+  pub answer : check_outcome (counts_of r) ≡ answer bytes
+  pub starts : (c : Card) → judge bytes ≡ accepted c → IfOk r (λ k. k.starts ≡ starts_of c)
+
+-- beside the table of numbers that a caller lends: the two are a view of the card that was accepted
+pub record IsAccepted (bytes numbers : List ℕ) (k : CheckedCard) : Type 0 where
+  pub judged : judge bytes ≡ accepted (card_in numbers)
+  pub holds : Holds (card_in numbers) numbers k.starts k.counts

@@ -1,6 +1,6 @@
 -- A card's bytes in a lent buffer: the answer, and every byte that the buffer then holds ('Why a call is turned back', 24 and its last
 -- sentence).
-use Rattle.std.specs.Prelude.{ℕ, ◌≡◌, Bool, true, false, List, length, leb}
+use Rattle.std.specs.Prelude.{ℕ, ◌≡◌, Bool, true, false, List, length, leb, Result, Ok, Err}
 use Rattle.card.specs.Card.{Card}
 use Rattle.card.specs.Writing.{encode}
 use Rattle.card.specs.Rows.{read_rows}
@@ -8,19 +8,14 @@ use Rattle.card.specs.Spelling.{put_into}
 use Rattle.hierarchy.specs.Numbers.{WriteOutcome, write_outcome}
 use Rattle.hierarchy.specs.Numbers
 use Rattle.hierarchy.specs.Judgement.{Judgement, accepted, refused, judged}
-use Rattle.hierarchy.specs.declared.Written.{Written}
-use Rattle.hierarchy.specs.declared.Written.TheVariants.{Wrote, Refused as NotWritten, Short}
-use Rattle.hierarchy.specs.declared.Answer.{Answer}
-use Rattle.hierarchy.specs.declared.Answer.TheVariants.{Accepted, Refused}
-use Rattle.hierarchy.specs.declared.CardFault.TheVariants.{Format}
-use Rattle.card.specs.declared.writer.SpellAnswer.{SpellAnswer}
-use Rattle.card.specs.declared.writer.SpellAnswer.TheVariants.{Whole, Refused as Unspelt}
+use Rattle.hierarchy.specs.declared.WriteRefusal.{WriteRefusal}
+use Rattle.hierarchy.specs.declared.WriteRefusal.TheVariants.{Short}
 use Rattle.card.specs.declared.Head.{Head}
 
 -- 24 output buffer too short, with the length needed
 abbrev pub fitted : (fits : Bool) → (length : ℕ) → WriteOutcome
-fitted true n = write_outcome (Wrote n)
-fitted false n = write_outcome (Short n)
+fitted true n = write_outcome (Ok n)
+fitted false n = write_outcome (Err (Short n))
 
 -- Flattening and writing test 24 last. A refusal leaves buffers untouched, a short buffer too.
 abbrev pub delivered : Judgement → (Card → List ℕ) → (buffer : List ℕ) → WriteOutcome × List ℕ
@@ -32,15 +27,6 @@ unfoldable pub write_rows : Head → (subnets places transitions arcs buffer : L
 write_rows head subnets places transitions arcs buffer = delivered (judged (read_rows head subnets places transitions arcs)) encode buffer
 
 -- an answer of the code, and what the buffer holds after the call
-pub record IsWritten (x : WriteOutcome × List ℕ) (r : Written) (buffer : List ℕ) : Type 0 where
+pub record IsWritten (x : WriteOutcome × List ℕ) (r : Result ℕ WriteRefusal) (buffer : List ℕ) : Type 0 where
   pub answer : write_outcome r ≡ x.0
   pub bytes : buffer ≡ x.1
-
--- refusals of the two halves, as answers of a call that has written nothing
-abbrev pub SpellRefused : SpellAnswer → Written → Type 0
-SpellRefused (Unspelt f at) r = r ≡ NotWritten (Format f) at
-SpellRefused (Whole n) r = r ≡ Wrote 0
-
-abbrev pub CheckRefused : Answer → Written → Type 0
-CheckRefused (Refused f at) r = r ≡ NotWritten f at
-CheckRefused (Accepted s p t) r = r ≡ Wrote 0

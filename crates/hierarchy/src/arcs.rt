@@ -1,84 +1,72 @@
-// Pass two over a card's arcs: 10 to 13 and 26 at an arc, 14 after a transition's arcs. The card is in its two tables, which any slices may be:
-// what is found says something of a card only where they hold one.
-ghost use Rattle.std.specs.Prelude.{◌≡◌, not, ◌&&◌, ℕ, suc, ◌<◌, length};
-ghost use Rattle.card.specs.Card.{Card, Arc as CardArc, transition_at, arc_at, first_transition, place_of};
+// Pass two over a card's arcs: 10 to 13 and 26 at an arc, 14 after a transition's arcs.
+ghost use Rattle.std.specs.Prelude.{◌≡◌, ◌<◌, true, length};
+ghost use Rattle.card.specs.Card.{transition_at, arc_at};
 ghost use Rattle.card.specs.Finite.{first_of};
-ghost use Rattle.card.specs.Index.{ArcThere, Lists, Laid, Loaded, arc_of, Begins};
+ghost use Rattle.card.specs.Index.{Lists};
+ghost use Rattle.card.specs.View.{kind_number, direction_number, arc_in};
 ghost use Rattle.hierarchy.specs.Conditions.{IsPlace};
-ghost use Rattle.hierarchy.specs.Check.{seen as is_seen, takes as takes_it, directed as is_directed, weighted as is_weighted, repeats, single, loop_fits, loops_fit, has_unit, finding_of, arc_fault, transition_fault, subnet_fault};
+ghost use Rattle.hierarchy.specs.Check.{seen as is_seen, takes as takes_it, directed as is_directed, weighted as is_weighted, same_place as at_same_place, repeats as is_repeated, single, loop_fits as fits_in, loops_fit, has_unit, finding_of, arc_fault, transition_fault, subnet_fault};
 ghost use Rattle.hierarchy.specs.inner.Arcs.{PlacesThere};
 
-use crate::{CardFault, Finding};
-use card::tables::{
-    Arc, arc_at, arc_bit, arc_count, arc_direction, arc_place, arc_subnet, arc_weight, capacity,
-    first_transition, kind, parent, place_count, subnet_row, transition_bit, transition_row,
-};
+use crate::{CardFault, CardRefusal};
+use card::view::{Arc, CardView, Direction, Kind};
 
-// Whether subnet i sees the place that the arc names.
-fn seen(numbers: &[u16], starts: &[u32], subnets: u16, i: u16, a: Arc) -> bool
-    ensures { (c : Card) → Loaded c numbers.now starts.now → subnets ≡ length c.subnets → result ≡ is_seen c i (arc_of a) }
+// Whether subnet i sees the place that the arc names. Subnets past the last list no place.
+#[tactic(auto, using(crate::proofs::ArcLaws::seen_is, crate::proofs::ArcLaws::seen_place))]
+fn seen(card: &CardView<'_>, i: u16, a: Arc) -> bool
+    ensures value { result ≡ is_seen card.now i (arc_in a) }
+    ensures there { result ≡ true → IsPlace card.now a.subnet a.place }
 {
-    if subnets <= a.subnet {
-        return false;
-    }
-    let row = subnet_row(starts, a.subnet);
-    if place_count(numbers, row) <= a.place {
-        return false;
-    }
-    if a.subnet == i {
-        return true;
-    }
-    if parent(numbers, row) != i {
-        return false;
-    }
-    kind(numbers, row, a.place) != 0
-}
-
-// The kind and the capacity of the place that an arc names, where there is one.
-fn place_kind(numbers: &[u16], starts: &[u32], a: Arc) -> u16
-    ensures { (c : Card) → Loaded c numbers.now starts.now → IsPlace c a.subnet a.place → result ≡ (place_of c (arc_of a)).kind }
-{
-    kind(numbers, subnet_row(starts, a.subnet), a.place)
-}
-
-fn place_capacity(numbers: &[u16], starts: &[u32], a: Arc) -> u16
-    ensures { (c : Card) → Loaded c numbers.now starts.now → IsPlace c a.subnet a.place → result ≡ (place_of c (arc_of a)).capacity }
-{
-    capacity(numbers, subnet_row(starts, a.subnet), a.place)
+    let owner = card.subnet(a.subnet);
+    a.place < owner.places
+        && (a.subnet == i
+            || (owner.parent == i && card.place(a.subnet, a.place).kind != Kind::Normal))
 }
 
 // Whether a child's place of this kind takes an arc of this direction.
-fn takes(kind: u16, direction: u16) -> bool
-    ensures { result ≡ takes_it kind direction }
+fn takes(kind: Kind, direction: Direction) -> bool
+    ensures { result ≡ takes_it (kind_number kind) (direction_number direction) }
 {
-    if kind == 3 {
-        return true;
+    match direction {
+        Direction::Draws => matches!(kind, Kind::Out | Kind::InOut),
+        Direction::Fills => matches!(kind, Kind::In | Kind::InOut),
     }
-    if direction == 0 {
-        return kind == 2;
-    }
-    if direction == 1 {
-        return kind == 1;
-    }
-    true
 }
 
-fn directed(numbers: &[u16], starts: &[u32], i: u16, a: Arc) -> bool
-    ensures { (c : Card) → Loaded c numbers.now starts.now → IsPlace c a.subnet a.place → result ≡ is_directed c i (arc_of a) }
+#[tactic(auto, unfolding(crate::specs::Check::directed))]
+fn directed(card: &CardView<'_>, i: u16, a: Arc) -> bool
+    ensures { IsPlace card.now a.subnet a.place → result ≡ is_directed card.now i (arc_in a) }
 {
-    if a.subnet == i {
-        return true;
-    }
-    takes(place_kind(numbers, starts, a), a.direction)
+    a.subnet == i || takes(card.place(a.subnet, a.place).kind, a.direction)
 }
 
-fn weighted(numbers: &[u16], starts: &[u32], a: Arc) -> bool
-    ensures { (c : Card) → Loaded c numbers.now starts.now → IsPlace c a.subnet a.place → result ≡ is_weighted c (arc_of a) }
+#[tactic(auto, unfolding(crate::specs::Check::weighted))]
+fn weighted(card: &CardView<'_>, a: Arc) -> bool
+    ensures { IsPlace card.now a.subnet a.place → result ≡ is_weighted card.now (arc_in a) }
 {
-    if a.weight < 1 {
-        return false;
-    }
-    a.weight <= place_capacity(numbers, starts, a)
+    1 <= a.weight && a.weight <= card.place(a.subnet, a.place).capacity
+}
+
+// Places differ most often, so they are compared first.
+fn same_place(a: Arc, b: Arc) -> bool
+    ensures { result ≡ at_same_place (arc_in a) (arc_in b) }
+{
+    a.place == b.place && a.subnet == b.subnet
+}
+
+fn repeats(a: Arc, b: Arc) -> bool
+    ensures { result ≡ is_repeated (arc_in a) (arc_in b) }
+{
+    same_place(a, b) && a.direction == b.direction
+}
+
+// Whether two arcs have their weights within this capacity together, where they are a self-loop at a place that has it.
+fn loop_fits(capacity: u16, a: Arc, b: Arc) -> bool
+    ensures { result ≡ fits_in capacity (arc_in a) (arc_in b) }
+{
+    !same_place(a, b)
+        || a.direction == b.direction
+        || u32::from(a.weight) + u32::from(b.weight) <= u32::from(capacity)
 }
 
 // What the lower arcs of a transition leave of an arc: whether none repeats it, and whether each that is a self-loop with it has its weight within
@@ -89,164 +77,94 @@ struct Beside {
     fits: bool,
 }
 
-// What is known of an arc that is a, at a place of this capacity, with arc h of its transition besides. Places differ most often, so they are
-// compared first.
-fn beside_arc(numbers: &[u16], row: u32, h: u16, a: Arc, capacity: u16, known: Beside) -> Beside
-    ensures single_value { (b : CardArc) → ArcThere numbers.now row h b → result.single ≡ (known.single && not (repeats b (arc_of a))) }
-    ensures fits_value { (b : CardArc) → ArcThere numbers.now row h b → result.fits ≡ (known.fits && loop_fits capacity b (arc_of a)) }
+// One walk serves both tests, and finds the transition's row once: on a card with many arcs it is most of pass two.
+#[tactic(auto, unfolding(crate::specs::Check::single, crate::specs::Check::loops_fit, card::specs::Finite::every))]
+fn beside_lower(card: &CardView<'_>, t: u16, j: u16) -> Beside
+    requires { j < (transition_at card.now t).arcs }
+    ensures single_value { result.single ≡ single card.now t j }
+    ensures fits_value { IsPlace card.now (arc_at card.now t j).subnet (arc_at card.now t j).place → result.fits ≡ loops_fit card.now t j }
 {
-    if arc_place(numbers, row, h) != a.place {
-        return known;
-    }
-    if arc_subnet(numbers, row, h) != a.subnet {
-        return known;
-    }
-    if arc_direction(numbers, row, h) == a.direction {
-        return Beside {
-            single: false,
-            fits: known.fits,
-        };
-    }
-    let sum = arc_weight(numbers, row, h) as u32 + a.weight as u32;
-    if sum <= capacity as u32 {
-        return known;
-    }
-    Beside {
-        single: known.single,
-        fits: false,
-    }
-}
-
-// The same with all lower arcs of the transition, for its arc j, which is a. One walk serves both tests: on a card with many arcs it is most of
-// pass two.
-fn beside_lower(numbers: &[u16], row: u32, j: u16, a: Arc, capacity: u16) -> Beside
-    ensures single_value { (c : Card) → Laid c numbers.now → (i t : ℕ) → Begins c row i t → j < (transition_at c t).arcs → arc_of a ≡ arc_at c t j → result.single ≡ single c t j }
-    ensures fits_value { (c : Card) → Laid c numbers.now → (i t : ℕ) → Begins c row i t → j < (transition_at c t).arcs → arc_of a ≡ arc_at c t j → capacity ≡ (place_of c (arc_of a)).capacity → result.fits ≡ loops_fit c t j }
-{
+    let a = card.arc(t, j);
+    let capacity = card.place(a.subnet, a.place).capacity;
     let mut known = Beside {
         single: true,
         fits: true,
     };
-    let mut h = 0;
-    while h < j {
-        known = beside_arc(numbers, row, h, a, capacity, known);
-        h += 1;
+    let arcs = card.arcs(t);
+    for h in 0..j {
+        let lower = arcs.get(h);
+        known.single &= !repeats(lower, a);
+        known.fits &= loop_fits(capacity, lower, a);
     }
     known
 }
 
-// Whether one of the n arcs of the transition is at a place of capacity 1.
-fn has_unit(numbers: &[u16], starts: &[u32], row: u32, n: u16) -> bool
-    ensures { (c : Card) → Loaded c numbers.now starts.now → (i t : ℕ) → Begins c row i t → n ≡ (transition_at c t).arcs → PlacesThere c t → result ≡ has_unit c t }
+// Whether one of the arcs of the transition is at a place of capacity 1.
+fn has_unit(card: &CardView<'_>, t: u16) -> bool
+    ensures { PlacesThere card.now t → result ≡ has_unit card.now t }
 {
-    let mut j = 0;
-    while j < n {
-        let a = arc_at(numbers, row, j);
-        if place_capacity(numbers, starts, a) == 1 {
-            return true;
-        }
-        j += 1;
-    }
-    false
+    (0..card.transition(t).arcs).any(|j| {
+        let a = card.arc(t, j);
+        card.place(a.subnet, a.place).capacity == 1
+    })
 }
 
-// The first fault of 10 to 13 and 26 at arc j of transition t of subnet i. The transition's row begins at row.
-fn arc_fault(
-    numbers: &[u16],
-    starts: &[u32],
-    subnets: u16,
-    i: u16,
-    t: u32,
-    row: u32,
-    j: u16,
-) -> Finding
-    ensures { (c : Card) → Loaded c numbers.now starts.now → subnets ≡ length c.subnets → Begins c row i t → j < (transition_at c t).arcs → finding_of result ≡ arc_fault c i t j }
+// The first fault of 10 to 13 and 26 at arc j of transition t of subnet i.
+#[tactic(auto, unfolding(crate::specs::Check::arc_fault))]
+fn arc_fault(card: &CardView<'_>, i: u16, t: u16, j: u16) -> Result<(), CardRefusal>
+    requires { j < (transition_at card.now t).arcs }
+    ensures { Lists card.now i t → finding_of result ≡ arc_fault card.now i t j }
 {
-    let a = arc_at(numbers, row, j);
-    if !seen(numbers, starts, subnets, i, a) {
-        return Finding::Fault(CardFault::Unseen, arc_bit(numbers, starts, t, j));
+    let a = card.arc(t, j);
+    if !seen(card, i, a) {
+        return Err(CardFault::Unseen.at(card.arc_bit(t, j)));
     }
-    if !directed(numbers, starts, i, a) {
-        return Finding::Fault(CardFault::Direction, arc_bit(numbers, starts, t, j));
+    if !directed(card, i, a) {
+        return Err(CardFault::Direction.at(card.arc_bit(t, j)));
     }
-    if !weighted(numbers, starts, a) {
-        return Finding::Fault(CardFault::Weight, arc_bit(numbers, starts, t, j));
+    if !weighted(card, a) {
+        return Err(CardFault::Weight.at(card.arc_bit(t, j)));
     }
-    let lower = beside_lower(numbers, row, j, a, place_capacity(numbers, starts, a));
+    let lower = beside_lower(card, t, j);
     if !lower.single {
-        return Finding::Fault(CardFault::Repeated, arc_bit(numbers, starts, t, j));
+        return Err(CardFault::Repeated.at(card.arc_bit(t, j)));
     }
     if !lower.fits {
-        return Finding::Fault(CardFault::DeadLoop, arc_bit(numbers, starts, t, j));
+        return Err(CardFault::DeadLoop.at(card.arc_bit(t, j)));
     }
-    Finding::Nothing
+    Ok(())
 }
 
 // The first fault of 10 to 14 and 26 at transition t of subnet i.
-fn transition_fault(numbers: &[u16], starts: &[u32], subnets: u16, i: u16, t: u32) -> Finding
-    ensures { (c : Card) → Loaded c numbers.now starts.now → subnets ≡ length c.subnets → Lists c i t → finding_of result ≡ transition_fault c i t }
+fn transition_fault(card: &CardView<'_>, i: u16, t: u16) -> Result<(), CardRefusal>
+    ensures { Lists card.now i t → finding_of result ≡ transition_fault card.now i t }
 {
-    let row = transition_row(starts, t);
-    let n = arc_count(numbers, row);
-    let mut j = 0;
-    while j < n {
-        match arc_fault(numbers, starts, subnets, i, t, row, j) {
-            Finding::Nothing => {
-                j += 1;
-            }
-            Finding::Fault(f, at) => {
-                return Finding::Fault(f, at);
-            }
-        }
+    for j in 0..card.transition(t).arcs {
+        arc_fault(card, i, t, j)?;
     }
-    if has_unit(numbers, starts, row, n) {
-        return Finding::Nothing;
+    if !has_unit(card, t) {
+        return Err(CardFault::NoUnit.at(card.transition_bit(t)));
     }
-    Finding::Fault(CardFault::NoUnit, transition_bit(starts, t) as usize)
+    Ok(())
 }
 
-// The same over the transitions of subnet i, from first on up to end.
-fn subnet_fault(
-    numbers: &[u16],
-    starts: &[u32],
-    subnets: u16,
-    i: u16,
-    first: u32,
-    end: u32,
-) -> Finding
-    ensures { (c : Card) → Loaded c numbers.now starts.now → subnets ≡ length c.subnets → i < length c.subnets → first ≡ first_transition c i → end ≡ first_transition c (suc i) → finding_of result ≡ subnet_fault c i }
+// The same over the transitions of subnet i.
+fn subnet_fault(card: &CardView<'_>, i: u16) -> Result<(), CardRefusal>
+    ensures { finding_of result ≡ subnet_fault card.now i }
 {
-    let mut t = first;
-    while t < end {
-        match transition_fault(numbers, starts, subnets, i, t) {
-            Finding::Nothing => {
-                t += 1;
-            }
-            Finding::Fault(f, at) => {
-                return Finding::Fault(f, at);
-            }
-        }
+    for t in card.transitions_of(i) {
+        transition_fault(card, i, t)?;
     }
-    Finding::Nothing
+    Ok(())
 }
 
 // The first fault of 10 to 14 and 26 over all subnets, by subnet, transition and arc. Wrong passes that this rules out: one that lets a subnet see
 // the interface places of its children's children, one that tests weights before directions, and one that tells of a loop at its first arc.
-pub fn arcs_fault(numbers: &[u16], starts: &[u32], subnets: u16) -> Finding
-    ensures { (c : Card) → Loaded c numbers.now starts.now → subnets ≡ length c.subnets → finding_of result ≡ first_of 0 (length c.subnets) (subnet_fault c) }
+pub fn arcs_fault(card: &CardView<'_>) -> Result<(), CardRefusal>
+    ensures { finding_of result ≡ first_of 0 (length card.now.subnets) (subnet_fault card.now) }
 {
-    let mut i = 0;
-    while i < subnets {
-        let first = first_transition(starts, i);
-        let end = first_transition(starts, i + 1);
-        match subnet_fault(numbers, starts, subnets, i, first, end) {
-            Finding::Nothing => {
-                i += 1;
-            }
-            Finding::Fault(f, at) => {
-                return Finding::Fault(f, at);
-            }
-        }
+    for i in 0..card.subnets() {
+        subnet_fault(card, i)?;
     }
-    Finding::Nothing
+    Ok(())
 }

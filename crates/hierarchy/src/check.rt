@@ -1,90 +1,59 @@
 // The check: pass one by the layer below, then pass two.
-ghost use Rattle.std.specs.Prelude.{◌≡◌, true, List, ℕ, ◌≤◌, length};
-ghost use Rattle.card.specs.Grammar.{max_subnets};
+ghost use Rattle.std.specs.Prelude.{◌≡◌, true, length, IfOk};
 ghost use Rattle.card.specs.Parsing.{read_card};
 ghost use Rattle.card.specs.Tables.{has_room, IsTable, IsLent};
-ghost use Rattle.card.specs.Card.{Card};
-ghost use Rattle.card.specs.Index.{Loaded};
 ghost use Rattle.hierarchy.specs.Numbers.{check_outcome};
-ghost use Rattle.hierarchy.specs.declared.Answer.TheVariants.{Accepted};
 ghost use Rattle.hierarchy.specs.Check.{finding_of, check as first_fault};
-ghost use Rattle.hierarchy.specs.Judgement.{answer, IsReadInto, IsChecked};
+ghost use Rattle.hierarchy.specs.Judgement.{answer, IsChecked, IsAccepted};
 
+use crate::CardRefusal;
 use crate::arcs::arcs_fault;
 use crate::interfaces::interfaces_fault;
 use crate::types::types_fault;
-use crate::{Answer, CardFault, Finding};
-use card::reader::{ReadAnswer, has_room, read};
+use card::reader::{has_room, read};
+use card::view::CardView;
 use card::{Counts, SMALL_TABLE, STARTS, TABLE};
 
-// The answer, and where the rows of the card that pass one read begin among its numbers (see card::tables).
+// An accepted card: how many subnets, places and transitions it has, and where its rows begin among its numbers (see card::view).
 #[derive(Clone, Copy)]
 pub struct CheckedCard {
-    pub answer: Answer,
+    pub counts: Counts,
     pub starts: [u32; STARTS],
 }
 
 // The first fault of pass two.
-fn first_fault<'a>(numbers: &'a [u16], starts: &'a [u32], subnets: u16) -> Finding
-    ensures { (c : Card) → Loaded c numbers.now starts.now → subnets ≡ length c.subnets → length c.subnets ≤ max_subnets → finding_of result ≡ first_fault c }
+fn first_fault(card: &CardView<'_>) -> Result<(), CardRefusal>
+    ensures { finding_of result ≡ first_fault card.now }
 {
-    let a = arcs_fault(numbers, starts, subnets);
-    let Finding::Nothing = a else {
-        return a;
-    };
-    let b = interfaces_fault(numbers, starts, subnets);
-    let Finding::Nothing = b else {
-        return b;
-    };
-    types_fault(numbers, starts, subnets)
-}
-
-fn accepted(k: Counts) -> Answer
-    ensures { result ≡ Accepted k.subnets k.places k.transitions }
-{
-    Answer::Accepted(
-        k.subnets as usize,
-        k.places as usize,
-        k.transitions as usize,
-    )
-}
-
-// The answer to a card whose tables pass one has left.
-fn answer_to<'a>(a: ReadAnswer, numbers: &'a [u16], starts: &'a [u32]) -> Answer
-    ensures { (bytes : List ℕ) → IsReadInto bytes a numbers.now starts.now → check_outcome result ≡ answer bytes }
-{
-    match a {
-        ReadAnswer::Refused(f, at) => Answer::Refused(CardFault::Format(f), at),
-        ReadAnswer::Whole(k) => match first_fault(numbers, starts, k.subnets) {
-            Finding::Fault(f, at) => Answer::Refused(f, at),
-            Finding::Nothing => accepted(k),
-        },
-    }
+    arcs_fault(card)?;
+    interfaces_fault(card)?;
+    types_fault(card)
 }
 
 // Checks a card in a lent table that has room for it.
-fn load_into(card: &[u8], numbers: &mut [u16]) -> CheckedCard
+fn load_into(card: &[u8], numbers: &mut [u16]) -> Result<CheckedCard, CardRefusal>
     requires { has_room (length card.now) (length numbers.old) ≡ true }
     ensures numbers_len_unchanged { length numbers.new ≡ length numbers.old }
     ensures checked { IsChecked card.now result }
     ensures table { IsTable (read_card card.now) (length numbers.old) numbers.new }
+    ensures accepted { IfOk result (IsAccepted card.now numbers.new) }
 {
-    let r = read(card, numbers);
-    let a = r.answer;
-    let answer = answer_to(a, numbers, &r.starts);
-    CheckedCard {
-        answer,
-        starts: r.starts,
-    }
+    let read = read(card, numbers)?;
+    first_fault(&CardView::new(numbers, &read.starts, read.counts))?;
+    Ok(CheckedCard {
+        counts: read.counts,
+        starts: read.starts,
+    })
 }
 
-// Checks a card, for a caller that goes on with its tables: the numbers that pass one read are left in a lent table, as the reader leaves them. Two
-// wrong checks that this rules out: one that looks at the types of subnets before their interface places, and one that clears the table of
-// an accepted card.
-pub fn load(card: &[u8], numbers: &mut [u16]) -> CheckedCard
+// Checks a card, for a caller that goes on with its tables: the numbers that pass one read are left in a lent table, as the reader leaves them, and
+// make a view of an accepted card if the table has room. Two wrong checks that this rules out: one that looks at the types of subnets before
+// their interface places, and one that clears the table of an accepted card.
+pub fn load(card: &[u8], numbers: &mut [u16]) -> Result<CheckedCard, CardRefusal>
     ensures numbers_len_unchanged { length numbers.new ≡ length numbers.old }
     ensures checked { IsChecked card.now result }
     ensures lent { IsLent (read_card card.now) (has_room (length card.now) (length numbers.old)) numbers.old numbers.new }
+    ensures accepted { has_room (length card.now) (length numbers.old) ≡ true → IfOk result (IsAccepted card.now numbers.new) }
 {
     if has_room(card.len(), numbers.len()) {
         return load_into(card, numbers);
@@ -94,11 +63,11 @@ pub fn load(card: &[u8], numbers: &mut [u16]) -> CheckedCard
 }
 
 // Checks a card. Two wrong checks that this rules out: one that invents the counts, and one that answers with a later fault.
-pub fn check(card: &[u8]) -> Answer
+pub fn check(card: &[u8]) -> Result<Counts, CardRefusal>
     ensures { check_outcome result ≡ answer card.now }
 {
     // A larger card is loaded into a table of its own.
     let mut numbers = [0; SMALL_TABLE];
-    let k = load(card, &mut numbers);
-    k.answer
+    let checked = load(card, &mut numbers)?;
+    Ok(checked.counts)
 }

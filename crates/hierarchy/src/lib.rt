@@ -9,12 +9,15 @@ mod types;
 pub mod write;
 
 ghost use Rattle.std.specs.Prelude.{◌≡◌};
-ghost use Rattle.hierarchy.specs.Numbers.{number};
+ghost use Rattle.hierarchy.specs.Numbers.{number, as_refusal, write_number, write_value};
+ghost use Rattle.hierarchy.specs.declared.WriteRefusal.TheVariants.{Card};
+
+use card::{FormatFault, FormatRefusal};
 
 // Why a card is turned back: its format is at fault, or its hierarchy is. specs/Numbers.antt gives the paper's number of each.
-#[derive(Clone, Copy)]
+#[derive(Clone, Copy, PartialEq, Eq, Debug)]
 pub enum CardFault {
-    Format(card::FormatFault),
+    Format(FormatFault),
     Unseen,
     Direction,
     Weight,
@@ -25,44 +28,90 @@ pub enum CardFault {
     Unlike,
 }
 
-// The paper's number of a fault.
-pub fn fault_number(f: CardFault) -> u64
-    ensures { result ≡ number f }
-{
-    match f {
-        CardFault::Format(g) => card::fault_number(g),
-        CardFault::Unseen => 10,
-        CardFault::Direction => 11,
-        CardFault::Weight => 12,
-        CardFault::Repeated => 13,
-        CardFault::DeadLoop => 26,
-        CardFault::NoUnit => 14,
-        CardFault::NoInterface => 15,
-        CardFault::Unlike => 16,
+impl CardFault {
+    // The paper's number of a fault.
+    pub fn number(self) -> u64
+        ensures { result ≡ number self }
+    {
+        match self {
+            CardFault::Format(fault) => fault.number(),
+            CardFault::Unseen => 10,
+            CardFault::Direction => 11,
+            CardFault::Weight => 12,
+            CardFault::Repeated => 13,
+            CardFault::DeadLoop => 26,
+            CardFault::NoUnit => 14,
+            CardFault::NoInterface => 15,
+            CardFault::Unlike => 16,
+        }
+    }
+
+    pub fn at(self, bit: usize) -> CardRefusal
+        ensures { result ≡ record { fault = self; bit = bit } }
+    {
+        CardRefusal { fault: self, bit }
     }
 }
 
-// What a pass over a card finds: nothing, or the first fault and its bit.
-#[derive(Clone, Copy)]
-pub enum Finding {
-    Nothing,
-    Fault(CardFault, usize),
+// Why a card is turned back, and at which bit.
+#[derive(Clone, Copy, PartialEq, Eq, Debug)]
+pub struct CardRefusal {
+    pub fault: CardFault,
+    pub bit: usize,
 }
 
-// The check's answer. Accepted: how many subnets, places and transitions. Refused: why, and at which bit.
-#[derive(Clone, Copy)]
-pub enum Answer {
-    Accepted(usize, usize, usize),
-    Refused(CardFault, usize),
+impl From<FormatRefusal> for CardRefusal {
+    ghost from_gives = { λ r e. e ≡ as_refusal r };
+
+    fn from(r: FormatRefusal) -> CardRefusal {
+        CardFault::Format(r.fault).at(r.bit)
+    }
 }
 
-// What comes of writing into a lent buffer. Wrote: how many bytes. Refused: why, and at which bit. Short: how many bytes it needs.
-#[derive(Clone, Copy)]
-pub enum Written {
-    Wrote(usize),
-    Refused(CardFault, usize),
+// Why nothing was written into a lent buffer: the card is turned back, or the buffer is too short and needs so many bytes.
+#[derive(Clone, Copy, PartialEq, Eq, Debug)]
+pub enum WriteRefusal {
+    Card(CardRefusal),
     Short(usize),
 }
 
 // The paper's number of a buffer that is too short.
 pub const SHORT_BUFFER: u64 = 24;
+
+impl WriteRefusal {
+    // The paper's number of a refusal.
+    pub fn number(self) -> u64
+        ensures { result ≡ write_number self }
+    {
+        match self {
+            WriteRefusal::Card(r) => r.fault.number(),
+            WriteRefusal::Short(_length) => SHORT_BUFFER,
+        }
+    }
+
+    // What the paper gives beside the number: the bit, or the length that is needed.
+    pub fn value(self) -> usize
+        ensures { result ≡ write_value self }
+    {
+        match self {
+            WriteRefusal::Card(r) => r.bit,
+            WriteRefusal::Short(length) => length,
+        }
+    }
+}
+
+impl From<CardRefusal> for WriteRefusal {
+    ghost from_gives = { λ r e. e ≡ Card r };
+
+    fn from(r: CardRefusal) -> WriteRefusal {
+        WriteRefusal::Card(r)
+    }
+}
+
+impl From<FormatRefusal> for WriteRefusal {
+    ghost from_gives = { λ r e. e ≡ Card (as_refusal r) };
+
+    fn from(r: FormatRefusal) -> WriteRefusal {
+        WriteRefusal::Card(CardRefusal::from(r))
+    }
+}

@@ -1,2 +1,1 @@
 pub mod SliceLaws
-pub mod ToldLaws

@@ -1,102 +1,61 @@
--- A call on a state in slices is the runners' call on the lent state that they make. Assumes nothing.
-use Prim.Native.Nat.{ℕ, zero, suc, ◌+◌, ◌≤◌, ◌<◌}
+-- A call on a state in slices is the runners' call on the state that they make. Assumes nothing.
+use Prim.Native.Nat.{ℕ}
 use mathlib.Core.Path.{◌≡◌, refl, sym, ap, subst, ◌∙◌}
-use mathlib.Core.Logic.{◌⊎◌, inl, inr}
 use mathlib.Core.Bool.{Bool, true, false, ◌&&◌, false≢true}
-use mathlib.Core.List.{List, [], ◌∷◌, map}
+use mathlib.Core.List.{List, map}
 use mathlib.Core.Option.{Option, none, some, some-ne-none}
 use native.Mathlib.Omega.{arith}
-use lib.ListN.{length, get_or, set, take, drop, replicate, length-append, length-drop, length-replicate, get_or-map}
-use lib.Seq.{take_all, length-take-le, get_or-take, get_or-set_same, get_or-set_other, ext_get_or}
+use denote.Param.Members.{Mut}
+use lib.ListN.{length, take}
+use lib.Seq.{ext_get_or}
 use lib.Dec.{eqb}
-use borrow.Author.Tests.{eqb-true, eq-eqb, ne_eqb}
+use borrow.Author.Tests.{eqb-true}
+use Rattle.std.specs.Prelude.{Result, Ok, Err}
+use Rattle.std.specs.Array.{IsMapOf}
+use Rattle.std.specs.Fn.{Called}
+use Rattle.std.proofs.lemmas.List.{take-map, get_or-map}
 use Rattle.card.specs.Finite.{some_unless, ◌otherwise◌}
 use Rattle.card.specs.Card.{Card}
-use Rattle.card.specs.Spelling.{put_into}
-use Rattle.card.proofs.BitLaws.{lt_or_ge}
-use Rattle.card.proofs.Copy.{Copying, copy_start, copy_more, copy_done, put_is, put_front}
 use Rattle.card.proofs.Sums.{map_length}
 use Rattle.hierarchy.specs.Conditions.{Meets}
+use Rattle.hierarchy.specs.Numbers as Check
 use Rattle.hierarchy.specs.Judgement.{Judgement, accepted, refused, judge}
+use Rattle.hierarchy.specs.declared.CardRefusal.{CardRefusal}
 use Rattle.hierarchy.proofs.Accepted.{accepted_meets}
 use Rattle.flattening.specs.Flattening.{flatten, flat_place_row}
-use Rattle.runners.specs.Numbers.{RowOutcome, row_outcome, refusal}
-use Rattle.runners.specs.State.{NetState, entry, fresh}
+use Rattle.runners.specs.Numbers.{RowOutcome, refusal}
+use Rattle.runners.specs.State.{NetState, fresh}
 use Rattle.runners.specs.Rows.{settle, Act, act_of}
-use Rattle.runners.specs.Calls.{view, slot, store, blank, fresh_lent, consistent, valid_in, in_state, valid, Given, lent_call, call_on, flat_call, subnet_call}
+use Rattle.runners.specs.Calls.{view, store, blank, fresh_lent, fresh_of, fresh_call, consistent, valid_in, in_state, valid, Given, lent_call, call_on, flat_call, subnet_call}
 use Rattle.runners.specs.Columns.{code_of, transfer_of}
-use Rattle.runners.specs.inner.Storing.{Counts, slot_at}
+use Rattle.runners.specs.inner.Counts.{Counts}
 use Rattle.runners.specs.declared.Transfer.{Transfer}
-use Rattle.runners.specs.declared.Transfer.TheVariants.{Idle}
-use Rattle.runners.specs.declared.Slot.{Slot}
-use Rattle.runners.specs.declared.State.{State as Lent}
+use Rattle.runners.specs.declared.State.{State as Own}
 use Rattle.runners.specs.declared.Refusal.{Refusal}
 use Rattle.runners.specs.declared.Refusal.TheVariants.{BadCard, BadState, BadOrder, BadRow, BadDegree, Conflict}
-use Rattle.runners.specs.Answers.{IsRow}
-use Rattle.runners.specs.declared.RowAnswer.{RowAnswer}
-use Rattle.runners.specs.declared.Reply.TheVariants.{Ok, No}
+use Rattle.runners.specs.Answers.{IsFresh, IsAccepting}
 use Rattle.runners.proofs.StateLaws.{consistent_is, Sized, fresh_sized}
 use Rattle.runners.proofs.TraceLaws.{view_store, Good, Keeps, ask_keeps}
-use Rattle.runners.proofs.TransferLaws.{slot_at_is}
-use Rattle.net_runner.specs.Told.{row_told, IsTold}
-use Rattle.net_runner.specs.Slices.{IsCalled, Slices, slices, state_of, slices_of, sized, in_slices, fresh_in, flat_on, subnet_on}
-use Rattle.net_runner.specs.Copies.{Fits, Lends, taken_back, handed_back, too_long}
+use Rattle.net_runner.specs.declared.told.Told.{Told}
+use Rattle.net_runner.specs.declared.lending.Lent.{Lent}
+use Rattle.net_runner.specs.Told.{row_told, answer_told}
+use Rattle.net_runner.specs.Slices.{Slices, slices, state_of, slices_of, sized, in_slices, fresh_in, fresh_on, flat_on, subnet_on}
+use Rattle.net_runner.specs.Copies.{held, SameSlices, Fits, Lends, IsLent, IsHanded, sized_as, taken_back, handed_back, too_long}
 
--- transfers of an array
-abbrev pub SlotsTo : (ts : List ℕ) → (k : ℕ) → List Slot → Type 0
-SlotsTo ts k slots = (t : ℕ) → t < k → slot_at slots t ≡ transfer_of (entry ts t)
+-- an array that a function made of another, element by element
+module _ {F A B : Type 0} (g : Mut F (A × Unit {0}) B) (f : A → B) where
+  pub mapped : (d : A) (e : B) (p : F) (xs : List A) (ys : List B) (n : ℕ) → IsMapOf g p xs ys n → length xs ≡ n
+      → ((p q : F) (x : A) (y : B) → Called g p (x, tt) y q → y ≡ f x) → ys ≡ map f xs
+  mapped d e p xs ys n h l each =
+      ext_get_or e ys (map f xs) (h.long ∙ sym l ∙ sym (map_length f xs))
+      (λ i b. let z = h.at i d e (omega (arith, h.long)) in each _ _ _ _ z.2 ∙ sym (get_or-map f xs i d e (omega (arith, h.long, l))))
 
-pub slots_start : (ts : List ℕ) (slots : List Slot) → SlotsTo ts 0 slots
-slots_start ts slots t b = absurd (omega arith)
-
-pub slots_more : (ts : List ℕ) (k : ℕ) (y : Transfer) (a : List Slot) → k < length a → y ≡ transfer_of (entry ts k) → SlotsTo ts k a → SlotsTo ts (k + 1) (set a k (slot y))
-slots_more ts k y a b e h t d = go (lt_or_ge t k)
-  where
-    go : (t < k) ⊎ (k ≤ t) → slot_at (set a k (slot y)) t ≡ transfer_of (entry ts t)
-    go (inl q) =
-        slot_at_is (set a k (slot y)) t ∙ ap (λ (x : Slot). x.transfer) (get_or-set_other a k t (slot y) (slot Idle) (λ z. omega arith)) ∙ sym (slot_at_is a t) ∙ h t q
-    go (inr q) =
-        let z : t ≡ k = omega arith in
-        rw z (slot_at_is (set a k (slot y)) k ∙ ap (λ (x : Slot). x.transfer) (get_or-set_same a k (slot y) (slot Idle) b) ∙ e)
-
-zero_or : (xs : List ℕ) (i : ℕ) → i < length xs → entry xs i ≡ get_or xs i 65535
-zero_or [] i b = absurd (omega arith)
-zero_or (x ∷ xs) zero b = refl
-zero_or (x ∷ xs) (suc i) b = zero_or xs i (omega arith)
-
-pub slots_all : (ts : List ℕ) (k : ℕ) (slots : List Slot) → length ts ≤ k → length slots ≡ 255 → length ts ≤ 255 → SlotsTo ts k slots → take (length ts) (map (λ x. x.transfer) slots) ≡ map transfer_of ts
-slots_all ts k slots l long few h =
-    ext_get_or Idle (take (length ts) (map (λ (x : Slot). x.transfer) slots)) (map transfer_of ts) (size ∙ sym (map_length transfer_of ts))
-    (λ i b. get_or-take (length ts) (map (λ (x : Slot). x.transfer) slots) i Idle (omega (arith, size)) ∙ h i (omega (arith, size)) ∙ sym (at i (omega (arith, size))))
-  where
-    size : length (take (length ts) (map (λ (x : Slot). x.transfer) slots)) ≡ length ts
-    size = length-take-le (length ts) (map (λ (x : Slot). x.transfer) slots) (omega (arith, map_length (λ (x : Slot). x.transfer) slots))
-
-    at : (i : ℕ) → i < length ts → get_or (map transfer_of ts) i Idle ≡ transfer_of (entry ts i)
-    at i b = get_or-map transfer_of ts i 65535 ∙ ap transfer_of (sym (zero_or ts i b))
-
--- numbers put into a slice of their length
-module _ (want out : List ℕ) (e : length want ≡ length out) where
-  pub put_start : Copying want out out 0
-  put_start = copy_start want out (omega arith)
-
-  pub put_more : (now : List ℕ) (i v : ℕ) → Copying want out now i → i < length out → v ≡ get_or want i 0 → Copying want out (set now i v) (i + 1)
-  put_more now i v c l q = subst (λ (z : ℕ). Copying want out (set now i z) (i + 1)) (sym q) (copy_more want out now i c (omega arith))
-
-  pub put_done : (now : List ℕ) (i : ℕ) → Copying want out now i → length out ≤ i → now ≡ want
-  put_done now i c l =
-      let z = ap length (put_is want out (omega arith)) ∙ length-append want (drop (length want) out) in
-      copy_done want out now i c (omega arith)
-      ∙ sym (take_all (length want) (put_into want out) (omega (arith, z, length-drop (length want) out)))
-      ∙ put_front want out (put_into want out) (omega arith) refl
-
--- the lent state that slices make
-pub lends : (ms ts ds m d : List ℕ) (s : List Slot) → Fits (slices ms ts ds) → m ≡ put_into ms (replicate 255 0) → take (length ts) (map (λ x. x.transfer) s) ≡ map transfer_of ts → d ≡ put_into ds (replicate 63 0)
-    → Lends (slices ms ts ds) (record { markings = m; slots = s; degrees = d; places = length ms; transitions = length ts; signals = length ds })
-lends ms ts ds m d s f em es ed =
+-- the state that slices make
+pub lends : (ms ts ds m d c : List ℕ) (s : List Transfer) → take (length ms) m ≡ ms → take (length ts) c ≡ ts → take (length ds) d ≡ ds → s ≡ map transfer_of c
+    → Lends (slices ms ts ds) (record { markings = m; transfers = s; degrees = d; places = length ms; transitions = length ts; signals = length ds })
+lends ms ts ds m d c s em ec ed es =
     record {
-      state = same (take (length ms) m) (take (length ts) (map (λ (x : Slot). x.transfer) s)) (take (length ds) d)
-          (put_front ms (replicate 255 0) m (omega (arith, f.markings, length-replicate {A = ℕ} 255 0)) em) es (put_front ds (replicate 63 0) d (omega (arith, f.degrees, length-replicate {A = ℕ} 63 0)) ed);
+      state = same (take (length ms) m) (take (length ts) s) (take (length ds) d) em (ap (take (length ts)) es ∙ take-map transfer_of (length ts) c ∙ ap (map transfer_of) ec) ed;
       places = refl;
       transitions = refl;
       signals = refl;
@@ -106,15 +65,18 @@ lends ms ts ds m d s f em es ed =
     same a b c ea eb ec = rw (ea, eb, ec)
 
 -- what is handed back
-taken_view : (l : Lent) (x : Slices) → l.places ≡ length x.markings → l.transitions ≡ length x.transfers → l.signals ≡ length x.degrees → taken_back l x ≡ slices_of (view l)
+pub taken : (n : ℕ) (xs : List Transfer) → take n (map code_of xs) ≡ map code_of (take n xs)
+taken n xs = take-map code_of n xs
+
+taken_view : (l : Own) (x : Slices) → l.places ≡ length x.markings → l.transitions ≡ length x.transfers → l.signals ≡ length x.degrees → taken_back l x ≡ slices_of (view l)
 taken_view l x ep et es = rw (ep, et, es)
 
-taken_store : (f : Card) (l : Lent) (s : NetState) (x : Slices) → Counts f l → Sized f s → l.places ≡ length x.markings → l.transitions ≡ length x.transfers → l.signals ≡ length x.degrees
+taken_store : (f : Card) (l : Own) (s : NetState) (x : Slices) → Counts f l → Sized f s → l.places ≡ length x.markings → l.transitions ≡ length x.transfers → l.signals ≡ length x.degrees
     → taken_back (store l s) x ≡ slices_of s
 taken_store f l s x n h ep et es = taken_view (store l s) x ep et es ∙ ap slices_of (view_store f l s n h)
 
-pub refused_back : (why : Refusal) (l : Lent) (x : Slices) → handed_back (row_outcome (No why), l) x ≡ (row_outcome (No why), x)
-refused_back (BadCard f at) l x = refl
+refused_back : (why : Refusal) (l : Own) (x : Slices) → handed_back (refusal why, l) x ≡ (refusal why, x)
+refused_back (BadCard r) l x = refl
 refused_back BadState l x = refl
 refused_back BadOrder l x = refl
 refused_back BadRow l x = refl
@@ -150,7 +112,7 @@ none_right : (a b : Option Refusal) → (a otherwise b) ≡ none → b ≡ none
 none_right none b e = e
 none_right (some why) b e = absurd (some-ne-none why e)
 
-module _ (x : Slices) (l : Lent) (h : Lends x l) where
+module _ (x : Slices) (l : Own) (h : Lends x l) where
   valid_same : (f : Card) → valid f l ≡ valid_in in_slices f x
   unfolding valid_in sized
   valid_same f =
@@ -184,15 +146,15 @@ module _ (x : Slices) (l : Lent) (h : Lends x l) where
         (sym h.state) (rw (valid_same f) (tested (valid_in in_slices f x) refl))
 
   -- A CALL ON SLICES IS THE CALL ON THE STATE THAT THEY MAKE, handed back
-  pub called_on : (j : Judgement) (given : Card → Given) → handed_back (call_on in_state j given l) x ≡ call_on in_slices j given x
+  called_on : (j : Judgement) (given : Card → Given) → handed_back (call_on in_state j given l) x ≡ call_on in_slices j given x
   called_on (accepted c) given = lent_on (flatten c) (given c).ordered (act_of (flatten c) (given c).ask) (ask_keeps (flatten c) (given c).ask)
   called_on (refused n at) given = refl
 
-pub flat_on_is : (card : List ℕ) (x : Slices) (l : Lent) → Lends x l → (r : List ℕ) → handed_back (flat_call card l r) x ≡ flat_on card x r
+flat_on_is : (card : List ℕ) (x : Slices) (l : Own) → Lends x l → (r : List ℕ) → handed_back (flat_call card l r) x ≡ flat_on card x r
 unfolding flat_call flat_on
 flat_on_is card x l h r = called_on x l h (judge card) _
 
-pub subnet_on_is : (card order : List ℕ) (x : Slices) (l : Lent) → Lends x l → (r : List ℕ) → handed_back (subnet_call card order l r) x ≡ subnet_on card order x r
+subnet_on_is : (card order : List ℕ) (x : Slices) (l : Own) → Lends x l → (r : List ℕ) → handed_back (subnet_call card order l r) x ≡ subnet_on card order x r
 unfolding subnet_call subnet_on
 subnet_on_is card order x l h r = called_on x l h (judge card) _
 
@@ -201,113 +163,115 @@ valid_sized : (f : Card) (x : Slices) → valid_in in_slices f x ≡ true → si
 unfolding valid_in
 valid_sized f x e = and_left (sized f x) (consistent f (state_of x)) e
 
-never_too_long : (c : Card) (x : Slices) → Meets c → (Fits x → ⊥) → sized (flatten c) x ≡ true → ⊥
+fits_of : (c : Card) (x : Slices) → Meets c → sized (flatten c) x ≡ true → Fits x
 unfolding flatten
-never_too_long c x m n e =
+fits_of c x m e =
     let z = sized_lengths (flatten c) x e in
-    n (record {
+    record {
       markings = omega (arith, z.places, map_length flat_place_row c.places, m.wellformed.rows.few_places);
       transfers = omega (arith, z.transitions, m.wellformed.rows.few_transitions);
       degrees = omega (arith, z.signals, m.wellformed.few_signals);
-    })
+    }
 
-pub called_long : (given : Card → Given) (card : List ℕ) (x : Slices) → (Fits x → ⊥) → call_on in_slices (judge card) given x ≡ (too_long (judge card), x)
+called_long : (given : Card → Given) (card : List ℕ) (x : Slices) → (Fits x → ⊥) → call_on in_slices (judge card) given x ≡ (too_long (judge card), x)
 called_long given card x n = go (judge card) refl
   where
     go : (j : Judgement) → judge card ≡ j → call_on in_slices j given x ≡ (too_long j, x)
     go (refused k at) e = refl
     go (accepted c) e = tested (valid_in in_slices (flatten c) x) refl
       where
-        tested : (b : Bool) → valid_in in_slices (flatten c) x ≡ b → call_on in_slices (accepted c) given x ≡ (row_outcome (No BadState), x)
+        tested : (b : Bool) → valid_in in_slices (flatten c) x ≡ b → call_on in_slices (accepted c) given x ≡ (refusal BadState, x)
         tested false q = rw q
-        tested true q = absurd (never_too_long c x (accepted_meets card c e) n (valid_sized (flatten c) x q))
+        tested true q = absurd (n (fits_of c x (accepted_meets card c e) (valid_sized (flatten c) x q)))
 
--- the fresh state in slices
-pub fresh_refused : (x : Slices) (n at : ℕ) (l : Lent) → handed_back (RowOutcome.refused n (some at), l) x ≡ (RowOutcome.refused n (some at), x)
-fresh_refused x n at l = refl
-
-module _ (c : Card) (x : Slices) where
-  pub fresh_other : sized (flatten c) x ≡ false → (row_outcome (No BadState), x) ≡ fresh_in (accepted c) x
-  fresh_other e = rw e
-
-  places_flat : length (flatten c).places ≡ length c.places
-  unfolding flatten
-  places_flat = map_length flat_place_row c.places
-
-  abbrev same_places : Bool
-  same_places = eqb (length x.markings) (length (flatten c).places)
-
-  abbrev same_transitions : Bool
-  same_transitions = eqb (length x.transfers) (length (flatten c).transitions)
-
-  abbrev same_signals : Bool
-  same_signals = eqb (length x.degrees) (flatten c).signals
-
-  unsized : (a b d : Bool) → (a ≡ false) ⊎ ((b ≡ false) ⊎ (d ≡ false)) → (a && b && d) ≡ false
-  unsized false b d h = refl
-  unsized true false d h = refl
-  unsized true true false h = refl
-  unsized true true true (inl e) = e
-  unsized true true true (inr (inl e)) = e
-  unsized true true true (inr (inr e)) = e
-
-  module _ (p t g : ℕ) (ep : p ≡ length c.places) (et : t ≡ length c.transitions) (eg : g ≡ c.signals) where
-    pub other_places : (length x.markings ≡ p → ⊥) → sized (flatten c) x ≡ false
-    unfolding sized
-    other_places n = unsized same_places same_transitions same_signals (inl (ne_eqb (length x.markings) (length (flatten c).places) (λ z. n (z ∙ places_flat ∙ sym ep))))
-
-    pub other_transitions : (length x.transfers ≡ t → ⊥) → sized (flatten c) x ≡ false
-    unfolding sized flatten
-    other_transitions n = unsized same_places same_transitions same_signals (inr (inl (ne_eqb (length x.transfers) (length c.transitions) (λ z. n (z ∙ sym et)))))
-
-    pub other_signals : (length x.degrees ≡ g → ⊥) → sized (flatten c) x ≡ false
-    unfolding sized flatten
-    other_signals n = unsized same_places same_transitions same_signals (inr (inr (ne_eqb (length x.degrees) c.signals (λ z. n (z ∙ sym eg)))))
-
-    pub fresh_same : length x.markings ≡ p → length x.transfers ≡ t → length x.degrees ≡ g → handed_back (RowOutcome.ok, fresh_lent (flatten c)) x ≡ fresh_in (accepted c) x
-    unfolding sized flatten
-    fresh_same a b d =
-        rw (eq-eqb (length x.markings) (length (flatten c).places) (a ∙ ep ∙ sym places_flat), eq-eqb (length x.transfers) (length c.transitions) (b ∙ et), eq-eqb (length x.degrees) c.signals (d ∙ eg))
-        (ap (λ (y : Slices). (RowOutcome.ok, y))
-        (taken_store (flatten c) (blank (length (flatten c).places) (length c.transitions) c.signals) (fresh (flatten c)) x
-        (record { places = refl; transitions = refl; signals = refl }) (fresh_sized (flatten c)) (places_flat ∙ sym ep ∙ sym a) (sym et ∙ sym b) (sym eg ∙ sym d)))
-
-pub flat_long : (card : List ℕ) (x : Slices) (r : List ℕ) → (Fits x → ⊥) → flat_on card x r ≡ (too_long (judge card), x)
+flat_long : (card : List ℕ) (x : Slices) (r : List ℕ) → (Fits x → ⊥) → flat_on card x r ≡ (too_long (judge card), x)
 unfolding flat_on
 flat_long card x r n = called_long _ card x n
 
-pub subnet_long : (card order : List ℕ) (x : Slices) (r : List ℕ) → (Fits x → ⊥) → subnet_on card order x r ≡ (too_long (judge card), x)
+subnet_long : (card order : List ℕ) (x : Slices) (r : List ℕ) → (Fits x → ⊥) → subnet_on card order x r ≡ (too_long (judge card), x)
 unfolding subnet_on
 subnet_long card order x r n = called_long _ card x n
 
--- the numbers of transfers
-pub numbers_long : (slots : List Slot) (n : ℕ) → n ≤ length slots → length (map code_of (take n (map (λ x. x.transfer) slots))) ≡ n
-numbers_long slots n l =
-    map_length code_of (take n (map (λ (x : Slot). x.transfer) slots))
-    ∙ length-take-le n (map (λ (x : Slot). x.transfer) slots) (omega (arith, map_length (λ (x : Slot). x.transfer) slots))
+-- answers of the code
+module _ (before after : Lent) (a : Result ℕ Told) (same : SameSlices before after) where
+  abbrev x : Slices
+  x = held before
 
-pub numbers_at : (slots : List Slot) (n i : ℕ) → i < n → n ≤ length slots → get_or (map code_of (take n (map (λ x. x.transfer) slots))) i 0 ≡ code_of (get_or slots i (slot Idle)).transfer
-numbers_at slots n i b l =
-    zero_or (map code_of (take n (map (λ (x : Slot). x.transfer) slots))) i (omega (arith, numbers_long slots n l))
-    ∙ get_or-map code_of (take n (map (λ (x : Slot). x.transfer) slots)) i Idle
-    ∙ ap code_of (get_or-take n (map (λ (x : Slot). x.transfer) slots) i Idle b ∙ slot_at_is slots i)
+  handed_is : {y z : RowOutcome × Slices} → y ≡ z → answer_told a ≡ row_told y.0 → held after ≡ y.1 → IsHanded z a before after
+  handed_is {y} {z} e t k = subst (λ (z : RowOutcome × Slices). IsHanded z a before after) e (record { told = t; slices = k; same = same })
 
--- the answer of a row call
-pub called_ok : (a : RowAnswer) (x : RowOutcome × Lent) → IsRow x a → a.reply ≡ Ok → (y : Slices) (r v : ℕ) (ms ts ds : List ℕ) → IsCalled (handed_back (RowOutcome.ok, a.state) y) r v ms ts ds → IsCalled (handed_back x y) r v ms ts ds
-called_ok a x h e y r v ms ts ds c =
-    let o : RowOutcome.ok ≡ x.0 = sym (ap row_outcome e) ∙ h.reply in
-    subst (λ (z : RowOutcome × Lent). IsCalled (handed_back z y) r v ms ts ds) (pair (RowOutcome.ok) x.0 a.state x.1 o h.state) c
+  -- of slices that do not fit, and of the state that they make
+  pub flat_kept : (card r : List ℕ) (why : Refusal) → IsLent card x (Err why) → answer_told a ≡ row_told (refusal why) → held after ≡ x → IsHanded (flat_on card x r) a before after
+  flat_kept card r why h t = handed_is (sym (flat_long card x r h.0)) (t ∙ ap row_told h.1)
+
+  pub subnet_kept : (card order r : List ℕ) (why : Refusal) → IsLent card x (Err why) → answer_told a ≡ row_told (refusal why) → held after ≡ x → IsHanded (subnet_on card order x r) a before after
+  subnet_kept card order r why h t = handed_is (sym (subnet_long card order x r h.0)) (t ∙ ap row_told h.1)
+
+pub flat_handed : (before after : Lent) (a : Result ℕ Told) (card r : List ℕ) (l : Own) → IsLent card (held before) (Ok l)
+    → IsHanded (handed_back (flat_call card l r) (held before)) a before after → IsHanded (flat_on card (held before) r) a before after
+flat_handed before after a card r l h k = handed_is before after a k.same (flat_on_is card (held before) l h.1 r) k.told k.slices
+
+pub subnet_handed : (before after : Lent) (a : Result ℕ Told) (card order r : List ℕ) (l : Own) → IsLent card (held before) (Ok l)
+    → IsHanded (handed_back (subnet_call card order l r) (held before)) a before after → IsHanded (subnet_on card order (held before) r) a before after
+subnet_handed before after a card order r l h k = handed_is before after a k.same (subnet_on_is card order (held before) l h.1 r) k.told k.slices
+
+-- the fresh state in slices
+fresh_no : (card : List ℕ) (x : Slices) (e : CardRefusal) → IsFresh (fresh_call card) (Err e) → (refusal (BadCard e), x) ≡ fresh_on card x
+unfolding fresh_call fresh_on
+fresh_no card x e h = go (judge card) h.answer
   where
-    pair : (p q : RowOutcome) (s t : Lent) → p ≡ q → s ≡ t → ◌≡◌ {A = RowOutcome × Lent} (p, s) (q, t)
-    pair p q s t ep es = rw (ep, es)
+    go : (j : Judgement) → (fresh_of j).0 ≡ Check.CheckOutcome.refused (Check.number e.fault) e.bit → (refusal (BadCard e), x) ≡ fresh_in j x
+    go (refused n b) w =
+        let en : Check.number e.fault ≡ n = cc in
+        let eb : e.bit ≡ b = cc in
+        rw (en, eb)
+    go (accepted c) w = absurd (let z : ◌≡◌ {A = ℕ} 0 1 = cc in omega arith)
 
-pub called_no : (a : RowAnswer) (x : RowOutcome × Lent) → IsRow x a → (why : Refusal) → a.reply ≡ No why → (y : Slices) (r v : ℕ) → IsTold (row_told (refusal why)) r v
-    → IsCalled (handed_back x y) r v y.markings y.transfers y.degrees
-called_no a x h why e y r v t =
-    let o : row_outcome (No why) ≡ x.0 = sym (ap row_outcome e) ∙ h.reply in
-    subst (λ (z : RowOutcome). IsCalled (handed_back (z, x.1) y) r v y.markings y.transfers y.degrees) o
-    (subst (λ (z : RowOutcome × Slices). IsCalled z r v y.markings y.transfers y.degrees) (sym (refused_back why x.1 y))
-    (record { told = t; markings = refl; transfers = refl; degrees = refl }))
+record FreshNet (card : List ℕ) (l : Own) : Type 0 where
+  pub net : Card
+  pub meets : Meets net
+  pub is : (x : Slices) → fresh_on card x ≡ fresh_in (accepted net) x
+  pub state : l ≡ fresh_lent (flatten net)
 
-pub called_is : {x y : RowOutcome × Slices} {r v : ℕ} {ms ts ds : List ℕ} → x ≡ y → IsCalled x r v ms ts ds → IsCalled y r v ms ts ds
-called_is {r = r} {v = v} {ms = ms} {ts = ts} {ds = ds} e c = subst (λ (z : RowOutcome × Slices). IsCalled z r v ms ts ds) e c
+fresh_net : (card : List ℕ) (l : Own) → IsFresh (fresh_call card) (Ok l) → FreshNet card l
+unfolding fresh_call fresh_on
+fresh_net card l h = go (judge card) refl h.answer h.state
+  where
+    go : (j : Judgement) → judge card ≡ j → IsAccepting (fresh_of j).0 → l ≡ (fresh_of j).1 → FreshNet card l
+    go (refused n b) d w z = absurd w
+    go (accepted c) d w z = record { net = c; meets = accepted_meets card c d; is = λ x. ap (λ (j : Judgement). fresh_in j x) d; state = z }
+
+module _ (card : List ℕ) (l : Own) (h : IsFresh (fresh_call card) (Ok l)) (x : Slices) where
+  abbrev n : FreshNet card l
+  n = fresh_net card l h
+
+  same_sizes : sized_as l x ≡ sized (flatten n.net) x
+  unfolding sized
+  same_sizes = ap (λ (k : Own). sized_as k x) n.state
+
+  pub fresh_fits : sized_as l x ≡ true → Fits x
+  fresh_fits e = fits_of n.net x n.meets (sym same_sizes ∙ e)
+
+  fresh_other : sized_as l x ≡ false → (refusal BadState, x) ≡ fresh_on card x
+  fresh_other e = rw (n.is x, sym same_sizes, e) refl
+
+  fresh_same : sized_as l x ≡ true → (RowOutcome.ok, taken_back l x) ≡ fresh_on card x
+  fresh_same e =
+      let f = flatten n.net in
+      let z = sized_lengths f x (sym same_sizes ∙ e) in
+      let b = blank (length f.places) (length f.transitions) f.signals in
+      let q = taken_store f b (fresh f) x (record { places = refl; transitions = refl; signals = refl }) (fresh_sized f) (sym z.places) (sym z.transitions) (sym z.signals) in
+      ap (λ (y : Slices). (RowOutcome.ok, y)) (ap (λ (k : Own). taken_back k x) n.state ∙ q) ∙ rw (n.is x, sym same_sizes, e) refl
+
+module _ (before after : Lent) (a : Result ℕ Told) (same : SameSlices before after) (card : List ℕ) where
+  abbrev y : Slices
+  y = held before
+
+  pub fresh_refused : (e : CardRefusal) → IsFresh (fresh_call card) (Err e) → answer_told a ≡ row_told (refusal (BadCard e)) → held after ≡ y → IsHanded (fresh_on card y) a before after
+  fresh_refused e h = handed_is before after a same (fresh_no card y e h)
+
+  pub fresh_unlike : (l : Own) → IsFresh (fresh_call card) (Ok l) → sized_as l y ≡ false → answer_told a ≡ row_told (refusal BadState) → held after ≡ y → IsHanded (fresh_on card y) a before after
+  fresh_unlike l h e = handed_is before after a same (fresh_other card l h y e)
+
+  pub fresh_put : (l : Own) → IsFresh (fresh_call card) (Ok l) → sized_as l y ≡ true → answer_told a ≡ row_told RowOutcome.ok → held after ≡ taken_back l y → IsHanded (fresh_on card y) a before after
+  fresh_put l h e = handed_is before after a same (fresh_same card l h y e)

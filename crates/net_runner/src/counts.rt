@@ -1,40 +1,48 @@
 // The check's answer to a card, with the number of its signals, which a caller needs for a state's last slice.
-ghost use Rattle.std.specs.Prelude.{◌≡◌, true, length};
+ghost use Rattle.std.specs.Prelude.{◌≡◌, ◌≤◌, true, length};
 ghost use Rattle.card.specs.Tables.{has_room};
+ghost use Rattle.hierarchy.specs.Judgement.{judge, answer};
+ghost use Rattle.net_runner.specs.Told.{check_told, counts_told, answer_told};
 ghost use Rattle.net_runner.specs.Copies.{IsCounted};
 
-use card::tables::signals;
+use crate::told::Told;
+use card::view::CardView;
 use card::{SMALL_CARD, SMALL_TABLE, TABLE};
-use hierarchy::Answer;
+use hierarchy::CardRefusal;
 use hierarchy::check::load;
 
-#[derive(Clone, Copy)]
-pub struct CardCounts {
-    pub answer: Answer,
-    pub signals: u16,
-}
-
-// With the card's numbers in a lent table that has room for them.
-fn counted_in(card: &[u8], numbers: &mut [u16]) -> CardCounts
-    requires { has_room (length card.now) (length numbers.old) ≡ true }
-    ensures numbers_len_unchanged { length numbers.new ≡ length numbers.old }
-    ensures counted { IsCounted card.now result }
+// An accepted card's numbers of subnets, places, transitions and signals, with the card's numbers in a table of this size, which has room for
+// them.
+fn counted_in<const SIZE: usize>(card: &[u8]) -> Result<[usize; 4], CardRefusal>
+    requires room { has_room (length card.now) SIZE ≡ true }
+    requires small { SIZE ≤ TABLE }
+    ensures { IsCounted (judge card.now) result }
 {
-    let k = load(card, numbers);
-    let answer = k.answer;
-    CardCounts {
-        answer,
-        signals: signals(numbers),
-    }
+    let mut numbers = [0; SIZE];
+    let checked = load(card, &mut numbers)?;
+    let card = CardView::new(&numbers, &checked.starts, checked.counts);
+    Ok([
+        card.subnets() as usize,
+        card.places() as usize,
+        card.transitions() as usize,
+        card.signals() as usize,
+    ])
 }
 
-pub fn counted(card: &[u8]) -> CardCounts
-    ensures { IsCounted card.now result }
+fn counted(card: &[u8]) -> Result<[usize; 4], CardRefusal>
+    ensures { IsCounted (judge card.now) result }
 {
     if card.len() <= SMALL_CARD {
-        let mut numbers = [0; SMALL_TABLE];
-        return counted_in(card, &mut numbers);
+        return counted_in::<SMALL_TABLE>(card);
     }
-    let mut numbers = [0; TABLE];
-    counted_in(card, &mut numbers)
+    counted_in::<TABLE>(card)
+}
+
+// Stores the numbers of an accepted card.
+pub fn check_into(card: &[u8], counts: &mut [usize; 4]) -> Result<usize, Told>
+    ensures told { answer_told result ≡ check_told (answer card.now) }
+    ensures counts_after { counts.new ≡ counts_told (judge card.now) counts.old }
+{
+    *counts = counted(card)?;
+    Ok(0)
 }

@@ -1,183 +1,148 @@
-// A state in lent slices: taken into the runners' own state, and handed back where a call was answered with ok.
-ghost use Rattle.std.specs.Prelude.{◌≡◌, map, ◌↔◌, true, ℕ, ◌≤◌, length, take, replicate};
-ghost use Rattle.card.specs.Spelling.{put_into};
-ghost use Rattle.hierarchy.specs.Judgement.{judge};
+// A state in lent slices: taken into the runners' own state, and handed back where a call was not refused.
+ghost use Rattle.std.specs.Prelude.{◌≡◌, ◌≤◌, ◌↔◌, true, map, length, take};
 ghost use Rattle.runners.specs.Numbers.{RowOutcome};
 ghost use Rattle.runners.specs.Columns.{code_of, transfer_of};
 ghost use Rattle.runners.specs.Answers.{IsRow};
-ghost use Rattle.runners.specs.declared.State.{State as Lent};
-ghost use Rattle.net_runner.specs.Told.{row_told, IsTold};
-ghost use Rattle.net_runner.specs.Slices.{slices, IsCalled};
-ghost use Rattle.net_runner.specs.Copies.{Fits, Lends, handed_back, too_long};
+ghost use Rattle.runners.specs.declared.State.{State as Own};
+ghost use Rattle.net_runner.specs.Slices.{fresh_on, flat_on, subnet_on};
+ghost use Rattle.net_runner.specs.Copies.{held, sized_as, taken_back, handed_back, Fits, Lends, IsLent, SameSlices, IsHanded};
 
-use crate::told::refuse;
+use crate::told::Told;
 use card::{MOST_PLACES, MOST_SIGNALS, MOST_TRANSITIONS};
-use hierarchy::Answer;
 use hierarchy::check::check;
-use runners::codes::{code_of, transfer_of};
-use runners::{Refusal, Reply, RowAnswer, Slot, State, Transfer};
+use runners::flat_runner::flat_row;
+use runners::fresh::fresh;
+use runners::subnet_runner::subnet_row;
+use runners::{Refusal, RowAnswer, State, Transfer};
 
-fn load_markings(markings: &[u32]) -> [u32; MOST_PLACES]
-    ensures { length markings.now ≤ 255 → result ≡ put_into markings.now (replicate 255 0) }
+// The slices that a caller lends: markings by flat place, the numbers of transfers by flat transition, and each signal's last degree.
+#[derive(Drop)]
+pub struct Lent<'a> {
+    pub markings: &'a mut [u32],
+    pub transfers: &'a mut [u16],
+    pub degrees: &'a mut [u16],
+}
+
+// A slice's entries, and others behind them.
+fn padded<T: Copy, const SIZE: usize>(entries: &[T], rest: T) -> [T; SIZE]
+    ensures { length entries.now ≤ SIZE → take (length entries.now) result ≡ entries.now }
 {
-    let mut all = [0; MOST_PLACES];
-    let mut i: usize = 0;
-    while i < markings.len() {
-        if MOST_PLACES <= i {
-            return all;
-        }
-        all[i] = markings[i];
-        i += 1;
-    }
+    let mut all = [rest; SIZE];
+    let size = entries.len().min(SIZE);
+    all[..size].copy_from_slice(&entries[..size]);
     all
 }
 
-fn load_degrees(degrees: &[u16]) -> [u16; MOST_SIGNALS]
-    ensures { length degrees.now ≤ 63 → result ≡ put_into degrees.now (replicate 63 0) }
+// The first entries of a column, as many as a slice has.
+fn put<T: Copy>(entries: &[T], out: &mut [T])
+    ensures { length out.old ≤ length entries.now → out.new ≡ take (length out.old) entries.now }
 {
-    let mut all = [0; MOST_SIGNALS];
-    let mut i: usize = 0;
-    while i < degrees.len() {
-        if MOST_SIGNALS <= i {
-            return all;
+    let size = out.len().min(entries.len());
+    out[..size].copy_from_slice(&entries[..size]);
+}
+
+fn transfers_of(codes: [u16; MOST_TRANSITIONS]) -> [Transfer; MOST_TRANSITIONS]
+    ensures { result ≡ map transfer_of codes }
+{
+    codes.map(Transfer::from)
+}
+
+fn codes_of(transfers: [Transfer; MOST_TRANSITIONS]) -> [u16; MOST_TRANSITIONS]
+    ensures { result ≡ map code_of transfers }
+{
+    transfers.map(u16::from)
+}
+
+impl Lent<'_> {
+    // Whether the slices have no more entries than a state.
+    fn fits(&self) -> bool
+        ensures { (result ≡ true) ↔ Fits (held self.now) }
+    {
+        self.markings.len() <= MOST_PLACES
+            && self.transfers.len() <= MOST_TRANSITIONS
+            && self.degrees.len() <= MOST_SIGNALS
+    }
+
+    // Whether they have as many entries as this state uses.
+    fn is_sized_as(&self, state: &State) -> bool
+        ensures { result ≡ sized_as state.now (held self.now) }
+    {
+        self.markings.len() == state.places
+            && self.transfers.len() == state.transitions
+            && self.degrees.len() == state.signals
+    }
+
+    // The state that they hold.
+    #[tactic(auto, using(crate::proofs::SliceLaws::lends))]
+    fn state(&self) -> State
+        ensures { Fits (held self.now) → Lends (held self.now) result }
+    {
+        State {
+            markings: padded(self.markings, 0),
+            transfers: transfers_of(padded(self.transfers, 0)),
+            degrees: padded(self.degrees, 0),
+            places: self.markings.len(),
+            transitions: self.transfers.len(),
+            signals: self.degrees.len(),
         }
-        all[i] = degrees[i];
-        i += 1;
     }
-    all
-}
 
-fn load_slots(transfers: &[u16]) -> [Slot; MOST_TRANSITIONS]
-    ensures { length transfers.now ≤ 255 → take (length transfers.now) (map (λ x. x.transfer) result) ≡ map transfer_of transfers.now }
-{
-    let mut all = [Slot {
-        transfer: Transfer::Idle,
-    }; MOST_TRANSITIONS];
-    let mut i: usize = 0;
-    while i < transfers.len() {
-        if MOST_TRANSITIONS <= i {
-            return all;
+    // The same, for a row on this card. Of slices longer than those of any card, the card's own refusal, or 25.
+    fn state_on(&self, card: &[u8]) -> Result<State, Refusal>
+        ensures { IsLent card.now (held self.now) result }
+    {
+        if !self.fits() {
+            check(card)?;
+            return Err(Refusal::BadState);
         }
-        let transfer = transfer_of(transfers[i]);
-        all[i] = Slot { transfer };
-        i += 1;
+        Ok(self.state())
     }
-    all
-}
 
-// Whether slices of these lengths have no more entries than a state.
-pub fn fits(markings: &[u32], transfers: &[u16], degrees: &[u16]) -> bool
-    ensures { (result ≡ true) ↔ Fits (slices markings.now transfers.now degrees.now) }
-{
-    if MOST_PLACES < markings.len() {
-        return false;
+    // Takes the numbers of a state, as many as the slices have entries.
+    #[tactic(auto, using(crate::proofs::SliceLaws::taken))]
+    fn put(&mut self, state: &State)
+        ensures same { SameSlices self.old self.new }
+        ensures numbers { Fits (held self.old) → held self.new ≡ taken_back state.now (held self.old) }
+    {
+        put(&state.markings, self.markings);
+        put(&codes_of(state.transfers), self.transfers);
+        put(&state.degrees, self.degrees);
     }
-    if MOST_TRANSITIONS < transfers.len() {
-        return false;
-    }
-    degrees.len() <= MOST_SIGNALS
-}
 
-// The state that slices hold.
-pub fn lent(markings: &[u32], transfers: &[u16], degrees: &[u16]) -> State
-    ensures { Fits (slices markings.now transfers.now degrees.now) → Lends (slices markings.now transfers.now degrees.now) result }
-{
-    let m = load_markings(markings);
-    let s = load_slots(transfers);
-    let d = load_degrees(degrees);
-    State {
-        markings: m,
-        slots: s,
-        degrees: d,
-        places: markings.len(),
-        transitions: transfers.len(),
-        signals: degrees.len(),
+    // The answer of a row call: the next state handed back, or a refusal and the slices as they were.
+    fn hand_back(&mut self, answer: RowAnswer) -> Result<usize, Told>
+        ensures { (x : RowOutcome × Own) → IsRow x answer → Fits (held self.old) → IsHanded (handed_back x (held self.old)) result self.old self.new }
+    {
+        answer.reply?;
+        self.put(&answer.state);
+        Ok(0)
     }
-}
 
-fn put_markings(state: State, out: &mut [u32])
-    ensures { length out.old ≤ 255 → out.new ≡ take (length out.old) state.markings }
-{
-    let mut i: usize = 0;
-    while i < out.len() {
-        if MOST_PLACES <= i {
-            return;
+    // The fresh state of a card.
+    pub fn fresh(&mut self, card: &[u8]) -> Result<usize, Told>
+        ensures { IsHanded (fresh_on card.now (held self.old)) result self.old self.new }
+    {
+        let state = fresh(card)?;
+        if !self.is_sized_as(&state) {
+            return Err(Told::from(Refusal::BadState));
         }
-        out[i] = state.markings[i];
-        i += 1;
+        self.put(&state);
+        Ok(0)
     }
-}
 
-fn put_degrees(state: State, out: &mut [u16])
-    ensures { length out.old ≤ 63 → out.new ≡ take (length out.old) state.degrees }
-{
-    let mut i: usize = 0;
-    while i < out.len() {
-        if MOST_SIGNALS <= i {
-            return;
-        }
-        out[i] = state.degrees[i];
-        i += 1;
+    // A row on the flat net.
+    pub fn flat_row(&mut self, card: &[u8], row: &[u16]) -> Result<usize, Told>
+        ensures { IsHanded (flat_on card.now (held self.old) row.now) result self.old self.new }
+    {
+        let state = self.state_on(card)?;
+        self.hand_back(flat_row(card, state, row))
     }
-}
 
-fn put_transfers(state: State, out: &mut [u16])
-    ensures { length out.old ≤ 255 → out.new ≡ map code_of (take (length out.old) (map (λ x. x.transfer) state.slots)) }
-{
-    let mut i: usize = 0;
-    while i < out.len() {
-        if MOST_TRANSITIONS <= i {
-            return;
-        }
-        let slot = state.slots[i];
-        let transfer = slot.transfer;
-        out[i] = code_of(transfer);
-        i += 1;
-    }
-}
-
-// Slices longer than those of any card: the card's own refusal, or 25.
-pub fn too_long(card: &[u8], value: &mut usize) -> u64
-    ensures { IsTold (row_told (too_long (judge card.now))) result value.new }
-{
-    let a = check(card);
-    match a {
-        Answer::Refused(f, at) => refuse(Refusal::BadCard(f, at), value),
-        Answer::Accepted(_s, _p, _t) => refuse(Refusal::BadState, value),
-    }
-}
-
-// A state handed back into its slices, and an answer without a refusal.
-pub fn accept(
-    state: State,
-    markings: &mut [u32],
-    transfers: &mut [u16],
-    degrees: &mut [u16],
-    value: &mut usize,
-) -> u64
-    ensures { Fits (slices markings.old transfers.old degrees.old) → IsCalled (handed_back (RowOutcome.ok, state) (slices markings.old transfers.old degrees.old)) result value.new markings.new transfers.new degrees.new }
-{
-    put_markings(state, markings);
-    put_transfers(state, transfers);
-    put_degrees(state, degrees);
-    *value = 0;
-    0
-}
-
-// The answer of a row call: the next state handed back, or a refusal and the slices as they were.
-pub fn hand_back(
-    a: RowAnswer,
-    markings: &mut [u32],
-    transfers: &mut [u16],
-    degrees: &mut [u16],
-    value: &mut usize,
-) -> u64
-    ensures { (x : RowOutcome × Lent) → IsRow x a → Fits (slices markings.old transfers.old degrees.old) → IsCalled (handed_back x (slices markings.old transfers.old degrees.old)) result value.new markings.new transfers.new degrees.new }
-{
-    let reply = a.reply;
-    let state = a.state;
-    match reply {
-        Reply::Ok => accept(state, markings, transfers, degrees, value),
-        Reply::No(why) => refuse(why, value),
+    // A row subnet by subnet.
+    pub fn subnet_row(&mut self, card: &[u8], order: &[u16], row: &[u16]) -> Result<usize, Told>
+        ensures { IsHanded (subnet_on card.now order.now (held self.old) row.now) result self.old self.new }
+    {
+        let state = self.state_on(card)?;
+        self.hand_back(subnet_row(card, state, order, row))
     }
 }

@@ -1,12 +1,11 @@
 // What a caller is told of an answer: its number and its value.
-ghost use Rattle.std.specs.Prelude.{◌≡◌};
+ghost use Rattle.std.specs.Prelude.{◌≡◌, Err};
 ghost use Rattle.hierarchy.specs.Numbers.{check_outcome, write_outcome};
 ghost use Rattle.runners.specs.Numbers.{refusal};
-ghost use Rattle.net_runner.specs.Told.{check_told, write_told, row_told, IsTold};
+ghost use Rattle.net_runner.specs.Told.{check_told, write_told, row_told, answer_told, IsTold};
 
-use hierarchy::{Answer, SHORT_BUFFER, Written, fault_number};
+use hierarchy::{CardRefusal, WriteRefusal};
 use runners::Refusal;
-use runners::replies::refusal_code;
 
 #[derive(Clone, Copy)]
 pub struct Told {
@@ -14,45 +13,48 @@ pub struct Told {
     pub value: usize,
 }
 
-pub fn answer_told(a: Answer) -> Told
-    ensures { result ≡ check_told (check_outcome a) }
-{
-    match a {
-        Answer::Accepted(_s, _p, _t) => Told {
-            number: 0,
-            value: 0,
-        },
-        Answer::Refused(f, at) => Told {
-            number: fault_number(f),
-            value: at,
-        },
+impl From<CardRefusal> for Told {
+    ghost from_gives = { λ r t. t ≡ check_told (check_outcome (Err r)) };
+
+    fn from(r: CardRefusal) -> Told {
+        Told {
+            number: r.fault.number(),
+            value: r.bit,
+        }
     }
 }
 
-pub fn written_told(w: Written) -> Told
-    ensures { result ≡ write_told (write_outcome w) }
-{
-    match w {
-        Written::Wrote(n) => Told {
-            number: 0,
-            value: n,
-        },
-        Written::Refused(f, at) => Told {
-            number: fault_number(f),
-            value: at,
-        },
-        Written::Short(n) => Told {
-            number: SHORT_BUFFER,
-            value: n,
-        },
+impl From<WriteRefusal> for Told {
+    ghost from_gives = { λ r t. t ≡ write_told (write_outcome (Err r)) };
+
+    fn from(r: WriteRefusal) -> Told {
+        Told {
+            number: r.number(),
+            value: r.value(),
+        }
     }
 }
 
-// A refused call: its value is stored, its number answered.
-pub fn refuse(why: Refusal, value: &mut usize) -> u64
-    ensures { IsTold (row_told (refusal why)) result value.new }
+// Where a refusal has no value, 0 is told.
+impl From<Refusal> for Told {
+    ghost from_gives = { λ r t. t ≡ row_told (refusal r) };
+
+    fn from(r: Refusal) -> Told {
+        Told {
+            number: r.number(),
+            value: r.value().unwrap_or(0),
+        }
+    }
+}
+
+// Stores the value of an answer, and hands out its number: 0 where it is no refusal.
+pub fn tell(answer: Result<usize, Told>, value: &mut usize) -> u64
+    ensures { IsTold (answer_told answer) result value.new }
 {
-    let c = refusal_code(why);
-    *value = c.value;
-    c.number
+    let told = match answer {
+        Ok(value) => Told { number: 0, value },
+        Err(told) => told,
+    };
+    *value = told.value;
+    told.number
 }

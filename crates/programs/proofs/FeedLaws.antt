@@ -2,12 +2,13 @@
 -- Assumes nothing.
 use Prim.Native.Nat.{ℕ, ◌≤◌, ◌<◌}
 use mathlib.Core.Path.{◌≡◌, sym, ap, ap₂, subst, ◌∙◌}
-use mathlib.Core.Bool.{Bool, true, false}
+use mathlib.Core.Bool.{Bool, true}
 use mathlib.Core.List.{List, [], ◌∷◌, map}
-use native.Mathlib.Omega.{arith}
-use lib.ListN.{length, take}
+use lib.ListN.{length}
+use Rattle.std.specs.Prelude as Std
+use Rattle.std.specs.Prelude.{Some, None}
 use Rattle.card.specs.Card.{Card}
-use Rattle.hierarchy.specs.Judgement.{Judgement, accepted, refused, judge}
+use Rattle.hierarchy.specs.Judgement.{Judgement, accepted, judge}
 use Rattle.flattening.specs.Flattening.{flatten}
 use Rattle.flattening.proofs.FlatLaws.{flatten_again}
 use Rattle.runners.specs.Numbers.{RowOutcome}
@@ -15,10 +16,8 @@ use Rattle.runners.specs.State.{NetState, fresh}
 use Rattle.runners.specs.Rows.{RowRead, degrees, no_row, row, act_of, row_of}
 use Rattle.runners.specs.Calls.{fresh_call, fresh_lent, in_state, in_order, lent_call, called}
 use Rattle.runners.specs.Answers.{IsRow}
-use Rattle.runners.specs.Nets.{signals_in, IsNet}
 use Rattle.runners.specs.Traces.{trace, observed}
 use Rattle.runners.specs.declared.State.{State as Lent}
-use Rattle.runners.specs.declared.Net.{Net}
 use Rattle.runners.specs.declared.RowAnswer.{RowAnswer}
 use Rattle.runners.proofs.TraceLaws.{net_trace, ask_keeps}
 use Rattle.runners.proofs.CallLaws.{one_visited}
@@ -26,33 +25,24 @@ use Rattle.runners.proofs.Agreement.{fresh_view, start_sound, fresh_lent_is}
 use Rattle.programs.specs.Programs.{lines, file_trace}
 use Rattle.programs.specs.Files.{file_row}
 use Rattle.programs.specs.Feeds.{read_call, file_call, fed_lines}
-use Rattle.programs.specs.declared.file.FileRow.{FileRow}
 use Rattle.programs.proofs.FileLaws.{row_hollow, row_found, too_many}
 
--- no card has more than 63 signals
-pub few_signals : (net : Net) (j : Judgement) → IsNet j net → (n : ℕ) → n ≡ signals_in j → n ≤ 63
-few_signals net (accepted c) h n e = omega (arith, e, h.tables.tables.meets.wellformed.few_signals)
-few_signals net (refused k at) h n e = omega (arith, e)
+-- on a net, which is an accepted card and so has at most 63 signals
+module _ (c : Card) (few : c.signals ≤ 63) (l : Lent) (x : RowAnswer) where
+  few_in : (d : Card) → ◌≡◌ {A = Judgement} (accepted c) (accepted d) → d.signals ≤ 63
+  few_in d e = let i : c ≡ d = cc in subst (λ (k : Card). k.signals ≤ 63) i few
 
-module _ (net : Net) (l : Lent) (x : RowAnswer) where
-  few : (j : Judgement) → IsNet j net → (c : Card) → j ≡ accepted c → c.signals ≤ 63
-  few j h c e = (subst (λ (i : Judgement). IsNet i net) e h).tables.tables.meets.wellformed.few_signals
+  pub row_missing : (long : List ℕ) → 63 < length long → IsRow (called (in_order (0 ∷ [])) (accepted c) l long) x → IsRow (read_call (accepted c) l (λ d. no_row)) x
+  row_missing long m w = subst (λ (z : RowOutcome × Lent). IsRow z x) (too_many (in_order (0 ∷ [])) (accepted c) l long m few_in) w
 
-  pub row_missing : (long : List ℕ) → 63 < length long → (j : Judgement) → IsNet j net → IsRow (called (in_order (0 ∷ [])) j l long) x → IsRow (read_call j l (λ c. no_row)) x
-  row_missing long m j h w = subst (λ (z : RowOutcome × Lent). IsRow z x) (too_many (in_order (0 ∷ [])) j l long m (few j h)) w
+  module _ (bytes : List ℕ) (r : Std.Option (List ℕ)) (er : r ≡ file_row (row_of c bytes)) where
+    pub file_missing : r ≡ None → IsRow (read_call (accepted c) l (λ d. no_row)) x → IsRow (file_call (accepted c) l bytes) x
+    file_missing b w =
+        subst (λ (o : RowRead). IsRow (read_call (accepted c) l (λ d. o)) x) (sym (row_hollow (row_of c bytes) (sym er ∙ b))) w
 
-  module _ (bytes : List ℕ) (n : ℕ) (r : FileRow) (er : (f : Card) → f.signals ≡ n → n ≤ 63 → r ≡ file_row (row_of f bytes)) where
-    pub file_missing : (j : Judgement) → IsNet j net → n ≡ signals_in j → r.whole ≡ false → IsRow (read_call j l (λ c. no_row)) x → IsRow (file_call j l bytes) x
-    file_missing (accepted c) h e b w =
-        let q = row_hollow r (row_of c bytes) (er c (sym e) (omega (arith, e, h.tables.tables.meets.wellformed.few_signals))) b in
-        subst (λ (o : RowRead). IsRow (read_call (accepted c) l (λ d. o)) x) (sym q) w
-    file_missing (refused k at) h e b w = w
-
-    pub file_present : (j : Judgement) → IsNet j net → n ≡ signals_in j → r.whole ≡ true → IsRow (read_call j l (λ c. degrees (take r.count r.degrees))) x → IsRow (file_call j l bytes) x
-    file_present (accepted c) h e b w =
-        let q = row_found r (row_of c bytes) (er c (sym e) (omega (arith, e, h.tables.tables.meets.wellformed.few_signals))) b in
-        subst (λ (o : RowRead). IsRow (read_call (accepted c) l (λ d. o)) x) (sym q) w
-    file_present (refused k at) h e b w = w
+    pub file_present : (ds : List ℕ) → r ≡ Some ds → IsRow (read_call (accepted c) l (λ d. degrees ds)) x → IsRow (file_call (accepted c) l bytes) x
+    file_present ds b w =
+        subst (λ (o : RowRead). IsRow (read_call (accepted c) l (λ d. o)) x) (sym (row_found (row_of c bytes) ds (sym er ∙ b))) w
 
 -- THE LINES THAT A RUN PRINTS ARE THE DEFINITION'S, from the state that the call for a fresh one returns: on the net of a card's flat card the
 -- order names its one subnet, so that the calls are the flat runner's, and their trace is that of the net's own run.

@@ -1,15 +1,19 @@
 -- A row of a file: its degrees one after another, what the tests of its bytes decide, and a call where there is none. Assumes nothing.
 use Prim.Native.Nat.{ℕ, zero, suc, ◌+◌, ◌-◌, ◌*◌, ◌≤◌, ◌<◌}
-use mathlib.Core.Path.{◌≡◌, refl, sym, ap, ap₂, ◌∙◌}
-use mathlib.Core.Bool.{Bool, true, false, cond}
-use mathlib.Core.List.{List, [], ◌∷◌, ◌++◌, append_assoc}
+use mathlib.Core.Path.{◌≡◌, refl, sym, ap, ◌∙◌}
+use mathlib.Core.Bool.{Bool, true, false}
+use mathlib.Core.List.{List, [], ◌∷◌, ◌++◌}
 use mathlib.Core.Option.{Option, none, some, map}
 use native.Mathlib.Omega.{arith}
 use native.Mathlib.Nat.{mul-le-mul_left}
-use lib.ListN.{length, set, take, replicate, length-append, get_or-append}
-use lib.Seq.{set_at, take_at}
+use lib.ListN.{length, set, replicate}
 use lib.Dec.{eqb}
-use borrow.Author.Tests.{eq-eqb, ne_eqb}
+use borrow.Author.Tests.{eqb-true, eq-eqb, ne_eqb}
+use Rattle.std.specs.Prelude as Std
+use Rattle.std.specs.Prelude.{Some, None}
+use Rattle.std.specs.List.{All}
+use Rattle.std.proofs.lemmas.List.{get_or_default}
+use Rattle.card.proofs.Decides.{every_is}
 use Rattle.card.specs.Finite.{every, table, some_if, some_unless, ◌otherwise◌}
 use Rattle.card.specs.Bits.{bit, bit_field, bytes_for}
 use Rattle.card.specs.Fields.{field_at}
@@ -24,31 +28,14 @@ use Rattle.runners.specs.Calls.{view, store, in_state, valid, call_on, called}
 use Rattle.runners.specs.declared.State.{State as Lent}
 use Rattle.runners.specs.declared.Refusal.{Refusal}
 use Rattle.runners.specs.declared.Refusal.TheVariants.{BadState, BadOrder, BadRow}
-use Rattle.runners.proofs.VisitLaws.{every_same}
 use Rattle.programs.specs.Files.{file_row}
-use Rattle.programs.specs.declared.file.FileRow.{FileRow}
+use Rattle.programs.proofs.TextLaws.{set_next}
 
 -- a table of one more
 table_last : (from n : ℕ) (f : ℕ → ℕ) → table from (suc n) f ≡ table from n f ++ (f (from + n) ∷ [])
 unfolding table
 table_last from zero f = ap (λ (i : ℕ). f i ∷ []) (let e : from ≡ from + 0 = omega arith in e)
 table_last from (suc n) f = ap (λ (xs : List ℕ). f from ∷ xs) (table_last (suc from) n f ∙ ap (λ (i : ℕ). table (suc from) n f ++ (f i ∷ [])) (let e : suc from + n ≡ from + suc n = omega arith in e))
-
--- the entries from the first on that are stored, and zeros behind them
-abbrev pub stored : (f : ℕ → ℕ) (g : ℕ) → List ℕ
-stored f g = table 0 g f ++ replicate (63 - g) 0
-
-pub stored_none : (f : ℕ → ℕ) → replicate 63 0 ≡ stored f 0
-unfolding table
-stored_none f = refl
-
-pub stored_more : (f : ℕ → ℕ) (xs : List ℕ) (g v : ℕ) → xs ≡ stored f g → g < 63 → v ≡ f g → set xs g v ≡ stored f (g + 1)
-stored_more f xs g v e l i =
-    ap (λ (ys : List ℕ). set ys g v) (e ∙ ap (λ (k : ℕ). table 0 g f ++ replicate k 0) (let j : 63 - g ≡ suc (63 - (g + 1)) = omega arith in j))
-    ∙ set_at (table 0 g f) 0 (replicate (63 - (g + 1)) 0) v g (table_length 0 g f)
-    ∙ ap (λ (w : ℕ). table 0 g f ++ (w ∷ replicate (63 - (g + 1)) 0)) (i ∙ ap f (let j : g ≡ 0 + g = omega arith in j))
-    ∙ sym (append_assoc (table 0 g f) (f (0 + g) ∷ []) (replicate (63 - (g + 1)) 0))
-    ∙ ap (λ (ys : List ℕ). ys ++ replicate (63 - (g + 1)) 0) (sym (table_last 0 g f) ∙ ap (λ (k : ℕ). table 0 k f) (let j : suc g ≡ g + 1 = omega arith in j))
 
 -- the same function below n
 table_same : (from n : ℕ) (f h : ℕ → ℕ) → ((i : ℕ) → i < from + n → f i ≡ h i) → table from n f ≡ table from n h
@@ -101,70 +88,104 @@ module _ (lead cell g : ℕ) (bytes : List ℕ) where
         rw (filled_is, eq-eqb v 0 n)
         (ap (λ (xs : List ℕ). some xs) (table_same 0 g (λ k. bit_field (bit bytes) (lead + cell * k) cell) (λ k. field_at bytes (lead + cell * k) cell) (λ k m. sym (field_in bytes (lead + cell * k) cell few (in_bytes k (omega arith))))))
 
-    pub cells_handed : cell ≤ 16 → v ≡ 0 → (xs : List ℕ) → xs ≡ stored (λ k. field_at bytes (lead + cell * k) cell) g
-        → ◌≡◌ {A = FileRow} (record { whole = true; count = g; degrees = xs }) (file_row (or_no_row (cells lead cell g bytes)))
-    cells_handed few n xs d =
-        let long = table_length 0 g (λ k. field_at bytes (lead + cell * k) cell) in
-        rw (cells_whole few n)
-        (ap₂ (λ (k : ℕ) (ys : List ℕ). record { whole = true; count = k; degrees = ys }) (sym long)
-        (d ∙ ap (λ (k : ℕ). table 0 g (λ k. field_at bytes (lead + cell * k) cell) ++ replicate (63 - k) 0) (sym long)))
+-- the cells of a row: 10 bits a signal and none in front
+module _ (bytes : List ℕ) where
+  -- so many of them
+  abbrev pub cells_to : (g : ℕ) → List ℕ
+  cells_to g = table 0 g (λ k. field_at bytes (10 * k) 10)
+
+  pub cells_to_none : replicate 63 0 ≡ cells_to 0 ++ replicate (63 - 0) 0
+  unfolding table
+  cells_to_none = refl
+
+  pub cells_to_long : (g : ℕ) → length (cells_to g) ≡ g
+  cells_to_long g = table_length 0 g (λ k. field_at bytes (10 * k) 10)
+
+  pub cells_to_more : (g v : ℕ) (xs : List ℕ) → xs ≡ cells_to g ++ replicate (63 - g) 0 → g < 63 → v ≡ field_at bytes (10 * g) 10
+      → set xs g v ≡ cells_to (g + 1) ++ replicate (63 - (g + 1)) 0
+  cells_to_more g v xs e l i =
+      ap (λ (ys : List ℕ). set ys g v) e ∙ set_next 63 g v (cells_to g) (cells_to_long g) l
+      ∙ ap (λ (ys : List ℕ). ys ++ replicate (63 - (g + 1)) 0)
+      (ap (λ (w : ℕ). cells_to g ++ (w ∷ [])) (i ∙ ap (λ (k : ℕ). field_at bytes (10 * k) 10) (let j : g ≡ 0 + g = omega arith in j))
+      ∙ sym (table_last 0 g (λ k. field_at bytes (10 * k) 10)) ∙ ap (λ (k : ℕ). cells_to k) (let j : suc g ≡ g + 1 = omega arith in j))
+
+  module _ (g : ℕ) where
+    wide : 10 * g ≡ 0 + 10 * g
+    wide = omega arith
+
+    pub row_length : (length bytes ≡ bytes_for (10 * g) → ⊥) → file_row (or_no_row (cells 0 10 g bytes)) ≡ None
+    row_length n = ap (λ o. file_row (or_no_row o)) (cells_length 0 10 g bytes (λ e. n (e ∙ ap bytes_for (sym wide))))
+
+    module _ (l : length bytes ≡ bytes_for (10 * g)) (v : ℕ) (i : v ≡ field_at bytes (10 * g) (8 * bytes_for (10 * g) - 10 * g)) where
+      long : length bytes ≡ bytes_for (0 + 10 * g)
+      long = l ∙ ap bytes_for wide
+
+      fill : v ≡ field_at bytes (0 + 10 * g) (8 * bytes_for (0 + 10 * g) - (0 + 10 * g))
+      fill = i ∙ ap (λ (w : ℕ). field_at bytes w (8 * bytes_for w - w)) wide
+
+      pub row_fill : (v ≡ 0 → ⊥) → file_row (or_no_row (cells 0 10 g bytes)) ≡ None
+      row_fill n = ap (λ o. file_row (or_no_row o)) (cells_fill 0 10 g bytes long v fill n)
+
+      pub row_cells : v ≡ 0 → file_row (or_no_row (cells 0 10 g bytes)) ≡ Some (cells_to g)
+      row_cells n =
+          ap (λ o. file_row (or_no_row o)) (cells_whole 0 10 g bytes long v fill (omega arith) n)
+          ∙ ap (λ (xs : List ℕ). Some xs) (table_same 0 g (λ k. field_at bytes (0 + 10 * k) 10) (λ k. field_at bytes (10 * k) 10) (λ k b. ap (λ (w : ℕ). field_at bytes w 10) (let e : 0 + 10 * k ≡ 10 * k = omega arith in e)))
 
 -- what the reader of a row found
-differs : true ≡ false → ⊥
-differs e = let z : ◌≡◌ {A = ℕ} 0 1 = ap (λ (b : Bool). cond b 0 1) e in omega arith
+pub row_hollow : (o : RowRead) → file_row o ≡ None → o ≡ no_row
+row_hollow no_row e = refl
+row_hollow (degrees r) e = cc
 
-pub row_hollow : (w : FileRow) (o : RowRead) → w ≡ file_row o → w.whole ≡ false → o ≡ no_row
-row_hollow w no_row e b = refl
-row_hollow w (degrees r) e b = absurd (differs (sym (ap (λ (y : FileRow). y.whole) e) ∙ b))
+pub row_found : (o : RowRead) (ds : List ℕ) → file_row o ≡ Some ds → o ≡ degrees ds
+row_found no_row ds e = cc
+row_found (degrees r) ds e = ap degrees (let i : r ≡ ds = cc in i)
 
-pub row_found : (w : FileRow) (o : RowRead) → w ≡ file_row o → w.whole ≡ true → o ≡ degrees (take w.count w.degrees)
-row_found w no_row e b = absurd (differs (sym b ∙ ap (λ (y : FileRow). y.whole) e))
-row_found w (degrees r) e b = ap degrees (sym (ap (λ (y : FileRow). take y.count y.degrees) e ∙ take_at r (replicate (63 - length r) 0) (length r) refl))
+-- each entry is the empty mark
+marks : (xs : List ℕ) (n : ℕ) → n ≡ length xs → every n (λ k. eqb (entry xs k) 1023) ≡ true → All (λ d. d ≡ 1023) xs
+marks xs n e t k d l = get_or_default xs k d 0 l ∙ (every_is n (λ i. eqb (entry xs i) 1023) (λ i. entry xs i ≡ 1023) (λ i. (eqb-true (entry xs i) 1023, eq-eqb (entry xs i) 1023))).0 t k (omega (arith, e, l))
 
--- it has no more degrees than there is room for
-pub count_few : (w : FileRow) (o : RowRead) → w ≡ file_row o → length w.degrees ≡ 63 → w.count ≤ 63
-count_few w no_row e l = omega (arith, ap (λ (y : FileRow). y.count) e)
-count_few w (degrees r) e l =
-    omega (arith, l, ap (λ (y : FileRow). y.count) e, ap (λ (y : FileRow). length y.degrees) e, length-append r (replicate {A = ℕ} (63 - length r) 0))
+marked : (xs : List ℕ) (n : ℕ) → n ≡ length xs → All (λ d. d ≡ 1023) xs → every n (λ k. eqb (entry xs k) 1023) ≡ true
+marked xs n e a =
+    (every_is n (λ i. eqb (entry xs i) 1023) (λ i. entry xs i ≡ 1023) (λ i. (eqb-true (entry xs i) 1023, eq-eqb (entry xs i) 1023))).1
+    (λ k l. a k 0 (omega (arith, e, l)))
+
+false_if : (t : Bool) → (t ≡ true → ⊥) → t ≡ false
+false_if true n = absurd (n refl)
+false_if false n = refl
 
 -- A row of a file is empty where each degree is the empty mark.
-module _ (f : Card) (bytes : List ℕ) (g : ℕ) (eg : f.signals ≡ g) (w : FileRow) (ew : w ≡ file_row (or_no_row (cells 0 10 g bytes))) where
+module _ (f : Card) (bytes : List ℕ) (g : ℕ) (eg : f.signals ≡ g) (w : Std.Option (List ℕ)) (ew : w ≡ file_row (or_no_row (cells 0 10 g bytes))) where
   read_is : (o : Option (List ℕ)) → cells 0 10 g bytes ≡ o → row_of f bytes ≡ or_no_row (map (unmarked f) o)
   read_is o e = ap (λ (n : ℕ). or_no_row (map (unmarked f) (cells 0 10 n bytes))) eg ∙ ap (λ (x : Option (List ℕ)). or_no_row (map (unmarked f) x)) e
 
-  pub row_unread : w.whole ≡ false → w ≡ file_row (row_of f bytes)
-  row_unread b = go (cells 0 10 g bytes) refl ew
+  pub row_unread : w ≡ None → None ≡ file_row (row_of f bytes)
+  row_unread b = go (cells 0 10 g bytes) refl (sym b ∙ ew)
     where
-      go : (o : Option (List ℕ)) → cells 0 10 g bytes ≡ o → w ≡ file_row (or_no_row o) → w ≡ file_row (row_of f bytes)
-      go none e q = q ∙ ap file_row (sym (read_is none e))
-      go (some r) e q = absurd (differs (sym (ap (λ (y : FileRow). y.whole) q) ∙ b))
+      go : (o : Option (List ℕ)) → cells 0 10 g bytes ≡ o → None ≡ file_row (or_no_row o) → None ≡ file_row (row_of f bytes)
+      go none e q = sym (ap file_row (read_is none e))
+      go (some r) e q = cc
 
-  module _ (m : Bool) (em : m ≡ every g (λ k. eqb (entry w.degrees k) 1023)) where
-    marks_is : (r : List ℕ) → cells 0 10 g bytes ≡ some r → w ≡ file_row (degrees r) → every f.signals (λ k. eqb (entry r k) 1023) ≡ m
-    marks_is r e q =
-        ap (λ (n : ℕ). every n (λ k. eqb (entry r k) 1023)) eg
-        ∙ every_same g (λ k. eqb (entry r k) 1023) (λ k. eqb (entry w.degrees k) 1023) (λ k l. ap (λ (v : ℕ). eqb v 1023) (sym (ap (λ (y : FileRow). entry y.degrees k) q ∙ get_or-append r (replicate (63 - length r) 0) 0 k (omega (arith, cells_long 0 10 g bytes r e)))))
-        ∙ sym em
-
-    pub row_marked : w.whole ≡ true → m ≡ true → (x : FileRow) → x ≡ file_row (degrees []) → x ≡ file_row (row_of f bytes)
-    unfolding unmarked
-    row_marked b t x ex = go (cells 0 10 g bytes) refl ew
+  module _ (ds : List ℕ) (i : w ≡ Some ds) where
+    here : (cells 0 10 g bytes ≡ some ds) × (length ds ≡ g)
+    here = go (cells 0 10 g bytes) refl (sym i ∙ ew)
       where
-        go : (o : Option (List ℕ)) → cells 0 10 g bytes ≡ o → w ≡ file_row (or_no_row o) → x ≡ file_row (row_of f bytes)
-        go none e q = absurd (differs (sym b ∙ ap (λ (y : FileRow). y.whole) q))
-        go (some r) e q =
-            let z : row_of f bytes ≡ degrees [] = read_is (some r) e ∙ rw (marks_is r e q, t) refl in
-            ex ∙ ap file_row (sym z)
+        go : (o : Option (List ℕ)) → cells 0 10 g bytes ≡ o → Some ds ≡ file_row (or_no_row o) → (cells 0 10 g bytes ≡ some ds) × (length ds ≡ g)
+        go none e q = cc
+        go (some r) e q = let same : ds ≡ r = cc in (e ∙ ap some (sym same), ap length same ∙ cells_long 0 10 g bytes r e)
 
-    pub row_unmarked : w.whole ≡ true → m ≡ false → w ≡ file_row (row_of f bytes)
+    pub row_marked : All (λ d. d ≡ 1023) ds → Some [] ≡ file_row (row_of f bytes)
     unfolding unmarked
-    row_unmarked b t = go (cells 0 10 g bytes) refl ew
-      where
-        go : (o : Option (List ℕ)) → cells 0 10 g bytes ≡ o → w ≡ file_row (or_no_row o) → w ≡ file_row (row_of f bytes)
-        go none e q = absurd (differs (sym b ∙ ap (λ (y : FileRow). y.whole) q))
-        go (some r) e q =
-            let z : row_of f bytes ≡ degrees r = read_is (some r) e ∙ rw (marks_is r e q, t) refl in
-            q ∙ ap file_row (sym z)
+    row_marked a =
+        let t : every f.signals (λ k. eqb (entry ds k) 1023) ≡ true = marked ds f.signals (eg ∙ sym here.1) a in
+        let z : row_of f bytes ≡ degrees [] = read_is (some ds) here.0 ∙ rw t refl in
+        sym (ap file_row z)
+
+    pub row_unmarked : ¬ All (λ d. d ≡ 1023) ds → Some ds ≡ file_row (row_of f bytes)
+    unfolding unmarked
+    row_unmarked n =
+        let t : every f.signals (λ k. eqb (entry ds k) 1023) ≡ false = false_if _ (λ e. n (marks ds f.signals (eg ∙ sym here.1) e)) in
+        let z : row_of f bytes ≡ degrees ds = read_is (some ds) here.0 ∙ rw t refl in
+        sym (ap file_row z)
 
 -- Where bytes hold no row, a row of more degrees than any card has signals stands for it: both are refused with 20.
 long_row : (c : Card) (s : NetState) (long : List ℕ) → c.signals ≤ 63 → 63 < length long → row_refusal (flatten c) s long ≡ some BadRow

@@ -1,5 +1,5 @@
 -- Both runners on a file of calls: a corollary of Demand 3 as a function of the code.
-use Rattle.std.specs.Prelude.{ℕ, ◌+◌, ◌*◌, ◌/◌, ◌≡◌, ◌↔◌, Bool, true, false, List, map, length, take, drop}
+use Rattle.std.specs.Prelude.{ℕ, ◌+◌, ◌*◌, ◌/◌, ◌≡◌, ◌↔◌, Bool, true, false, List, map, length, take, drop, Option, MatchOption}
 use Rattle.card.specs.Finite.{table, All}
 use Rattle.card.specs.Bits.{bytes_for}
 use Rattle.card.specs.Card.{Card}
@@ -8,8 +8,6 @@ use Rattle.hierarchy.specs.Judgement
 use Rattle.runners.specs.Rows.{row, row_width, row_of}
 use Rattle.runners.specs.Calls.{fresh_call, in_state, each_once, flat_ask, subnet_ask}
 use Rattle.runners.specs.Traces.{Call, flat_trace, subnet_trace, observed}
-use Rattle.runners.specs.declared.Transfer.{Transfer}
-use Rattle.runners.specs.declared.Transfer.TheVariants.{Idle, Carrying}
 use Rattle.runners.specs.declared.State.{State as Lent}
 use Rattle.programs.specs.declared.agree.Both.{Both}
 
@@ -41,13 +39,15 @@ pub record IsAgreed (card file : List ℕ) (r : Bool) : Type 0 where
   pub exact : (c : Card) → judge card ≡ accepted c → (r ≡ true) ↔ Agrees card (fresh_call card).1 (fresh_call card).1 (calls_of c file)
   pub always : (c : Card) → judge card ≡ accepted c → All (λ k. each_once (length c.subnets) k.order ≡ true) (calls_of c file) → r ≡ true
 
--- a call of both runners, as the code hands it out
-pub record IsBoth (card : List ℕ) (k : Call) (x y : Lent) (r : Both) : Type 0 where
-  pub same : (r.same ≡ true) ↔ (observed (subnet_ask in_state card k.order y k.ask) ≡ observed (flat_ask in_state card x k.ask))
-  pub flat : r.flat ≡ (flat_ask in_state card x k.ask).1
-  pub subnet : r.subnet ≡ (subnet_ask in_state card k.order y k.ask).1
+-- whether both runners answer a call alike and leave equal states
+abbrev pub Alike : (card : List ℕ) → (flat subnet : Lent) → Call → Type 0
+Alike card flat subnet k = observed (subnet_ask in_state card k.order subnet k.ask) ≡ observed (flat_ask in_state card flat k.ask)
 
--- A transfer as a number, so that two are compared.
-abbrev pub progress_code : Transfer → ℕ
-progress_code Idle = 0
-progress_code (Carrying c) = c + 1
+-- A call of both runners, as the code hands it out: the states that it leaves, where they are alike.
+pub record LeavesBoth (card : List ℕ) (k : Call) (x : Both) (r : Both) : Type 0 where
+  pub alike : Alike card x.flat x.subnet k
+  pub flat : r.flat ≡ (flat_ask in_state card x.flat k.ask).1
+  pub subnet : r.subnet ≡ (subnet_ask in_state card k.order x.subnet k.ask).1
+
+abbrev pub IsBoth : (card : List ℕ) → Call → (before : Both) → Option Both → Type 0
+IsBoth card k x r = MatchOption r (¬ Alike card x.flat x.subnet k) (LeavesBoth card k x)

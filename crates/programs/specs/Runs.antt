@@ -9,16 +9,13 @@ use Rattle.hierarchy.specs.Judgement.{Judgement, accepted, refused, judge}
 use Rattle.runners.specs.Numbers.{RowOutcome}
 use Rattle.runners.specs.Rows.{row_width}
 use Rattle.runners.specs.Calls.{view, fresh_call}
-use Rattle.runners.specs.Nets.{flat_judged, IsNet}
+use Rattle.runners.specs.Nets.{flat_judged}
 use Rattle.runners.specs.declared.State.{State as Lent}
 use Rattle.programs.specs.Text.{decimal, line}
 use Rattle.programs.specs.Programs.{reply_words, card_line, run_program}
 use Rattle.programs.specs.Feeds.{file_call}
-use Rattle.programs.specs.Lines.{longest, IsLine}
-use Rattle.programs.specs.declared.line.Line.{Line}
-use Rattle.programs.specs.declared.blocks.Progress.{Progress}
-use Rattle.programs.specs.declared.blocks.Turn.{Turn}
-use Rattle.programs.specs.declared.blocks.Start.{Start}
+use Rattle.programs.specs.Lines.{longest}
+use Rattle.programs.specs.declared.blocks.CardRun.{CardRun}
 
 -- A run somewhere in its input: the number of the next row, the state in front of it, and those of its bytes that are there.
 pub record Run : Type 0 where
@@ -97,51 +94,64 @@ pub record Fitting (room : ℕ) (blocks : List (List ℕ)) : Type 0 where
   pub few : length (List.flatten blocks) < last_number
 
 -- a run as the code keeps it
-abbrev pub run_in : Progress → Run
-run_in p = record { number = p.number; state = p.state; left = take p.have p.left }
+abbrev pub run_in : CardRun → Run
+run_in r = record { number = r.number; state = r.state; left = r.left }
+
+-- the rows of the card that it runs: how many bytes each has, and how they are answered
+abbrev pub size_in : CardRun → ℕ
+size_in r = row_size_in (accepted r.net)
+
+abbrev pub call_in : CardRun → FileCall
+call_in r = file_call (accepted r.net)
 
 abbrev pub is_accepted : Judgement → Bool
 is_accepted (accepted c) = true
 is_accepted (refused n at) = false
 
 -- what the code hands out for a block: the lines stand at the buffer's front, and what stood behind them still does
-pub record IsTurn (x : List ℕ × Run) (before : List ℕ) (r : Turn) (after : List ℕ) : Type 0 where
+pub record IsTurn (x : List ℕ × Run) (before : List ℕ) (n : ℕ) (r : CardRun) (after : List ℕ) : Type 0 where
   pub fits : length x.0 ≤ length before
-  pub length : r.length ≡ length x.0
+  pub length : n ≡ length x.0
   pub lines : after ≡ put_into x.0 before
-  pub run : run_in r.progress ≡ x.1
+  pub run : run_in r ≡ x.1
 
--- A call of `answer_block`: the block, the lent buffer before and after it, and what it returned.
+-- A call of `answer_block`: the block, the lent buffer before and after it, how many bytes it answered, and the run that it left.
 pub record BlockCall : Type 0 where
   pub block : List ℕ
   pub before : List ℕ
-  pub turn : Turn
+  pub length : ℕ
+  pub run : CardRun
   pub after : List ℕ
 
--- calls one after another: each is lent the run that the one before returned, and a buffer of one length
-abbrev pub Follow : Judgement → (room : ℕ) → Progress → List BlockCall → Type 0
-Follow j room p [] = Unit {0}
-Follow j room p (k ∷ calls) =
+-- calls one after another: each is made on the run that the one before left, and lent a buffer of one length
+abbrev pub Follow : Judgement → (room : ℕ) → CardRun → List BlockCall → Type 0
+Follow j room r [] = Unit {0}
+Follow j room r (k ∷ calls) =
     (length k.before ≡ room)
-    × IsTurn (fed_block (row_size_in j) (file_call j) (length k.before) (run_in p) k.block) k.before k.turn k.after
-    × Follow j room k.turn.progress calls
+    × IsTurn (fed_block (row_size_in j) (file_call j) (length k.before) (run_in r) k.block) k.before k.length k.run k.after
+    × Follow j room k.run calls
 
 -- the run behind them, and the bytes that they hand out
-unfoldable pub behind : Progress → List BlockCall → Progress
-behind p [] = p
-behind p (k ∷ calls) = behind k.turn.progress calls
+unfoldable pub behind : CardRun → List BlockCall → CardRun
+behind r [] = r
+behind r (k ∷ calls) = behind k.run calls
 
 unfoldable pub handed_out : List BlockCall → List ℕ
 handed_out [] = []
-handed_out (k ∷ calls) = take k.turn.length k.after ++ handed_out calls
+handed_out (k ∷ calls) = take k.length k.after ++ handed_out calls
 
--- What the code hands out before the first block. Whatever calls follow, over any cutting of the input into blocks, with the line that the end
--- gets: all the bytes that are handed out are the program's.
-pub record IsStart (card : List ℕ) (r : Start) : Type 0 where
-  pub runs : r.runs ≡ is_accepted (judge card)
-  pub net : IsNet (flat_judged (judge card)) r.net
-  pub run : run_in r.progress ≡ first_run card
-  pub text : IsLine (first_text (judge card)) r.line
-  pub program : (room : ℕ) (calls : List BlockCall) (last : Line) → Follow (flat_judged (judge card)) room r.progress calls
-      → IsLine (last_line (file_call (flat_judged (judge card))) (run_in (behind r.progress calls))) last → Fitting room (map (λ k. k.block) calls)
-      → take r.line.length r.line.bytes ++ (handed_out calls ++ take last.length last.bytes) ≡ run_program card (List.flatten (map (λ k. k.block) calls))
+-- What the code hands out before the first block of an accepted card: the run in front of the first row. Whatever calls follow, over any cutting
+-- of the input into blocks, with the line that the end gets: all the bytes that are handed out are the program's.
+pub record IsBegun (card : List ℕ) (r : CardRun) : Type 0 where
+  pub accepted : is_accepted (judge card) ≡ true
+  pub net : flat_judged (judge card) ≡ Judgement.accepted r.net
+  pub run : run_in r ≡ first_run card
+  pub program : (room : ℕ) (calls : List BlockCall) (last : List ℕ) → Follow (flat_judged (judge card)) room r calls
+      → last ≡ last_line (file_call (flat_judged (judge card))) (run_in (behind r calls)) → Fitting room (map (λ k. k.block) calls)
+      → handed_out calls ++ last ≡ run_program card (List.flatten (map (λ k. k.block) calls))
+
+-- of a refused card: its one line, which is all that the program writes, whatever the rows
+pub record IsTurnedBack (card written : List ℕ) : Type 0 where
+  pub refused : is_accepted (judge card) ≡ false
+  pub text : written ≡ first_text (judge card)
+  pub program : (rows : List ℕ) → written ≡ run_program card rows

@@ -1,111 +1,96 @@
 // Both runners on a file of calls. A call is a row's bytes as in a rows file, and then the visiting order, a byte a subnet.
-ghost use Rattle.std.specs.Prelude.{◌≡◌, ◌↔◌, true, ◌≤◌, ◌-◌, ◌<◌, length, replicate};
+ghost use Rattle.std.specs.Prelude.{◌≡◌, ◌↔◌, true, ◌-◌, ◌≤◌, ◌<◌, ◌++◌, length, replicate};
 ghost use Rattle.card.specs.Card.{Card};
-ghost use Rattle.card.specs.Spelling.{put_into};
 ghost use Rattle.runners.specs.Rows.{Ask, degrees, no_row};
 ghost use Rattle.programs.specs.Agreeing.{IsBoth, IsAgreed, Agrees, call_of, calls_of, row_size};
 
 use crate::file::{row_bytes, row_of};
 use crate::same::{same_reply, same_state};
 use card::{MOST_SIGNALS, MOST_SUBNETS};
-use hierarchy::Answer;
+use hierarchy::check::check;
 use runners::State;
 use runners::flat_runner::flat_row;
 use runners::fresh::fresh;
 use runners::subnet_runner::subnet_row;
 
-// The states that a call of both runners leaves, and whether it answered alike and left equal ones.
+// The states of both runners.
 #[derive(Clone, Copy)]
-pub struct Both {
-    pub same: bool,
-    pub flat: State,
-    pub subnet: State,
+struct Both {
+    flat: State,
+    subnet: State,
 }
 
-fn both_rows(card: &[u8], order: &[u16], row: &[u16], flat: State, subnet: State) -> Both
-    ensures { IsBoth card.now (record { ask = Ask.row (degrees row.now); order = order.now }) flat subnet result }
+// A row call of both: the states that it leaves, if it answered alike and they are equal.
+fn both_rows(card: &[u8], order: &[u16], row: &[u16], before: Both) -> Option<Both>
+    ensures { IsBoth card.now (record { ask = Ask.row (degrees row.now); order = order.now }) before result }
 {
-    let a = flat_row(card, flat, row);
-    let b = subnet_row(card, subnet, order, row);
-    let x = a.reply;
-    let y = b.reply;
-    let s = a.state;
-    let t = b.state;
-    if !same_reply(y, x) {
-        return Both {
-            same: false,
-            flat: s,
-            subnet: t,
-        };
+    let flat = flat_row(card, before.flat, row);
+    let subnet = subnet_row(card, before.subnet, order, row);
+    if !same_reply(subnet.reply, flat.reply) {
+        return None;
     }
-    Both {
-        same: same_state(t, s),
-        flat: s,
-        subnet: t,
+    if !same_state(&subnet.state, &flat.state) {
+        return None;
     }
-}
-
-// The numbers of an order's bytes, 32 at most, and zeros behind them.
-fn order_of(bytes: &[u8]) -> [u16; MOST_SUBNETS]
-    ensures { length bytes.now ≤ 32 → result ≡ put_into bytes.now (replicate 32 0) }
-{
-    let mut order = [0; MOST_SUBNETS];
-    let mut i: usize = 0;
-    while i < bytes.len() {
-        if MOST_SUBNETS <= i {
-            return order;
-        }
-        order[i] = bytes[i] as u16;
-        i += 1;
-    }
-    order
+    Some(Both {
+        flat: flat.state,
+        subnet: subnet.state,
+    })
 }
 
 // Where bytes hold no row. No card has as many signals as this row has degrees, so that both runners refuse it; a row of none would be an empty
 // row, which they take.
-fn both_without_row(card: &[u8], order: &[u16], flat: State, subnet: State) -> Both
-    ensures { IsBoth card.now (record { ask = Ask.row no_row; order = order.now }) flat subnet result }
+fn both_without_row(card: &[u8], order: &[u16], before: Both) -> Option<Both>
+    ensures { IsBoth card.now (record { ask = Ask.row no_row; order = order.now }) before result }
 {
     let row = [0; MOST_SIGNALS + 1];
-    both_rows(card, order, &row, flat, subnet)
+    both_rows(card, order, &row, before)
 }
 
-// A call of a file, of which the first n bytes are the row's.
-fn both_calls(card: &[u8], bytes: &[u8], n: usize, signals: u16, flat: State, subnet: State) -> Both
-    requires { (n ≤ length bytes.now) × (length bytes.now - n ≤ 32) × (signals ≤ 63) }
-    ensures { (c : Card) → c.signals ≡ signals → row_size c ≡ n → IsBoth card.now (call_of c bytes.now) flat subnet result }
+// The numbers of an order's bytes, and zeros behind them.
+fn order_of(bytes: &[u8]) -> [u16; MOST_SUBNETS]
+    requires { length bytes.now ≤ 32 }
+    ensures { result ≡ bytes.now ++ replicate (32 - length bytes.now) 0 }
 {
-    let order = order_of(&bytes[n..]);
-    let s = bytes.len() - n;
-    let row = row_of(&bytes[..n], signals);
-    if !row.whole {
-        return both_without_row(card, &order[..s], flat, subnet);
+    let mut order = [0; MOST_SUBNETS];
+    for i in 0..bytes.len() {
+        order[i] = bytes[i] as u16;
     }
-    let degrees = row.degrees;
-    let g = row.count;
-    both_rows(card, &order[..s], &degrees[..g], flat, subnet)
+    order
+}
+
+// A call of a file: a row's bytes, and an order's.
+fn both_calls(card: &[u8], row: &[u8], order: &[u8], signals: u16, before: Both) -> Option<Both>
+    requires few_subnets { length order.now ≤ 32 }
+    requires few_signals { signals ≤ 63 }
+    ensures { (c : Card) → c.signals ≡ signals → row_size c ≡ length row.now → IsBoth card.now (call_of c (row.now ++ order.now)) before result }
+{
+    let numbers = order_of(order);
+    let visited = &numbers[..order.len()];
+    match row_of(row, signals) {
+        Some(row) => both_rows(card, visited, row.degrees(), before),
+        None => both_without_row(card, visited, before),
+    }
 }
 
 // All calls of a file from a state.
 fn agree_from(card: &[u8], file: &[u8], signals: u16, subnets: usize, first: State) -> bool
-    requires { (signals ≤ 63) × (0 < subnets) × (subnets ≤ 32) }
+    requires few_signals { signals ≤ 63 }
+    requires some_subnets { 0 < subnets }
+    requires few_subnets { subnets ≤ 32 }
     ensures { (c : Card) → c.signals ≡ signals → length c.subnets ≡ subnets → (result ≡ true) ↔ Agrees card.now first first (calls_of c file.now) }
 {
-    let n = row_bytes(signals);
-    let size = n + subnets;
-    let count = file.len() / size;
-    let mut flat = first;
-    let mut subnet = first;
-    let mut k: usize = 0;
-    while k < count {
-        let at = size * k;
-        let b = both_calls(card, &file[at..at + size], n, signals, flat, subnet);
-        if !b.same {
+    let row_size = row_bytes(signals);
+    let mut states = Both {
+        flat: first,
+        subnet: first,
+    };
+    for call in file.chunks_exact(row_size + subnets) {
+        let (row, order) = call.split_at(row_size);
+        let Some(after) = both_calls(card, row, order, signals, states) else {
             return false;
-        }
-        flat = b.flat;
-        subnet = b.subnet;
-        k += 1;
+        };
+        states = after;
     }
     true
 }
@@ -116,21 +101,15 @@ fn agree_from(card: &[u8], file: &[u8], signals: u16, subnets: usize, first: Sta
 pub fn agree(card: &[u8], file: &[u8]) -> bool
     ensures { IsAgreed card.now file.now result }
 {
-    let f = fresh(card);
-    let a = f.answer;
-    let first = f.state;
-    let Answer::Accepted(subnets, _p, _t) = a else {
+    let Ok(counts) = check(card) else {
         return false;
     };
-    if subnets < 1 {
+    let Ok(first) = fresh(card) else {
+        return false;
+    };
+    let subnets = usize::from(counts.subnets);
+    if subnets < 1 || 32 < subnets || 63 < first.signals {
         return false;
     }
-    if 32 < subnets {
-        return false;
-    }
-    if 63 < first.signals {
-        return false;
-    }
-    let signals = first.signals as u16;
-    agree_from(card, file, signals, subnets, first)
+    agree_from(card, file, first.signals as u16, subnets, first)
 }

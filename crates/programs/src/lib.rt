@@ -8,3 +8,4 @@ pub mod file;
 pub mod flat;
 pub mod line;
 pub mod same;
+pub mod text;

@@ -17,76 +17,115 @@ ghost use Rattle.std.specs.Prelude.{◌≡◌, length};
 
 use crate::calls::{Held, begin, put_call, put_flat, set_entry};
 use crate::files::put_file;
-use console::cases::{Lead, no_case, read_lead, read_rest};
+use console::cases::{Lead, read_lead, read_rest};
 use std::io;
 
-fn answer(rt: &HostRuntime, kind: u8, card: &[u8], case: &[u8], held: Held) -> io::Result<Held> {
-    if kind == 1 {
-        return put_call(rt, card, case, held);
+// What a case is.
+#[derive(Clone, Copy)]
+enum Kind {
+    Card,
+    Call(Call),
+}
+
+// What is asked of a card.
+#[derive(Clone, Copy)]
+enum Call {
+    Row,
+    Entry,
+    Flat,
+    File,
+}
+
+// A kind that ends the run.
+#[derive(Clone, Copy)]
+struct EndOfRun;
+
+impl TryFrom<u8> for Kind {
+    type Error = EndOfRun;
+
+    fn try_from(kind: u8) -> Result<Self, EndOfRun> {
+        match kind {
+            0 => Ok(Kind::Card),
+            1 => Ok(Kind::Call(Call::Row)),
+            2 => Ok(Kind::Call(Call::Entry)),
+            3 => Ok(Kind::Call(Call::Flat)),
+            4 => Ok(Kind::Call(Call::File)),
+            _ => Err(EndOfRun),
+        }
     }
-    if kind == 2 {
-        return Ok(set_entry(case, held));
+}
+
+fn answer(rt: &HostRuntime, call: Call, card: &[u8], case: &[u8], held: Held) -> io::Result<Held> {
+    match call {
+        Call::Row => return put_call(rt, card, case, held),
+        Call::Entry => return Ok(set_entry(case, held)),
+        Call::Flat => put_flat(rt, card, case)?,
+        Call::File => put_file(rt, card, case)?,
     }
-    if kind == 3 {
-        put_flat(rt, card, case)?;
-        return Ok(held);
-    }
-    put_file(rt, card, case)?;
     Ok(held)
 }
 
-// The calls after a card. The case behind them is the answer.
-fn put_calls(rt: &HostRuntime, card: &[u8], body: &mut [u8], first: Held) -> io::Result<Lead>
+// The calls after a card. The answer is the card behind them; `None` where the run ends.
+fn put_calls(
+    rt: &HostRuntime,
+    card: &[u8],
+    body: &mut [u8],
+    first: Held,
+) -> io::Result<Option<Lead>>
     ensures { length body.new ≡ length body.old }
 {
     let mut held = first;
-    let mut turns = u64::MAX;
-    while 0 < turns {
-        let lead = read_lead(rt);
-        if lead.kind == 0 {
-            return Ok(lead);
+    for _ in 0..u64::MAX {
+        let Some(lead) = read_lead(rt) else {
+            return Ok(None);
+        };
+        let kind = Kind::try_from(lead.kind);
+        if let Ok(Kind::Card) = kind {
+            return Ok(Some(lead));
         }
-        let call = read_rest(rt, lead, body);
-        if 4 < call.kind {
-            return Ok(call);
-        }
-        let n = call.length;
-        held = answer(rt, call.kind, card, &body[..n], held)?;
-        turns -= 1;
+        let Some(case) = read_rest(rt, lead, body) else {
+            return Ok(None);
+        };
+        let Ok(Kind::Call(call)) = kind else {
+            return Ok(None);
+        };
+        held = answer(rt, call, card, &body[..case.length], held)?;
     }
-    Ok(no_case())
+    Ok(None)
 }
 
-// A card, which is still to be read, and the calls with it. The case behind them is the answer.
-fn put_case(rt: &HostRuntime, lead: Lead, card: &mut [u8], body: &mut [u8]) -> io::Result<Lead>
-    ensures card_len_unchanged { length card.new ≡ length card.old }
+// A card, which is still to be read, and the calls with it. The answer is the card behind them; `None` where the run ends.
+fn put_card(
+    rt: &HostRuntime,
+    lead: Lead,
+    buffer: &mut [u8],
+    body: &mut [u8],
+) -> io::Result<Option<Lead>>
+    ensures buffer_len_unchanged { length buffer.new ≡ length buffer.old }
     ensures body_len_unchanged { length body.new ≡ length body.old }
 {
-    let case = read_rest(rt, lead, card);
-    if case.kind != 0 {
-        return Ok(case);
-    }
-    let n = case.length;
-    let held = begin(rt, &card[..n])?;
-    put_calls(rt, &card[..n], body, held)
+    let Some(case) = read_rest(rt, lead, buffer) else {
+        return Ok(None);
+    };
+    let card = &buffer[..case.length];
+    let held = begin(rt, card)?;
+    put_calls(rt, card, body, held)
 }
 
-// Nothing says that an input ends, so the turns are counted, from a number that no run uses up.
-fn put_cases(rt: &HostRuntime, card: &mut [u8], body: &mut [u8]) -> io::Result<()> {
-    let mut turns = u64::MAX;
-    let mut lead = read_lead(rt);
-    while 0 < turns {
-        if lead.kind != 0 {
+// The input begins with a card. Nothing says that it ends, so the turns are counted, to a number that no run reaches.
+fn put_cases(rt: &HostRuntime, buffer: &mut [u8], body: &mut [u8]) -> io::Result<()> {
+    let mut next = read_lead(rt).filter(|lead| matches!(Kind::try_from(lead.kind), Ok(Kind::Card)));
+    for _ in 0..u64::MAX {
+        let Some(lead) = next else {
             return Ok(());
-        }
-        lead = put_case(rt, lead, card, body)?;
-        turns -= 1;
+        };
+        next = put_card(rt, lead, buffer, body)?;
     }
     Ok(())
 }
 
 fn main(rt: HostRuntime) -> io::Result<()> {
-    let mut card = [0; 65536];
+    let mut buffer = [0; 65536];
     let mut body = [0; 65536];
-    put_cases(&rt, &mut card, &mut body)
+    put_cases(&rt, &mut buffer, &mut body)
 }

@@ -1,64 +1,70 @@
 // States with one entry set.
-use runners::codes::transfer_of;
-use runners::{Slot, State};
+use card::{MOST_PLACES, MOST_SIGNALS, MOST_TRANSITIONS};
+use runners::{State, Transfer};
 
-// The state, or as it was where the entry is not there. Fields 0 to 2 are the markings, the transfers and the degrees (65,535 is idle), 3 to 5
-// the counts.
-pub fn with_entry(state: State, field: u16, at: usize, value: u32) -> State {
-    if field == 0 {
-        return with_marking(state, at, value);
+// Where an entry stands: in the markings, the transfers or the degrees (of a transfer 65,535 is idle), or as one of the counts.
+#[derive(Clone, Copy)]
+pub enum Field {
+    Marking,
+    Transfer,
+    Degree,
+    Places,
+    Transitions,
+    Signals,
+}
+
+// 5, the signals, stands for any further number too.
+impl From<u16> for Field {
+    fn from(number: u16) -> Self {
+        match number {
+            0 => Field::Marking,
+            1 => Field::Transfer,
+            2 => Field::Degree,
+            3 => Field::Places,
+            4 => Field::Transitions,
+            _ => Field::Signals,
+        }
     }
-    if field == 1 {
-        return with_transfer(state, at, low(value));
+}
+
+// The state of no net.
+pub fn blank() -> State {
+    State {
+        markings: [0; MOST_PLACES],
+        transfers: [Transfer::Idle; MOST_TRANSITIONS],
+        degrees: [0; MOST_SIGNALS],
+        places: 0,
+        transitions: 0,
+        signals: 0,
     }
-    if field == 2 {
-        return with_degree(state, at, low(value));
-    }
-    with_count(state, field, value as usize)
 }
 
 fn low(value: u32) -> u16 {
     (value % 65536) as u16
 }
 
-fn with_marking(state: State, at: usize, value: u32) -> State {
+// The state, or as it was where the entry is not there.
+pub fn with_entry(state: State, field: Field, at: usize, value: u32) -> State {
     let mut s = state;
-    if at < 255 {
-        s.markings[at] = value;
-        return s;
+    match field {
+        Field::Marking => {
+            if let Some(marking) = s.markings.get_mut(at) {
+                *marking = value;
+            }
+        }
+        Field::Transfer => {
+            if let Some(transfer) = s.transfers.get_mut(at) {
+                *transfer = Transfer::from(low(value));
+            }
+        }
+        Field::Degree => {
+            if let Some(degree) = s.degrees.get_mut(at) {
+                *degree = low(value);
+            }
+        }
+        Field::Places => s.places = value as usize,
+        Field::Transitions => s.transitions = value as usize,
+        Field::Signals => s.signals = value as usize,
     }
-    s
-}
-
-fn with_transfer(state: State, at: usize, value: u16) -> State {
-    let mut s = state;
-    if at < 255 {
-        let transfer = transfer_of(value);
-        s.slots[at] = Slot { transfer };
-        return s;
-    }
-    s
-}
-
-fn with_degree(state: State, at: usize, value: u16) -> State {
-    let mut s = state;
-    if at < 63 {
-        s.degrees[at] = value;
-        return s;
-    }
-    s
-}
-
-fn with_count(state: State, field: u16, value: usize) -> State {
-    let mut s = state;
-    if field == 3 {
-        s.places = value;
-        return s;
-    }
-    if field == 4 {
-        s.transitions = value;
-        return s;
-    }
-    s.signals = value;
     s
 }

@@ -5,87 +5,55 @@
 #![tactic(auto)]
 
 ghost use Rattle.std.specs.Prelude.{◌≡◌, ◌*◌, ◌≤◌, length};
-ghost use Rattle.hierarchy.specs.Judgement.{Judgement};
-ghost use Rattle.runners.specs.Nets.{IsNet};
-ghost use Rattle.programs.specs.Feeds.{file_call};
 ghost use Rattle.programs.specs.Lines.{longest};
-ghost use Rattle.programs.specs.Runs.{row_size_in, fed_block, run_in};
+ghost use Rattle.programs.specs.Runs.{fed_block, run_in, size_in, call_in};
 
 use card::INPUT_BYTES;
-use console::{put_first, read_file, read_some};
-use programs::blocks::{BLOCK_BYTES, LINES_BYTES, Progress, answer_block, begin, last_line};
-use programs::line::Line;
-use runners::Net;
+use console::{put, put_first, read_file, read_some};
+use programs::blocks::{BLOCK_BYTES, CardRun, LINES_BYTES, begin};
 use std::io;
 
-fn put_line(rt: &HostRuntime, l: Line) -> io::Result<()> {
-    let bytes = l.bytes;
-    put_first(rt, &bytes, l.length)
-}
-
-// The run behind a block, and what came of writing its lines.
-#[derive(Drop)]
-struct Behind {
-    progress: Progress,
-    written: io::Result<()>,
-}
-
-// Writes the lines of a block, and gives the run behind it. It asks for the room without which `answer_block` takes nothing.
-fn put_block(rt: &HostRuntime, net: Net, p: Progress, block: &[u8], lines: &mut [u8]) -> Behind
+// Writes the lines of a block. It asks for the room without which `answer_block` takes nothing.
+fn put_block(rt: &HostRuntime, run: &mut CardRun, block: &[u8], lines: &mut [u8]) -> io::Result<()>
     requires { longest * length block.now ≤ length lines.old }
     ensures lines_len_unchanged { length lines.new ≡ length lines.old }
-    ensures behind { (j : Judgement) → IsNet j net → run_in result.progress ≡ (fed_block (row_size_in j) (file_call j) (length lines.old) (run_in p) block.now).1 }
+    ensures behind { run_in run.new ≡ (fed_block (size_in run.old) (call_in run.old) (length lines.old) (run_in run.old) block.now).1 }
 {
-    let t = answer_block(net, p, block, lines);
-    let written = put_first(rt, lines, t.length);
-    Behind {
-        progress: t.progress,
-        written,
-    }
+    let length = run.answer_block(block, lines);
+    put_first(rt, lines, length)
 }
 
-// Ends where the input does, or where a block's lines cannot be written. Nothing says that an input ends, so the turns are counted, from a number
-// that no run uses up.
+// Ends where the input does, or where a block's lines cannot be written. Nothing says that an input ends, so the turns are counted, to a number
+// that no run reaches.
 fn put_blocks(
     rt: &HostRuntime,
-    net: Net,
-    first: Progress,
+    run: &mut CardRun,
     block: &mut [u8],
     lines: &mut [u8],
 ) -> io::Result<()>
     requires { longest * length block.old ≤ length lines.old }
 {
-    let mut p = first;
-    let mut turns = u64::MAX;
-    while 0 < turns {
+    for _ in 0..u64::MAX {
         let n = read_some(rt, block);
         if n == 0 {
-            return put_line(rt, last_line(net, p));
+            return put(rt, run.last_line().as_slice());
         }
-        let b = put_block(rt, net, p, &block[..n], lines);
-        p = b.progress;
-        b.written?;
-        turns -= 1;
+        put_block(rt, run, &block[..n], lines)?;
     }
     Ok(())
 }
 
-fn put_rows(rt: &HostRuntime, net: Net, first: Progress) -> io::Result<()> {
+fn put_rows(rt: &HostRuntime, run: &mut CardRun) -> io::Result<()> {
     let mut block = [0; BLOCK_BYTES];
     let mut lines = [0; LINES_BYTES];
-    put_blocks(rt, net, first, &mut block, &mut lines)
+    put_blocks(rt, run, &mut block, &mut lines)
 }
 
 fn main(rt: HostRuntime) -> io::Result<()> {
     let mut card = [0; INPUT_BYTES];
     let n = read_file(&rt, b"net.card", &mut card);
-    let s = begin(&card[..n]);
-    let line = s.line;
-    put_line(&rt, line)?;
-    if s.runs {
-        let net = s.net;
-        let progress = s.progress;
-        return put_rows(&rt, net, progress);
+    match begin(&card[..n]) {
+        Ok(mut run) => put_rows(&rt, &mut run),
+        Err(line) => put(&rt, line.as_slice()),
     }
-    Ok(())
 }

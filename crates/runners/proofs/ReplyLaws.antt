@@ -1,16 +1,19 @@
--- A reply is known from its three numbers. Assumes nothing.
-use Rattle.std.proofs.Common.{◌≡◌, cond, eqb, sym, refl, ap, ◌∙◌}
+-- A refusal is known from its number and its value. Assumes nothing.
+use Rattle.std.proofs.Common.{◌≡◌, ℕ, refl}
+use Rattle.std.specs.Prelude as Std
 use mathlib.Core.Option.{none, some}
-use Rattle.runners.specs.Numbers.{RowOutcome, ok, refused, reply_code}
-use Rattle.runners.specs.declared.replies.Code.{Code}
+use Rattle.runners.specs.Numbers.{RowOutcome, refused, refusal, number_of, value_of}
+use Rattle.runners.specs.declared.Refusal.{Refusal}
+use Rattle.runners.specs.declared.Refusal.TheVariants.{BadCard, BadState, BadOrder, BadRow, BadDegree, Conflict}
 
-abbrev pub outcome_in : Code → RowOutcome
-outcome_in k = cond (eqb k.kind 0) ok (cond (eqb k.kind 1) (refused k.number none) (refused k.number (some k.value)))
+abbrev pub outcome_in : (number : ℕ) → (value : Std.Option ℕ) → RowOutcome
+outcome_in n Std.None = refused n none
+outcome_in n (Std.Some v) = refused n (some v)
 
-pub outcome_in_is : (x : RowOutcome) → outcome_in (reply_code x) ≡ x
-outcome_in_is ok = refl
-outcome_in_is (refused n none) = refl
-outcome_in_is (refused n (some v)) = refl
-
-pub outcome_by_code : (x : RowOutcome) (k : Code) → k ≡ reply_code x → x ≡ outcome_in k
-outcome_by_code x k e = sym (ap outcome_in e ∙ outcome_in_is x)
+pub refusal_is : (why : Refusal) → refusal why ≡ outcome_in (number_of (refusal why)) (value_of (refusal why))
+refusal_is (BadCard r) = refl
+refusal_is BadState = refl
+refusal_is BadOrder = refl
+refusal_is BadRow = refl
+refusal_is (BadDegree g) = refl
+refusal_is (Conflict p) = refl

@@ -1,6 +1,6 @@
 -- The rounds, visit by visit in the order that was lent: each visit is in its turn, after the first n visits their subnets' part of the step is
 -- done and nothing else, and after all of them the whole round's. Assumes nothing.
-use Rattle.std.proofs.Common.{◌≡◌, ℕ, ◌+◌, ◌<◌, ◌≤◌, true, false, ◌⊎◌, List, map, length, get_or, sym, refl, ap, ◌∙◌, subst, inl, inr, add-one, arith}
+use Rattle.std.proofs.Common.{◌≡◌, ℕ, ◌+◌, ◌<◌, ◌≤◌, true, false, ◌⊎◌, List, length, get_or, sym, refl, ap, ◌∙◌, subst, inl, inr, add-one, arith}
 use Rattle.card.specs.Finite.{sum_to}
 use Rattle.card.specs.Card.{Card, draws, fills}
 use Rattle.card.proofs.BitLaws.{lt_or_ge}
@@ -10,14 +10,16 @@ use Rattle.flattening.specs.Flattening.{flatten}
 use Rattle.runners.specs.State.{NetState, transfer, flow}
 use Rattle.runners.specs.Step.{candidate_on, arrives_on}
 use Rattle.runners.specs.Calls.{each_once}
-use Rattle.runners.specs.Columns.{Moved, Grown, nothing, idle_code, code_of, transfer_of, Columns, with_standing, with_candidates, with_state}
-use Rattle.runners.specs.Visits.{OwnsTransition, Round, posting, finding, moving, Turn, amount, effect, step_turn, InTurn, Does, SameElsewhere, InTables, turn_in, IsVisit}
+use Rattle.runners.specs.Columns.{Moved, Grown, nothing, with_standing, with_candidates, with_moved}
+use Rattle.runners.specs.declared.work.Work.{Work}
+use Rattle.runners.specs.declared.Transfer.TheVariants.{Idle}
+use Rattle.runners.specs.Visits.{OwnsTransition, Round, posting, finding, moving, Turn, amount, effect, step_turn, InTurn, Does, SameElsewhere, turn_in, IsVisit}
 use Rattle.runners.specs.inner.Rounds.{DoesAll}
-use Rattle.runners.proofs.OwnerLaws.{owner_unique, owner}
+use Rattle.runners.proofs.OwnerLaws.{owner_unique, owner, owned_below}
 use Rattle.runners.proofs.OnceLaws.{Once, once, sum_once, once_distinct}
-use Rattle.runners.proofs.MovedLaws.{moved_none, moved_join, moved_same}
+use Rattle.runners.specs.inner.Changes.{moved_none, moved_same}
+use Rattle.runners.proofs.MovedLaws.{moved_join}
 use Rattle.runners.proofs.VisitLaws.{effects_sum}
-use Rattle.runners.proofs.TransferLaws.{transfer_code}
 
 -- n + 1 visits are n visits and one
 up_to : (n j : ℕ) → j < n + 1 → (j < n) ⊎ (j ≡ n)
@@ -119,121 +121,127 @@ module _ (r : Round) (j : Turn) (order : List ℕ) where
         moved_same a b _ _ _ _ (λ p. partly_all n draws p m (once (length j.card.subnets) order o) q) (λ p. partly_all n fills p m (once (length j.card.subnets) order o) q) h
 
 -- What the first n visits do.
-pub record PostsTo (j : Turn) (order : List ℕ) (n : ℕ) (a a' : Columns) : Type 0 where
-  pub only : a' ≡ with_standing a a'.owed a'.due
-  pub owed : Grown a.owed a'.owed (partly posting j order n draws)
-  pub due : Grown a.due a'.due (partly posting j order n fills)
+pub record PostsTo (j : Turn) (order : List ℕ) (n : ℕ) (a a' : Work) : Type 0 where
+  pub only : a' ≡ with_standing a a'.standing
+  pub owed : Grown a.standing.owed a'.standing.owed (partly posting j order n draws)
+  pub due : Grown a.standing.due a'.standing.due (partly posting j order n fills)
 
-pub record FindsTo (j : Turn) (order : List ℕ) (n : ℕ) (a a' : Columns) : Type 0 where
-  pub only : a' ≡ with_candidates a a'.drawn a'.filled a'.candidates
-  pub drawn : Grown a.drawn a'.drawn (partly finding j order n draws)
-  pub filled : Grown a.filled a'.filled (partly finding j order n fills)
+pub record FindsTo (j : Turn) (order : List ℕ) (n : ℕ) (a a' : Work) : Type 0 where
+  pub only : a' ≡ with_candidates a a'.claimed a'.candidates
+  pub owed : Grown a.claimed.owed a'.claimed.owed (partly finding j order n draws)
+  pub due : Grown a.claimed.due a'.claimed.due (partly finding j order n fills)
   pub candidates : SetTo false (candidate_on (flatten j.card) j.standing j.state j.row) j.card order n a.candidates a'.candidates
 
-pub record MovesTo (j : Turn) (order : List ℕ) (n : ℕ) (a a' : Columns) : Type 0 where
-  pub only : a' ≡ with_state a a'.markings a'.transfers
-  pub markings : Moved a.markings a'.markings (partly moving j order n draws) (partly moving j order n fills)
-  pub transfers : SetTo idle_code (λ t. code_of (arrives_on (flatten j.card) j.found j.state j.row t)) j.card order n a.transfers a'.transfers
+pub record MovesTo (j : Turn) (order : List ℕ) (n : ℕ) (a a' : Work) : Type 0 where
+  pub only : a' ≡ with_moved a a'.state.markings a'.state.transfers
+  pub markings : Moved a.state.markings a'.state.markings (partly moving j order n draws) (partly moving j order n fills)
+  pub transfers : SetTo Idle (arrives_on (flatten j.card) j.found j.state j.row) j.card order n a.state.transfers a'.state.transfers
 
-abbrev pub DoesTo : Round → Turn → (order : List ℕ) → (n : ℕ) → (a a' : Columns) → Type 0
+abbrev pub DoesTo : Round → Turn → (order : List ℕ) → (n : ℕ) → (a a' : Work) → Type 0
 DoesTo posting j order n a a' = PostsTo j order n a a'
 DoesTo finding j order n a a' = FindsTo j order n a a'
 DoesTo moving j order n a a' = MovesTo j order n a a'
 
-pub round_start : (r : Round) (j : Turn) (order : List ℕ) (a : Columns) → DoesTo r j order 0 a a
-round_start posting j order a = record { only = refl; owed = grown_start posting j order draws a.owed; due = grown_start posting j order fills a.due }
+pub round_start : (r : Round) (j : Turn) (order : List ℕ) (a : Work) → DoesTo r j order 0 a a
+round_start posting j order a =
+    record { only = refl; owed = grown_start posting j order draws a.standing.owed; due = grown_start posting j order fills a.standing.due }
 round_start finding j order a =
     record {
       only = refl;
-      drawn = grown_start finding j order draws a.drawn;
-      filled = grown_start finding j order fills a.filled;
+      owed = grown_start finding j order draws a.claimed.owed;
+      due = grown_start finding j order fills a.claimed.due;
       candidates = set_start false _ j.card order a.candidates;
     }
-round_start moving j order a = record { only = refl; markings = moved_start moving j order a.markings; transfers = set_start idle_code _ j.card order a.transfers }
+round_start moving j order a =
+    record { only = refl; markings = moved_start moving j order a.state.markings; transfers = set_start Idle _ j.card order a.state.transfers }
 
-pub round_all : (r : Round) (j : Turn) (order : List ℕ) (n : ℕ) (a a' : Columns) → Meets j.card → each_once (length j.card.subnets) order ≡ true → n ≡ length order
+pub round_all : (r : Round) (j : Turn) (order : List ℕ) (n : ℕ) (a a' : Work) → Meets j.card → each_once (length j.card.subnets) order ≡ true → n ≡ length order
     → DoesTo r j order n a a' → DoesAll r j a a'
 round_all posting j order n a a' m o q h =
-    record { only = h.only; owed = grown_all posting j order n m o q draws a.owed a'.owed h.owed; due = grown_all posting j order n m o q fills a.due a'.due h.due }
+    record {
+      only = h.only;
+      owed = grown_all posting j order n m o q draws a.standing.owed a'.standing.owed h.owed;
+      due = grown_all posting j order n m o q fills a.standing.due a'.standing.due h.due;
+    }
 round_all finding j order n a a' m o q h =
     record {
       only = h.only;
-      drawn = grown_all finding j order n m o q draws a.drawn a'.drawn h.drawn;
-      filled = grown_all finding j order n m o q fills a.filled a'.filled h.filled;
+      owed = grown_all finding j order n m o q draws a.claimed.owed a'.claimed.owed h.owed;
+      due = grown_all finding j order n m o q fills a.claimed.due a'.claimed.due h.due;
       noted = set_all false _ j.card order o n a.candidates a'.candidates m q h.candidates;
     }
 round_all moving j order n a a' m o q h =
     record {
       only = h.only;
-      markings = moved_all moving j order n m o q a.markings a'.markings h.markings;
-      transfers = set_all idle_code _ j.card order o n a.transfers a'.transfers m q h.transfers;
+      markings = moved_all moving j order n m o q a.state.markings a'.state.markings h.markings;
+      transfers = set_all Idle _ j.card order o n a.state.transfers a'.state.transfers m q h.transfers;
+      long = h.transfers.long;
+      others = λ t l. h.transfers.others t (λ k p w. absurd (omega (arith, owned_below j.card m (get_or order k 0) t (visited (length j.card.subnets) order k o (omega arith)) w)));
     }
 
 -- EACH VISIT OF A ROUND IS IN ITS TURN, if each subnet is as the round begins: what the visits before it have done is none of its own
-module _ (c : Card) (before : NetState) (order : List ℕ) (o : each_once (length c.subnets) order ≡ true) (n : ℕ) (l : n < length order) (a b : Columns) where
+module _ (c : Card) (row : List ℕ) (before : NetState) (order : List ℕ) (o : each_once (length c.subnets) order ≡ true) (n : ℕ) (l : n < length order) (a b : Work) where
   abbrev s : ℕ
   s = get_or order n 0
 
-  still_in_turn : (r : Round) → InTurn r s (turn_in c a) before → DoesTo r (step_turn c before a.row) order n a b → InTurn r s (turn_in c b) before
+  still_in_turn : (r : Round) → InTurn r s (turn_in c row a) before → DoesTo r (step_turn c before row) order n a b → InTurn r s (turn_in c row b) before
   still_in_turn posting h g =
       record {
-        transfers = λ t w. ap (λ (k : Columns). transfer (map transfer_of k.transfers) t) g.only ∙ h.transfers t w;
-        degrees = λ q w. ap (λ (k : Columns). get_or k.degrees q 0) g.only ∙ h.degrees q w;
+        transfers = λ t w. ap (λ (k : Work). transfer k.state.transfers t) g.only ∙ h.transfers t w;
+        degrees = λ q w. ap (λ (k : Work). get_or k.state.degrees q 0) g.only ∙ h.degrees q w;
         places = λ e q i w. absurd (let z : ◌≡◌ {A = ℕ} 0 1 = cc in omega arith);
         found = λ e t w. absurd (let z : ◌≡◌ {A = ℕ} 0 1 = cc in omega arith);
       }
-  still_in_turn finding h g = subst (λ (k : Columns). InTurn finding s (turn_in c k) before) (sym g.only) (record {
+  still_in_turn finding h g = subst (λ (k : Work). InTurn finding s (turn_in c row k) before) (sym g.only) (record {
     transfers = h.transfers;
     degrees = h.degrees;
     places = λ e q i w. let x = h.places e q i w in record { capacities = x.capacities; markings = x.markings; owed = x.owed; due = x.due };
     found = λ e t w. absurd (let z : ◌≡◌ {A = ℕ} 0 1 = cc in omega arith);
   })
-  still_in_turn moving h g = subst (λ (k : Columns). InTurn moving s (turn_in c k) before) (sym g.only) (record {
-    transfers = λ t w.
-        transfer_code b.transfers t ∙ ap transfer_of (set_next idle_code _ c order o n a.transfers b.transfers l g.transfers t w)
-        ∙ sym (transfer_code a.transfers t) ∙ h.transfers t w;
+  still_in_turn moving h g = subst (λ (k : Work). InTurn moving s (turn_in c row k) before) (sym g.only) (record {
+    transfers = λ t w. set_next Idle _ c order o n a.state.transfers b.state.transfers l g.transfers t w ∙ h.transfers t w;
     degrees = h.degrees;
     places = λ e q i w. absurd (let z : ◌≡◌ {A = ℕ} 0 1 = cc in omega arith);
     found = h.found;
   })
 
-  row_still : (r : Round) → DoesTo r (step_turn c before a.row) order n a b → b.row ≡ a.row
-  row_still posting g = ap (λ (k : Columns). k.row) g.only
-  row_still finding g = ap (λ (k : Columns). k.row) g.only
-  row_still moving g = ap (λ (k : Columns). k.row) g.only
-
   -- one visit more
-  module _ (e : Columns) where
+  module _ (e : Work) where
     abbrev j : Turn
-    j = step_turn c before a.row
+    j = step_turn c before row
 
     more : (r : Round) → DoesTo r j order n a b → Does r s j b e → SameElsewhere c s b e → DoesTo r j order (n + 1) a e
     more posting g d u =
         record {
-          only = d.only ∙ ap (λ (k : Columns). with_standing k e.owed e.due) g.only;
-          owed = grown_more posting j order n draws a.owed b.owed e.owed g.owed d.owed;
-          due = grown_more posting j order n fills a.due b.due e.due g.due d.due;
+          only = d.only ∙ ap (λ (k : Work). with_standing k e.standing) g.only;
+          owed = grown_more posting j order n draws a.standing.owed b.standing.owed e.standing.owed g.owed d.owed;
+          due = grown_more posting j order n fills a.standing.due b.standing.due e.standing.due g.due d.due;
         }
     more finding g d u =
         record {
-          only = d.only ∙ ap (λ (k : Columns). with_candidates k e.drawn e.filled e.candidates) g.only;
-          drawn = grown_more finding j order n draws a.drawn b.drawn e.drawn g.drawn d.drawn;
-          filled = grown_more finding j order n fills a.filled b.filled e.filled g.filled d.filled;
+          only = d.only ∙ ap (λ (k : Work). with_candidates k e.claimed e.candidates) g.only;
+          owed = grown_more finding j order n draws a.claimed.owed b.claimed.owed e.claimed.owed g.owed d.owed;
+          due = grown_more finding j order n fills a.claimed.due b.claimed.due e.claimed.due g.due d.due;
           candidates = set_more false _ c order o n a.candidates b.candidates e.candidates l g.candidates d.long d.own u.candidates;
         }
     more moving g d u =
         record {
-          only = d.only ∙ ap (λ (k : Columns). with_state k e.markings e.transfers) g.only;
-          markings = moved_more moving j order n a.markings b.markings e.markings g.markings d.markings;
-          transfers = set_more idle_code _ c order o n a.transfers b.transfers e.transfers l g.transfers d.long d.own u.transfers;
+          only = d.only ∙ ap (λ (k : Work). with_moved k e.state.markings e.state.transfers) g.only;
+          markings = moved_more moving j order n a.state.markings b.state.markings e.state.markings g.markings d.markings;
+          transfers = set_more Idle _ c order o n a.state.transfers b.state.transfers e.state.transfers l g.transfers d.long d.own u.transfers;
         }
 
-pub round_more : (r : Round) (c : Card) (before : NetState) (order : List ℕ) (n : ℕ) (numbers starts : List ℕ) (a b e : Columns) → InTables c numbers starts
-    → each_once (length c.subnets) order ≡ true → n < length order → ((s : ℕ) → s < length c.subnets → InTurn r s (turn_in c a) before)
-    → DoesTo r (step_turn c before a.row) order n a b → IsVisit r (get_or order n 0) numbers starts b e → DoesTo r (step_turn c before a.row) order (n + 1) a e
-round_more r c before order n numbers starts a b e h o l t g v =
+-- After the first n visits, from where each subnet was in its turn, their part of the step is done.
+abbrev pub IsRoundTo : Round → (order : List ℕ) → (n : ℕ) → Card → (row : List ℕ) → (a a' : Work) → Type 0
+IsRoundTo r order n c row a a' =
+    (before : NetState) → Meets c → each_once (length c.subnets) order ≡ true
+    → ((s : ℕ) → s < length c.subnets → InTurn r s (turn_in c row a) before) → DoesTo r (step_turn c before row) order n a a'
+
+pub round_more : (r : Round) (c : Card) (row order : List ℕ) (n : ℕ) (a b e : Work) → n < length order
+    → IsRoundTo r order n c row a b → IsVisit r (get_or order n 0) c row b e → IsRoundTo r order (n + 1) c row a e
+round_more r c row order n a b e l g v before m o t =
     let below = visited (length c.subnets) order n o l in
-    let f = v c h below in
-    let w = still_in_turn c before order o n l a b r (t (get_or order n 0) below) g in
-    more c before order o n l a b e r g
-    (subst (λ (row : List ℕ). Does r (get_or order n 0) (step_turn c before row) b e) (row_still c before order o n l a b r g) (f.right before w)) f.elsewhere
+    let f = v m below in
+    let h = g before m o t in
+    let w = still_in_turn c row before order o n l a b r (t (get_or order n 0) below) h in
+    more c row before order o n l a b e r h (f.right before w) f.elsewhere

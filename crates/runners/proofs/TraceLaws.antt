@@ -1,6 +1,6 @@
 -- Lists of calls of any kind: where each call keeps what makes a state good, the two runners' traces are one, that of the net's own run, every
 -- state is good, and none earns 25. And a row keeps a state consistent. Assumes nothing.
-use Rattle.std.proofs.Common.{◌≡◌, ℕ, ◌<◌, Bool, true, false, ◌||◌, eqb, ltb, ◌≢◌, List, [], ◌∷◌, ◌++◌, map, length, drop, sym, refl, ap, ◌∙◌, inl, inr, arith, take_at}
+use Rattle.std.proofs.Common.{◌≡◌, ℕ, ◌<◌, Bool, true, false, ◌||◌, eqb, ltb, ◌≢◌, List, [], ◌∷◌, map, length, drop, sym, refl, ap, ◌∙◌, inl, inr, arith, take_at}
 use mathlib.Core.Logic.Iff
 use mathlib.Core.Option
 use mathlib.Core.Option.{Option, none, some, some-ne-none}
@@ -10,10 +10,9 @@ use Rattle.card.proofs.Decides.{Decides, eq_is, and_is}
 use Rattle.runners.specs.Numbers.{RowOutcome, refusal}
 use Rattle.runners.specs.State.{NetState, scale, entry}
 use Rattle.runners.specs.Rows.{settle, row_fault, row_conflict, row_next, row_refusal, degrees, no_row, Ask, row, Act, act_of, perform}
-use Rattle.runners.specs.Calls.{view, slot, store, valid_in, in_state, valid, lent_call}
-use Rattle.runners.specs.inner.Storing.{Counts}
+use Rattle.runners.specs.Calls.{view, store, valid_in, in_state, valid, lent_call}
+use Rattle.runners.specs.inner.Counts.{Counts}
 use Rattle.runners.specs.Traces.{trace, observed, Bounded}
-use Rattle.runners.specs.declared.Transfer.{Transfer}
 use Rattle.runners.specs.declared.State.{State as Lent}
 use Rattle.runners.specs.declared.Refusal.{Refusal}
 use Rattle.runners.specs.declared.Refusal.TheVariants.{BadCard, BadState, BadOrder, BadRow, BadDegree, Conflict}
@@ -21,22 +20,11 @@ use Rattle.runners.proofs.StateLaws.{Consistent, consistent_is, Sized, fits_is}
 use Rattle.runners.proofs.EffectiveLaws.{row_consistent, row_sized}
 
 -- a state stored in a lent one is what the lent one holds
-map_append : {A B : Type 0} (f : A → B) (xs ys : List A) → map f (xs ++ ys) ≡ map f xs ++ map f ys
-map_append f [] ys = refl
-map_append f (x ∷ xs) ys = rw (map_append f xs ys)
-
-held : (xs : List Transfer) → map (λ x. x.transfer) (map slot xs) ≡ xs
-held [] = refl
-held (x ∷ xs) = rw (held xs)
-
--- a lent state has the counts of a net
 pub view_store : (f : Card) (l : Lent) (s : NetState) → Counts f l → Sized f s → view (store l s) ≡ s
 view_store f l s n h =
     rw (
       take_at s.markings (drop l.places l.markings) l.places (h.markings ∙ sym n.places),
-      map_append (λ x. x.transfer) (map slot s.transfers) (drop l.transitions l.slots),
-      held s.transfers,
-      take_at s.transfers (map (λ x. x.transfer) (drop l.transitions l.slots)) l.transitions (h.transfers ∙ sym n.transitions),
+      take_at s.transfers (drop l.transitions l.transfers) l.transitions (h.transfers ∙ sym n.transitions),
       take_at s.degrees (drop l.signals l.degrees) l.signals (h.degrees ∙ sym n.signals),
     )
 
@@ -65,7 +53,7 @@ Keeps f a = (s : NetState) → Good f s → a.refusal s ≡ none → Good f (a.n
 
 -- and, for 25, its own tests do not give it.
 abbrev NotState : Refusal → Type 0
-NotState (BadCard f at) = Unit {0}
+NotState (BadCard r) = Unit {0}
 NotState BadState = ⊥
 NotState BadOrder = Unit {0}
 NotState BadRow = Unit {0}
@@ -100,7 +88,7 @@ abbrev pub 25·alone : RowOutcome
 not_25 : (x : Option Refusal) (before after : Lent) → Clear x → (settle x before after).0 ≢ 25·alone
 unfolding Clear
 not_25 none before after h e = let z : ◌≡◌ {A = ℕ} 0 1 = cc in omega arith
-not_25 (some (BadCard f at)) before after h e = let z : ◌≡◌ {A = ℕ} 0 1 = cc in omega arith
+not_25 (some (BadCard r)) before after h e = let z : ◌≡◌ {A = ℕ} 0 1 = cc in omega arith
 not_25 (some BadState) before after h e = h
 not_25 (some BadOrder) before after h e = let z : ◌≡◌ {A = ℕ} 23 25 = cc in omega arith
 not_25 (some BadRow) before after h e = let z : ◌≡◌ {A = ℕ} 20 25 = cc in omega arith

@@ -1,19 +1,13 @@
--- What the board's verdict decides, over plain values. Assumes nothing.
-use Rattle.std.proofs.Common.{◌≡◌, ℕ, zero, suc, ◌+◌, ◌<◌, ◌≤◌, Bool, true, false, not, eqb, leb, List, sym, refl, ap, ◌∙◌, subst, arith, eq-eqb, ne_eqb, le-leb}
-use mathlib.Core.Option.{Option, none, some, some-injective, some-ne-none}
-use borrow.Author.Tests.{not-true, lt-leb}
+-- What the lowest number that passes a test tells, over plain values. Assumes nothing.
+use Rattle.std.proofs.Common.{◌≡◌, ℕ, zero, suc, ◌+◌, ◌<◌, Bool, true, false, not, sym, refl, ◌∙◌, subst, arith}
+use Rattle.std.specs.Prelude.{Option, Some, None}
+use Rattle.std.specs.Option.{is_some}
+use mathlib.Core.Option.{none, some, some-injective, some-ne-none}
+use borrow.Author.Tests.{not-true}
 use Rattle.card.specs.Finite.{every, some_if, first_of, lowest, ◌otherwise◌}
-use Rattle.hierarchy.proofs.WalkLaws.{Below, every_none, every_all, first_found, first_none}
+use Rattle.hierarchy.proofs.WalkLaws.{every_none, every_all}
 use Rattle.hierarchy.proofs.FirstLaws.{none_at}
-use Rattle.runners.specs.State.{entry}
-use Rattle.runners.specs.inner.Verdict.{covered_by, or_past}
-
--- the lowest number that passes a test, or the one past the last
-pub past_found : (n i : ℕ) (test : ℕ → Bool) → Below i test false → i < n → test i ≡ true → i ≡ or_past n (lowest 0 n test)
-past_found n i test h l e = sym (ap (or_past n) (first_found n i (λ k. some_if (test k) k) i (λ k b. rw (h k b)) l (rw e)))
-
-pub past_none : (n i : ℕ) (test : ℕ → Bool) → Below i test false → n ≤ i → n ≡ or_past n (lowest 0 n test)
-past_none n i test h l = sym (ap (or_past n) (first_none n i (λ k. some_if (test k) k) (λ k b. rw (h k b)) l))
+use Rattle.runners.specs.inner.Verdict.{found_of}
 
 pub lowest_below : (from n : ℕ) (test : ℕ → Bool) (p : ℕ) → lowest from n test ≡ some p → p < from + n
 unfolding first_of
@@ -37,28 +31,10 @@ not_none : (b : Bool) (p : ℕ) → some_if (not b) p ≡ none → b ≡ true
 not_none true p e = refl
 not_none false p e = absurd (some-ne-none p e)
 
--- no number fails a test just where the lowest that does is past the last
-pub verdict_is : (n : ℕ) (a b : ℕ → Bool) (r : ℕ) → ((p : ℕ) → p < n → a p ≡ b p) → r ≡ or_past n (lowest 0 n (λ p. not (a p))) → eqb r n ≡ every n b
-verdict_is n a b r h e = go (lowest 0 n (λ p. not (a p))) refl e
-  where
-    go : (o : Option ℕ) → lowest 0 n (λ p. not (a p)) ≡ o → r ≡ or_past n o → eqb r n ≡ every n b
-    go none w q =
-        eq-eqb r n q
-        ∙ sym (every_all n n b (λ p l. sym (h p l) ∙ not_none (a p) p (none_at 0 n (λ i. some_if (not (a i)) i) w p (omega arith) (omega arith))) (omega arith))
-    go (some p) w q =
-        let l : p < n = omega (arith, lowest_below 0 n (λ i. not (a i)) p w) in
-        ne_eqb r n (λ d. omega arith) ∙ sym (every_none n p b l (sym (h p l) ∙ not-true (a p) (lowest_passes 0 n (λ i. not (a i)) p w)))
-
--- a place with its claims
-abbrev pub fails : (full ms o d dr fl : List ℕ) → (p : ℕ) → Bool
-fails full ms o d dr fl p = not (covered_by full ms o d dr fl p)
-
-pub fails_is : (full ms o d dr fl : List ℕ) (p : ℕ) (x b : Bool) → x ≡ covered_by full ms o d dr fl p → not x ≡ b → fails full ms o d dr fl p ≡ b
-fails_is full ms o d dr fl p x b e n = rw (← e) n
-
-module _ (full ms o d dr fl : List ℕ) (p m a b : ℕ) (em : m ≡ entry ms p) (ea : a ≡ entry o p) (eb : b ≡ entry dr p) where
-  pub lacks : m < a + b → false ≡ covered_by full ms o d dr fl p
-  lacks l = rw (← em, ← ea, ← eb, lt-leb (a + b) m l)
-
-  pub has_room : (x y k : ℕ) → a + b ≤ m → x ≡ entry d p → y ≡ entry fl p → k ≡ entry full p → leb (m + (x + y)) k ≡ covered_by full ms o d dr fl p
-  has_room x y k l ex ey ek = rw (← em, ← ea, ← eb, ← ex, ← ey, ← ek, le-leb (a + b) m l)
+-- no number fails a test just where none that does is found
+pub none_fails : (n : ℕ) (a b : ℕ → Bool) → ((p : ℕ) → p < n → a p ≡ b p) → (r : Option ℕ) → found_of r ≡ lowest 0 n (λ p. not (a p)) → not (is_some r) ≡ every n b
+none_fails n a b h None e =
+    sym (every_all n n b (λ p l. sym (h p l) ∙ not_none (a p) p (none_at 0 n (λ i. some_if (not (a i)) i) (sym e) p (omega arith) (omega arith))) (omega arith))
+none_fails n a b h (Some p) e =
+    let l : p < n = omega (arith, lowest_below 0 n (λ i. not (a i)) p (sym e)) in
+    sym (every_none n p b l (sym (h p l) ∙ not-true (a p) (lowest_passes 0 n (λ i. not (a i)) p (sym e))))

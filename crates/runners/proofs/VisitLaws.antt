@@ -10,13 +10,14 @@ use Rattle.flattening.specs.Flattening.{flat_arc, flatten}
 use Rattle.flattening.proofs.FlatLaws.{place_flat, arc_flat}
 use Rattle.runners.specs.State.{NetState, entry, transfer, remaining, weight_at, incidence, flow}
 use Rattle.runners.specs.Step.{idle, allows, candidate_on, started_on, start_move, asked_on, moves_on, advanced, arrives_on}
-use Rattle.runners.specs.Columns.{Moved, Grown, nothing, code_of, Columns}
+use Rattle.runners.specs.Columns.{Moved, Grown, nothing}
+use Rattle.runners.specs.declared.work.Work.{Work}
 use Rattle.runners.specs.Visits.{OwnsTransition, Round, posting, finding, moving, Turn, amount, effect, SameView, step_turn, InTurn, Unseen, Does, SameElsewhere, turn_in, Facts}
 use Rattle.runners.specs.declared.Transfer.{Transfer}
 use Rattle.runners.specs.declared.Transfer.TheVariants.{Idle, Carrying}
 use Rattle.runners.proofs.ScaleLaws.{scale_same}
 use Rattle.runners.proofs.OwnerLaws.{next_first, own, owned_below}
-use Rattle.runners.proofs.MovedLaws.{moved_same}
+use Rattle.runners.specs.inner.Changes.{moved_same}
 
 pub every_same : (n : ℕ) (f g : ℕ → Bool) → ((k : ℕ) → k < n → f k ≡ g k) → every n f ≡ every n g
 unfolding every
@@ -144,23 +145,27 @@ module _ (s : ℕ) (i j : Turn) (m : Meets i.card) (below : s < length i.card.su
   effects_grown r v way a b h = moved_same a b nothing (effect r s i way) nothing (effect r s j way) (λ p. refl) (effect_same r v way) h
 
   -- a visit that does what one turn gives does what every turn gives that is equal in all it may read
-  pub does_same : (r : Round) → SameView r s i j → (a a' : Columns) → Does r s i a a' → Does r s j a a'
+  pub does_same : (r : Round) → SameView r s i j → (a a' : Work) → Does r s i a a' → Does r s j a a'
   does_same posting v a a' h =
-      record { only = h.only; owed = effects_grown posting v draws a.owed a'.owed h.owed; due = effects_grown posting v fills a.due a'.due h.due }
+      record {
+        only = h.only;
+        owed = effects_grown posting v draws a.standing.owed a'.standing.owed h.owed;
+        due = effects_grown posting v fills a.standing.due a'.standing.due h.due;
+      }
   does_same finding v a a' h =
       record {
         only = h.only;
-        drawn = effects_grown finding v draws a.drawn a'.drawn h.drawn;
-        filled = effects_grown finding v fills a.filled a'.filled h.filled;
+        owed = effects_grown finding v draws a.claimed.owed a'.claimed.owed h.owed;
+        due = effects_grown finding v fills a.claimed.due a'.claimed.due h.due;
         long = h.long;
         own = λ t o l. let u = own_back finding s i j m below v t o in h.own t u l ∙ candidate_same finding s i j m below v refl t u;
       }
   does_same moving v a a' h =
       record {
         only = h.only;
-        markings = effects_moved moving v a.markings a'.markings h.markings;
+        markings = effects_moved moving v a.state.markings a'.state.markings h.markings;
         long = h.long;
-        own = λ t o l. let u = own_back moving s i j m below v t o in h.own t u l ∙ ap code_of (arrives_same moving s i j m below v refl t u);
+        own = λ t o l. let u = own_back moving s i j m below v t o in h.own t u l ∙ arrives_same moving s i j m below v refl t u;
       }
 
 -- the turn of a subnet is, in all that its visit may read, the step's
@@ -197,11 +202,12 @@ no_effect r s i m below direction p u = sum_zero (subnet_at i.card s).transition
         (u _ _ ((m.conditions.transitions s t below o.low o.high).sees n l))))
 
 -- THE THREE FACTS HOLD OF A VISIT THAT DOES WHAT ITS OWN TURN GIVES, and leaves other transitions as they were
-pub facts : (r : Round) (s : ℕ) (c : Card) (a a' : Columns) → Meets c → s < length c.subnets → Does r s (turn_in c a) a a' → SameElsewhere c s a a' → Facts r s c a a'
-facts r s c a a' m below d e =
+pub facts : (r : Round) (s : ℕ) (c : Card) (row : List ℕ) (a a' : Work) → Meets c → s < length c.subnets → Does r s (turn_in c row a) a a' → SameElsewhere c s a a'
+    → Facts r s c row a a'
+facts r s c row a a' m below d e =
     record {
-      right = λ before h. does_same s (turn_in c a) (step_turn c before a.row) m below r (turn_view r s (turn_in c a) before h) a a' d;
-      local = λ j v. does_same s (turn_in c a) j m below r v a a' d;
+      right = λ before h. does_same s (turn_in c row a) (step_turn c before row) m below r (turn_view r s (turn_in c row a) before h) a a' d;
+      local = λ j v. does_same s (turn_in c row a) j m below r v a a' d;
       elsewhere = e;
     }
 

@@ -1,5 +1,5 @@
 -- The calls: a call for the fresh state, and a row call with the state that it is lent ('The two runners', 'Why a call is turned back').
-use Rattle.std.specs.Prelude.{ℕ, Bool, true, ◌&&◌, List, ◌++◌, map, length, take, drop, replicate, ◌==◌, nat_eq, nat_le, nat_lt, slice_index}
+use Rattle.std.specs.Prelude.{ℕ, Bool, true, ◌&&◌, List, ◌++◌, length, take, drop, replicate, ◌==◌, nat_eq, nat_le, nat_lt, slice_index}
 use Rattle.std.proofs.Math.Option.{some}
 use Rattle.card.specs.Finite.{every, any, some_unless, ◌otherwise◌}
 use Rattle.card.specs.Card.{Card}
@@ -12,7 +12,6 @@ use Rattle.runners.specs.State.{NetState, scale, entry, transfer, fresh, covered
 use Rattle.runners.specs.Rows.{settle, degrees, Ask, row, Act, act_of}
 use Rattle.runners.specs.declared.Transfer.{Transfer}
 use Rattle.runners.specs.declared.Transfer.TheVariants.{Idle, Carrying}
-use Rattle.runners.specs.declared.Slot.{Slot}
 use Rattle.runners.specs.declared.State.{State as Lent}
 use Rattle.runners.specs.declared.Refusal.TheVariants.{BadState, BadOrder}
 
@@ -21,19 +20,16 @@ abbrev pub view : Lent → NetState
 view l =
     record {
       markings = take l.places l.markings;
-      transfers = take l.transitions (map (λ x. x.transfer) l.slots);
+      transfers = take l.transitions l.transfers;
       degrees = take l.signals l.degrees;
     }
 
 -- a state stored in a lent one; entries past its counts stay as they were
-abbrev pub slot : Transfer → Slot
-slot x = record { transfer = x }
-
 abbrev pub store : Lent → NetState → Lent
 store l s =
     record {
       markings = s.markings ++ drop l.places l.markings;
-      slots = map slot s.transfers ++ drop l.transitions l.slots;
+      transfers = s.transfers ++ drop l.transitions l.transfers;
       degrees = s.degrees ++ drop l.signals l.degrees;
       places = l.places;
       transitions = l.transitions;
@@ -45,7 +41,7 @@ abbrev pub blank : (places transitions signals : ℕ) → Lent
 blank places transitions signals =
     record {
       markings = replicate 255 0;
-      slots = replicate 255 (slot Idle);
+      transfers = replicate 255 Idle;
       degrees = replicate 63 0;
       places = places;
       transitions = transitions;

@@ -1,11 +1,12 @@
--- The numbers that a row works on. A state holds its transfers as enums, which cannot be lent to a visit; so a row takes markings and transfers
--- out of the lent state once, as columns of numbers by flat place and by flat transition, and stores them once.
--- A claims board for all 255 places starts each row at zero, with standing claims and candidates' claims in separate columns: owed and due,
--- drawn and filled. (The claims board is document 01's term.)
-use Rattle.std.specs.Prelude.{◌≡◌, ℕ, ◌+◌, ◌%◌, ◌<◌, Bool, false, cond, List, map, length, ◌==◌, slice_index_or}
+-- What a row works on: a state, the claims board, and which transitions are candidates; and how an entry of a column by place changes.
+-- A claims board for all 255 places starts each row at zero, with standing claims and candidates' claims in separate columns.
+use Rattle.std.specs.Prelude.{◌≡◌, ℕ, ◌+◌, ◌%◌, ◌<◌, Bool, false, cond, List, length, replicate, ◌==◌, slice_index_or}
 use Rattle.runners.specs.State.{NetState, entry, Claims}
 use Rattle.runners.specs.declared.Transfer.{Transfer}
 use Rattle.runners.specs.declared.Transfer.TheVariants.{Idle, Carrying}
+use Rattle.runners.specs.declared.State.{State as Lent}
+use Rattle.runners.specs.declared.claims.Claims.{Claims as Posted}
+use Rattle.runners.specs.declared.work.Work.{Work}
 
 -- a number of a column by place has 32 bits, and goes round there
 abbrev pub word : ℕ
@@ -24,7 +25,12 @@ nothing p = 0
 abbrev pub Grown : (before after : List ℕ) → (up : ℕ → ℕ) → Type 0
 Grown before after up = Moved before after nothing up
 
--- a transfer as a number: its progress, and one that no progress is for idle. (A progress of 0 is not idle.)
+-- the same of claims: what is owed has grown by what was drawn, what is due by what was filled
+pub record Claimed (before after : Posted) (drawn filled : ℕ → ℕ) : Type 0 where
+  pub owed : Grown before.owed after.owed drawn
+  pub due : Grown before.due after.due filled
+
+-- a transfer as the number that is lent to C: its progress, and one that no progress is for idle. (A progress of 0 is not idle.)
 abbrev pub idle_code : ℕ
 idle_code = 65535
 
@@ -35,58 +41,33 @@ code_of (Carrying c) = c
 abbrev pub transfer_of : (code : ℕ) → Transfer
 transfer_of code = cond (code == idle_code) Idle (Carrying code)
 
-abbrev pub code_at : (codes : List ℕ) → (t : ℕ) → ℕ
-code_at codes t = slice_index_or codes t idle_code
+-- the state that a row has made so far
+abbrev pub state_in : Work → NetState
+state_in k = record { markings = k.state.markings; transfers = k.state.transfers; degrees = k.state.degrees }
 
--- what a row works on: the state's markings, transfers as numbers and last degrees, the row, the board, and which transitions are candidates
-pub record Columns : Type 0 where
-  pub markings : List ℕ
-  pub transfers : List ℕ
-  pub degrees : List ℕ
-  pub row : List ℕ
-  pub owed : List ℕ
-  pub due : List ℕ
-  pub drawn : List ℕ
-  pub filled : List ℕ
-  pub candidates : List Bool
+-- the claims that two columns hold
+abbrev pub posted : Posted → Claims
+posted k = record { owed = entry k.owed; due = entry k.due }
 
-abbrev pub columns : (markings transfers degrees row owed due drawn filled : List ℕ) → (candidates : List Bool) → Columns
-columns ms xs last row o d dr fl cs =
-    record { markings = ms; transfers = xs; degrees = last; row = row; owed = o; due = d; drawn = dr; filled = fl; candidates = cs }
+abbrev pub no_claims : Posted
+no_claims = record { owed = replicate 255 0; due = replicate 255 0 }
 
--- the state that they hold
-abbrev pub state_in : Columns → NetState
-state_in k = record { markings = k.markings; transfers = map transfer_of k.transfers; degrees = k.degrees }
-
--- the claims that two of them hold
-abbrev pub posted : (owed due : List ℕ) → Claims
-posted owed due = record { owed = entry owed; due = entry due }
+-- a row begins on a state, with a board of zeros and no candidates
+abbrev pub begun : Lent → Work
+begun l = record { state = l; standing = no_claims; claimed = no_claims; candidates = replicate 255 false }
 
 -- whether a transition is noted as a candidate
 abbrev pub noted : List Bool → (t : ℕ) → Bool
 noted cs t = slice_index_or cs t false
 
--- the same but for the columns that a round changes
-abbrev pub with_standing : Columns → (owed due : List ℕ) → Columns
-with_standing k o d = columns k.markings k.transfers k.degrees k.row o d k.drawn k.filled k.candidates
-
-abbrev pub with_candidates : Columns → (drawn filled : List ℕ) → List Bool → Columns
-with_candidates k dr fl cs = columns k.markings k.transfers k.degrees k.row k.owed k.due dr fl cs
-
-abbrev pub with_state : Columns → (markings transfers : List ℕ) → Columns
-with_state k ms xs = columns ms xs k.degrees k.row k.owed k.due k.drawn k.filled k.candidates
-
--- What is said of the columns before and after, where a function is lent only some of them: it holds whatever the others are.
--- In the first round standing claims change,
-abbrev pub OnStanding : (says : Columns → Columns → Type 0) → (transfers owed owed' due due' : List ℕ) → Type 0
-OnStanding says xs o o' d d' =
-    (ms last row drawn filled : List ℕ) (cs : List Bool) → says (columns ms xs last row o d drawn filled cs) (columns ms xs last row o' d' drawn filled cs)
+-- the same but for what a round changes: in the first standing claims,
+abbrev pub with_standing : Work → Posted → Work
+with_standing k claims = record k { standing = claims }
 
 -- in the second candidates and their claims,
-abbrev pub OnCandidates : (says : Columns → Columns → Type 0) → (markings transfers row owed due drawn drawn' filled filled' : List ℕ) → (cs cs' : List Bool) → Type 0
-OnCandidates says ms xs row o d dr dr' fl fl' cs cs' = (last : List ℕ) → says (columns ms xs last row o d dr fl cs) (columns ms xs last row o d dr' fl' cs')
+abbrev pub with_candidates : Work → Posted → List Bool → Work
+with_candidates k claims cs = record k { claimed = claims; candidates = cs }
 
--- in the third markings and transfers.
-abbrev pub OnState : (says : Columns → Columns → Type 0) → (degrees row : List ℕ) → (cs : List Bool) → (markings markings' transfers transfers' : List ℕ) → Type 0
-OnState says last row cs ms ms' xs xs' =
-    (owed due drawn filled : List ℕ) → says (columns ms xs last row owed due drawn filled cs) (columns ms' xs' last row owed due drawn filled cs)
+-- in the third markings and transfers
+abbrev pub with_moved : Work → (markings : List ℕ) → List Transfer → Work
+with_moved k ms xs = record k { state = record k.state { markings = ms; transfers = xs } }

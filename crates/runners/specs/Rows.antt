@@ -5,17 +5,16 @@ use Rattle.std.proofs.Math.Seq.{slice}
 use Rattle.card.specs.Finite.{every, some_if, some_unless, lowest, table, ◌otherwise◌}
 use Rattle.card.specs.Bits.{bit, bit_field, bytes_for}
 use Rattle.card.specs.Card.{Card}
-use Rattle.runners.specs.Numbers.{RowOutcome, row_outcome}
+use Rattle.runners.specs.Numbers.{RowOutcome, ok, refusal}
 use Rattle.runners.specs.State.{NetState, scale, entry}
 use Rattle.runners.specs.Step.{conflict, next}
 use Rattle.runners.specs.declared.Refusal.{Refusal}
 use Rattle.runners.specs.declared.Refusal.TheVariants.{BadRow, BadDegree, Conflict}
-use Rattle.runners.specs.declared.Reply.TheVariants.{Ok, No}
 
 -- A refusal leaves the state untouched.
 abbrev pub settle : {S : Type 0} → Option Refusal → (before after : S) → RowOutcome × S
-settle none before after = (row_outcome Ok, after)
-settle (some why) before after = (row_outcome (No why), before)
+settle none before after = (ok, after)
+settle (some why) before after = (refusal why, before)
 
 -- CR 1: a row of no degrees (the requests call it an empty row) means that every signal stands at its last degree. The effective row, which the
 -- step takes: of an empty row the last degrees, of any other the row.

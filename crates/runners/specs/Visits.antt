@@ -3,12 +3,12 @@
 use Rattle.std.specs.Prelude.{◌≡◌, ℕ, suc, ◌+◌, ◌*◌, ◌%◌, ◌<◌, ◌≤◌, Bool, cond, ◌≢◌, List, length}
 use Rattle.card.specs.Finite.{sum_to}
 use Rattle.card.specs.Card.{Card, draws, fills, subnet_at, place_at, transition_at, arc_at, first_place, first_transition}
-use Rattle.card.specs.Index.{Loaded}
 use Rattle.hierarchy.specs.Conditions.{Meets, Sees}
 use Rattle.flattening.specs.Flattening.{flatten}
 use Rattle.runners.specs.State.{NetState, scale, entry, transfer, remaining, incidence, Claims, claims}
 use Rattle.runners.specs.Step.{candidate_on, candidate, moves_on, arrives_on}
-use Rattle.runners.specs.Columns.{word, Moved, Grown, code_of, code_at, noted, posted, Columns, state_in, with_standing, with_candidates, with_state}
+use Rattle.runners.specs.Columns.{word, Moved, Grown, noted, posted, state_in, with_standing, with_candidates, with_moved}
+use Rattle.runners.specs.declared.work.Work.{Work}
 
 -- The subnet runner keeps, for each subnet, the markings it owns and its transitions: the places and transitions from its first flat number
 -- up to the next subnet's.
@@ -94,84 +94,79 @@ pub record InTurn (r : Round) (s : ℕ) (i : Turn) (before : NetState) : Type 0 
 abbrev pub Unseen : Card → (s p : ℕ) → Type 0
 Unseen c s p = (q n : ℕ) → Sees c s q n → first_place c q + n ≢ p
 
--- What a visit does with the columns that a row works on: just what turn i gives the subnet's own transitions.
--- The first posts standing claims in two columns;
-pub record Posts (s : ℕ) (i : Turn) (a a' : Columns) : Type 0 where
-  pub only : a' ≡ with_standing a a'.owed a'.due
-  pub owed : Grown a.owed a'.owed (effect posting s i draws)
-  pub due : Grown a.due a'.due (effect posting s i fills)
+-- What a visit does with what the row works on: just what turn i gives the subnet's own transitions.
+-- The first posts standing claims;
+pub record Posts (s : ℕ) (i : Turn) (a a' : Work) : Type 0 where
+  pub only : a' ≡ with_standing a a'.standing
+  pub owed : Grown a.standing.owed a'.standing.owed (effect posting s i draws)
+  pub due : Grown a.standing.due a'.standing.due (effect posting s i fills)
 
--- the second posts its candidates' claims in two others, and notes its candidates;
-pub record Finds (s : ℕ) (i : Turn) (a a' : Columns) : Type 0 where
-  pub only : a' ≡ with_candidates a a'.drawn a'.filled a'.candidates
-  pub drawn : Grown a.drawn a'.drawn (effect finding s i draws)
-  pub filled : Grown a.filled a'.filled (effect finding s i fills)
+-- the second posts its candidates' claims in two other columns, and notes its candidates;
+pub record Finds (s : ℕ) (i : Turn) (a a' : Work) : Type 0 where
+  pub only : a' ≡ with_candidates a a'.claimed a'.candidates
+  pub owed : Grown a.claimed.owed a'.claimed.owed (effect finding s i draws)
+  pub due : Grown a.claimed.due a'.claimed.due (effect finding s i fills)
   pub long : length a'.candidates ≡ length a.candidates
   pub own : (t : ℕ) → OwnsTransition i.card s t → t < length a.candidates
       → noted a'.candidates t ≡ candidate_on (flatten i.card) i.standing i.state i.row t
 
 -- the third moves: markings and its own transfers.
-pub record Moves (s : ℕ) (i : Turn) (a a' : Columns) : Type 0 where
-  pub only : a' ≡ with_state a a'.markings a'.transfers
-  pub markings : Moved a.markings a'.markings (effect moving s i draws) (effect moving s i fills)
-  pub long : length a'.transfers ≡ length a.transfers
-  pub own : (t : ℕ) → OwnsTransition i.card s t → t < length a.transfers
-      → code_at a'.transfers t ≡ code_of (arrives_on (flatten i.card) i.found i.state i.row t)
+pub record Moves (s : ℕ) (i : Turn) (a a' : Work) : Type 0 where
+  pub only : a' ≡ with_moved a a'.state.markings a'.state.transfers
+  pub markings : Moved a.state.markings a'.state.markings (effect moving s i draws) (effect moving s i fills)
+  pub long : length a'.state.transfers ≡ length a.state.transfers
+  pub own : (t : ℕ) → OwnsTransition i.card s t → t < length a.state.transfers
+      → transfer a'.state.transfers t ≡ arrives_on (flatten i.card) i.found i.state i.row t
 
-abbrev pub Does : Round → (s : ℕ) → Turn → (a a' : Columns) → Type 0
+abbrev pub Does : Round → (s : ℕ) → Turn → (a a' : Work) → Type 0
 Does posting s i a a' = Posts s i a a'
 Does finding s i a a' = Finds s i a a'
 Does moving s i a a' = Moves s i a a'
 
 -- It changes nothing at other places or transitions.
-pub record SameElsewhere (c : Card) (s : ℕ) (a a' : Columns) : Type 0 where
-  pub markings : (p : ℕ) → Unseen c s p → entry a'.markings p ≡ entry a.markings p
-  pub owed : (p : ℕ) → Unseen c s p → entry a'.owed p ≡ entry a.owed p
-  pub due : (p : ℕ) → Unseen c s p → entry a'.due p ≡ entry a.due p
-  pub drawn : (p : ℕ) → Unseen c s p → entry a'.drawn p ≡ entry a.drawn p
-  pub filled : (p : ℕ) → Unseen c s p → entry a'.filled p ≡ entry a.filled p
-  pub transfers : (t : ℕ) → ¬ OwnsTransition c s t → code_at a'.transfers t ≡ code_at a.transfers t
+pub record SameElsewhere (c : Card) (s : ℕ) (a a' : Work) : Type 0 where
+  pub markings : (p : ℕ) → Unseen c s p → entry a'.state.markings p ≡ entry a.state.markings p
+  pub standing_owed : (p : ℕ) → Unseen c s p → entry a'.standing.owed p ≡ entry a.standing.owed p
+  pub standing_due : (p : ℕ) → Unseen c s p → entry a'.standing.due p ≡ entry a.standing.due p
+  pub claimed_owed : (p : ℕ) → Unseen c s p → entry a'.claimed.owed p ≡ entry a.claimed.owed p
+  pub claimed_due : (p : ℕ) → Unseen c s p → entry a'.claimed.due p ≡ entry a.claimed.due p
+  pub transfers : (t : ℕ) → ¬ OwnsTransition c s t → transfer a'.state.transfers t ≡ transfer a.state.transfers t
   pub candidates : (t : ℕ) → ¬ OwnsTransition c s t → noted a'.candidates t ≡ noted a.candidates t
 
--- a card that meets the conditions, in its two tables
-pub record InTables (c : Card) (numbers starts : List ℕ) : Type 0 where
-  pub meets : Meets c
-  pub loaded : Loaded c numbers starts
+-- the turn that a row has come to, on a card
+abbrev pub turn_in : Card → (row : List ℕ) → Work → Turn
+turn_in c row k = record { card = c; state = state_in k; row = row; standing = posted k.standing; found = noted k.candidates }
 
--- the turn that the columns hold on a card
-abbrev pub turn_in : Card → Columns → Turn
-turn_in c k = record { card = c; state = state_in k; row = k.row; standing = posted k.owed k.due; found = noted k.candidates }
-
--- The three facts of a visit's contract, about what it does from columns a to columns a': in its turn of a row, what the step gives its own
+-- The three facts of a visit's contract, about what it makes of a: in its turn of a row, what the step gives its own
 -- subnet's transitions; the same as in every turn that is equal in all it may read; and nothing at other places or transitions.
-pub record Facts (r : Round) (s : ℕ) (c : Card) (a a' : Columns) : Type 0 where
-  pub right : (before : NetState) → InTurn r s (turn_in c a) before → Does r s (step_turn c before a.row) a a'
-  pub local : (j : Turn) → SameView r s (turn_in c a) j → Does r s j a a'
+pub record Facts (r : Round) (s : ℕ) (c : Card) (row : List ℕ) (a a' : Work) : Type 0 where
+  pub right : (before : NetState) → InTurn r s (turn_in c row a) before → Does r s (step_turn c before row) a a'
+  pub local : (j : Turn) → SameView r s (turn_in c row a) j → Does r s j a a'
   pub elsewhere : SameElsewhere c s a a'
 
--- A visit's contract: it holds the three facts on every card that the tables hold.
-abbrev pub IsVisit : Round → (s : ℕ) → (numbers starts : List ℕ) → (a a' : Columns) → Type 0
-IsVisit r s numbers starts a a' = (c : Card) → InTables c numbers starts → s < length c.subnets → Facts r s c a a'
+-- A visit's contract: it holds the three facts on every card that meets the conditions.
+abbrev pub IsVisit : Round → (s : ℕ) → Card → (row : List ℕ) → (a a' : Work) → Type 0
+IsVisit r s c row a a' = Meets c → s < length c.subnets → Facts r s c row a a'
 
 -- Two visits post, start and move the same: the columns by place have changed by the same, in 32 bits, and the subnet's own transitions are
 -- candidates alike, and left alike.
 abbrev pub SameChange : (a a' b b' : List ℕ) → Type 0
 SameChange a a' b b' = (p : ℕ) → p < length a → p < length b → (entry a' p + entry b p) % word ≡ (entry b' p + entry a p) % word
 
-pub record SameOutcome (r : Round) (s : ℕ) (c : Card) (a a' b b' : Columns) : Type 0 where
-  pub markings : SameChange a.markings a'.markings b.markings b'.markings
-  pub owed : SameChange a.owed a'.owed b.owed b'.owed
-  pub due : SameChange a.due a'.due b.due b'.due
-  pub drawn : SameChange a.drawn a'.drawn b.drawn b'.drawn
-  pub filled : SameChange a.filled a'.filled b.filled b'.filled
+pub record SameOutcome (r : Round) (s : ℕ) (c : Card) (a a' b b' : Work) : Type 0 where
+  pub markings : SameChange a.state.markings a'.state.markings b.state.markings b'.state.markings
+  pub standing_owed : SameChange a.standing.owed a'.standing.owed b.standing.owed b'.standing.owed
+  pub standing_due : SameChange a.standing.due a'.standing.due b.standing.due b'.standing.due
+  pub claimed_owed : SameChange a.claimed.owed a'.claimed.owed b.claimed.owed b'.claimed.owed
+  pub claimed_due : SameChange a.claimed.due a'.claimed.due b.claimed.due b'.claimed.due
   pub candidates : r ≡ finding → (t : ℕ) → OwnsTransition c s t → t < length a.candidates → t < length b.candidates → noted a'.candidates t ≡ noted b'.candidates t
-  pub transfers : r ≡ moving → (t : ℕ) → OwnsTransition c s t → t < length a.transfers → t < length b.transfers → code_at a'.transfers t ≡ code_at b'.transfers t
+  pub transfers : r ≡ moving → (t : ℕ) → OwnsTransition c s t → t < length a.state.transfers → t < length b.state.transfers
+      → transfer a'.state.transfers t ≡ transfer b'.state.transfers t
 
--- No visit's outcome hangs on a place that its subnet cannot see: any two visits of one round to one subnet, on any two cards and any columns,
--- that are equal in all they may read post, start and move the same.
+-- No visit's outcome hangs on a place that its subnet cannot see: any two visits of one round to one subnet, on any two cards, in any two rows and
+-- on any columns, that are equal in all they may read post, start and move the same.
 abbrev pub VisitsAlike : Type 0
 VisitsAlike =
-    (r : Round) (s : ℕ) (numbers starts numbers₂ starts₂ : List ℕ) (a a' b b' : Columns)
-    → IsVisit r s numbers starts a a' → IsVisit r s numbers₂ starts₂ b b'
-    → (c d : Card) → InTables c numbers starts → InTables d numbers₂ starts₂ → s < length c.subnets → s < length d.subnets
-    → SameView r s (turn_in c a) (turn_in d b) → SameOutcome r s c a a' b b'
+    (r : Round) (s : ℕ) (c d : Card) (row row₂ : List ℕ) (a a' b b' : Work)
+    → IsVisit r s c row a a' → IsVisit r s d row₂ b b' → Meets c → Meets d → s < length c.subnets → s < length d.subnets
+    → SameView r s (turn_in c row a) (turn_in d row₂ b) → SameOutcome r s c a a' b b'

@@ -1,36 +1,36 @@
-// What a transition's arcs post on the claims board, what they move, and whether they let it start. Each arc is resolved to a flat place as
-// it is met. Every function takes any slices; what it does is the card's where they hold an accepted one.
-ghost use Rattle.std.specs.Prelude.{◌≡◌, ℕ, ◌+◌, ◌*◌, ◌<◌, length, slice_index};
-ghost use Rattle.card.specs.Card.{Card, draws, fills, transition_at, arc_at};
-ghost use Rattle.card.specs.Finite.{every};
-ghost use Rattle.card.specs.Index.{Lists, first_place_start};
-ghost use Rattle.card.specs.Index.{arc_of, Begins};
+// What a transition's arcs post on the claims board, and what they move. Each arc is resolved to a flat place as it is met.
+ghost use Rattle.std.specs.Prelude.{◌≡◌, ℕ, ◌+◌, ◌*◌, ◌<◌};
+ghost use Rattle.card.specs.Card.{draws, fills};
+ghost use Rattle.card.specs.View.{direction_number};
 ghost use Rattle.flattening.specs.Flattening.{flatten};
-ghost use Rattle.runners.specs.State.{scale as scale_of, entry, incidence};
-ghost use Rattle.runners.specs.Step.{allows as allows_it};
-ghost use Rattle.runners.specs.Columns.{Moved, Grown, nothing, posted};
-ghost use Rattle.runners.specs.Visits.{InTables};
+ghost use Rattle.runners.specs.State.{entry, incidence};
+ghost use Rattle.runners.specs.Columns.{Moved, Grown, Claimed, nothing, no_claims};
 ghost use Rattle.runners.specs.inner.Transitions.{share};
 
-use crate::rules;
-use card::tables::{Arc, arc_at, arc_count, capacity, first_place, subnet_row, transition_row};
+use card::MOST_PLACES;
+use card::view::{CardView, Direction};
+
+// The claims of transfers, by flat place: what is owed there, and what is due.
+#[derive(Clone, Copy)]
+pub struct Claims {
+    pub owed: [u32; MOST_PLACES],
+    pub due: [u32; MOST_PLACES],
+}
 
 // Entry p, and 0 past the end.
 pub fn entry_at(column: &[u32], p: usize) -> u64
-    ensures { (result ≡ entry column.now p) × (result < 4294967296) }
+    ensures value { result ≡ entry column.now p }
+    ensures fits { result < 4294967296 }
 {
-    if p < column.len() {
-        return column[p] as u64;
-    }
-    0
+    u64::from(column.get(p).copied().unwrap_or(0))
 }
 
-// Adds v to entry p, in 32 bits, which go round. No accepted card's claims come near more.
+// Adds v to entry p, in 32 bits, which go round. No accepted card's claims come near more. By index: of a write through get_mut no proof was found.
 fn add_at(column: &mut [u32], p: usize, v: u32)
     ensures { Grown column.old column.new (share 0 0 p v) }
 {
     if p < column.len() {
-        column[p] = std::num::wrapping_add_u32(column[p], v);
+        column[p] = column[p].wrapping_add(v);
     }
 }
 
@@ -39,158 +39,87 @@ fn take_at(column: &mut [u32], p: usize, v: u32)
     ensures { Moved column.old column.new (share 0 0 p v) nothing }
 {
     if p < column.len() {
-        column[p] = std::num::wrapping_sub_u32(column[p], v);
+        column[p] = column[p].wrapping_sub(v);
     }
 }
 
-// An arc of this direction posts v at flat place p.
-fn post_at(direction: u16, p: usize, v: u32, owed: &mut [u32], due: &mut [u32])
-    ensures owed_grown { Grown owed.old owed.new (share draws direction p v) }
-    ensures due_grown { Grown due.old due.new (share fills direction p v) }
-{
-    if direction == 0 {
-        add_at(owed, p, v);
-        return;
-    }
-    if direction == 1 {
-        add_at(due, p, v);
-    }
+// Columns by flat place that a transition's arcs change: the markings, or claims.
+pub trait ByPlace {
+    ghost changed: { (before after : Self) → (drawn filled : ℕ → ℕ) → Type 0 };
+
+    // An arc of this direction draws v from flat place p, or fills it with v.
+    fn change(&mut self, direction: Direction, p: usize, v: u32)
+        ensures { changed self.old self.new (share draws (direction_number direction) p v) (share fills (direction_number direction) p v) };
+
+    ghost unchanged: { (a : Self) → changed a a nothing nothing };
+
+    ghost changed_then: { (a b e : Self) (d u x y : ℕ → ℕ) → changed a b d u → changed b e x y → changed a e (λ p. d p + x p) (λ p. u p + y p) };
+
+    ghost changed_alike: { (a b : Self) (d u x y : ℕ → ℕ) → ((p : ℕ) → d p ≡ x p) → ((p : ℕ) → u p ≡ y p) → changed a b d u → changed a b x y };
 }
 
-// It moves v there.
-fn move_at(direction: u16, p: usize, v: u32, markings: &mut [u32])
-    ensures { Moved markings.old markings.new (share draws direction p v) (share fills direction p v) }
-{
-    if direction == 0 {
-        take_at(markings, p, v);
-        return;
-    }
-    if direction == 1 {
-        add_at(markings, p, v);
-    }
-}
+// What is drawn leaves the markings, and what is filled comes to them.
+impl ByPlace for [u32; MOST_PLACES] {
+    ghost use Rattle.runners.specs.inner.Changes.{moved_none, moved_then, moved_same};
 
-// The flat number of the place that an arc names.
-fn place_of(starts: &[u32], a: Arc) -> usize
-    ensures { result ≡ slice_index starts.now (first_place_start a.subnet) + a.place }
-{
-    first_place(starts, a.subnet) as usize + a.place as usize
-}
+    ghost changed = { Moved };
 
-// The arcs of the transition whose row begins at row post this part of their weights, in thousandths.
-fn post_arcs(
-    numbers: &[u16],
-    starts: &[u32],
-    row: u32,
-    part: u16,
-    owed: &mut [u32],
-    due: &mut [u32],
-)
-    ensures owed_len_unchanged { length owed.new ≡ length owed.old }
-    ensures due_len_unchanged { length due.new ≡ length due.old }
-    ensures owed_grown { (c : Card) (i t : ℕ) → InTables c numbers.now starts.now → Begins c row i t → Grown owed.old owed.new (λ p. part * incidence (flatten c) draws t p) }
-    ensures due_grown { (c : Card) (i t : ℕ) → InTables c numbers.now starts.now → Begins c row i t → Grown due.old due.new (λ p. part * incidence (flatten c) fills t p) }
-{
-    let count = arc_count(numbers, row);
-    let mut j = 0;
-    while j < count {
-        let a = arc_at(numbers, row, j);
-        let p = place_of(starts, a);
-        post_at(a.direction, p, part as u32 * a.weight as u32, owed, due);
-        j += 1;
-    }
-}
+    ghost unchanged = { moved_none };
 
-// Transition t posts this part of its weights. One that posts nothing costs nothing.
-pub fn post_transition(
-    numbers: &[u16],
-    starts: &[u32],
-    t: u16,
-    part: u16,
-    owed: &mut [u32],
-    due: &mut [u32],
-)
-    ensures owed_len_unchanged { length owed.new ≡ length owed.old }
-    ensures due_len_unchanged { length due.new ≡ length due.old }
-    ensures owed_grown { (c : Card) → InTables c numbers.now starts.now → t < length c.transitions → Grown owed.old owed.new (λ p. part * incidence (flatten c) draws t p) }
-    ensures due_grown { (c : Card) → InTables c numbers.now starts.now → t < length c.transitions → Grown due.old due.new (λ p. part * incidence (flatten c) fills t p) }
-{
-    if part == 0 {
-        return;
-    }
-    let row = transition_row(starts, t as u32);
-    post_arcs(numbers, starts, row, part, owed, due);
-}
+    ghost changed_then = { moved_then };
 
-// They move it.
-fn move_arcs(numbers: &[u16], starts: &[u32], row: u32, part: u16, markings: &mut [u32])
-    ensures markings_len_unchanged { length markings.new ≡ length markings.old }
-    ensures moved { (c : Card) (i t : ℕ) → InTables c numbers.now starts.now → Begins c row i t → Moved markings.old markings.new (λ p. part * incidence (flatten c) draws t p) (λ p. part * incidence (flatten c) fills t p) }
-{
-    let count = arc_count(numbers, row);
-    let mut j = 0;
-    while j < count {
-        let a = arc_at(numbers, row, j);
-        let p = place_of(starts, a);
-        move_at(a.direction, p, part as u32 * a.weight as u32, markings);
-        j += 1;
-    }
-}
+    ghost changed_alike = { moved_same };
 
-// Transition t moves it.
-pub fn move_transition(numbers: &[u16], starts: &[u32], t: u16, part: u16, markings: &mut [u32])
-    ensures markings_len_unchanged { length markings.new ≡ length markings.old }
-    ensures moved { (c : Card) → InTables c numbers.now starts.now → t < length c.transitions → Moved markings.old markings.new (λ p. part * incidence (flatten c) draws t p) (λ p. part * incidence (flatten c) fills t p) }
-{
-    if part == 0 {
-        return;
-    }
-    let row = transition_row(starts, t as u32);
-    move_arcs(numbers, starts, row, part, markings);
-}
-
-// Whether the place that an arc names has the tokens, or the room, for the arc's whole weight beside the claims that stand.
-fn allows(
-    numbers: &[u16],
-    starts: &[u32],
-    a: Arc,
-    markings: &[u32],
-    owed: &[u32],
-    due: &[u32],
-    scale: u16,
-) -> bool
-    ensures { (c : Card) (i t j : ℕ) → InTables c numbers.now starts.now → scale ≡ scale_of (flatten c) → Lists c i t → j < (transition_at c t).arcs → arc_of a ≡ arc_at c t j → result ≡ allows_it (flatten c) (posted owed.now due.now) markings.now (arc_at (flatten c) t j) }
-{
-    let p = place_of(starts, a);
-    let m = entry_at(markings, p);
-    let w = scale as u64 * a.weight as u64;
-    if a.direction == 0 {
-        return entry_at(owed, p) + w <= m;
-    }
-    let k = capacity(numbers, subnet_row(starts, a.subnet), a.place);
-    m + entry_at(due, p) + w <= scale as u64 * k as u64
-}
-
-// Whether each arc of a transition allows it to start.
-pub fn all_allow(
-    numbers: &[u16],
-    starts: &[u32],
-    row: u32,
-    markings: &[u32],
-    owed: &[u32],
-    due: &[u32],
-) -> bool
-    ensures { (c : Card) (i t : ℕ) → InTables c numbers.now starts.now → Begins c row i t → result ≡ every (transition_at c t).arcs (λ j. allows_it (flatten c) (posted owed.now due.now) markings.now (arc_at (flatten c) t j)) }
-{
-    let scale = rules::scale(numbers);
-    let count = arc_count(numbers, row);
-    let mut j = 0;
-    while j < count {
-        let a = arc_at(numbers, row, j);
-        if !allows(numbers, starts, a, markings, owed, due, scale) {
-            return false;
+    fn change(&mut self, direction: Direction, p: usize, v: u32) {
+        match direction {
+            Direction::Draws => take_at(self, p, v),
+            Direction::Fills => add_at(self, p, v),
         }
-        j += 1;
     }
-    true
+}
+
+// What is drawn is owed, and what is filled is due.
+impl ByPlace for Claims {
+    ghost use Rattle.runners.specs.inner.Changes.{claimed_none, claimed_then, claimed_same};
+
+    ghost changed = { Claimed };
+
+    ghost unchanged = { claimed_none };
+
+    ghost changed_then = { claimed_then };
+
+    ghost changed_alike = { claimed_same };
+
+    fn change(&mut self, direction: Direction, p: usize, v: u32) {
+        match direction {
+            Direction::Draws => add_at(&mut self.owed, p, v),
+            Direction::Fills => add_at(&mut self.due, p, v),
+        }
+    }
+}
+
+impl Claims {
+    pub fn none() -> Claims
+        ensures { result ≡ no_claims }
+    {
+        Claims {
+            owed: [0; MOST_PLACES],
+            due: [0; MOST_PLACES],
+        }
+    }
+}
+
+// Transition t changes them by this part of its weights, in thousandths. One that changes nothing costs nothing.
+pub fn change_by<C: ByPlace>(columns: &mut C, card: &CardView<'_>, t: u16, part: u16)
+    ensures { C.changed columns.old columns.new (λ p. part * incidence (flatten card.now) draws t p) (λ p. part * incidence (flatten card.now) fills t p) }
+{
+    if part == 0 {
+        return;
+    }
+    let arcs = card.arcs(t);
+    for j in 0..card.transition(t).arcs {
+        let arc = arcs.get(j);
+        let v = u32::from(part) * u32::from(arc.weight);
+        columns.change(arc.direction, card.flat_place(arc), v);
+    }
 }

@@ -1,49 +1,46 @@
 // The flat runner: the step on a card's flat card, which is a card of one subnet. Its tables are made from the card's, which are kept.
-ghost use Rattle.std.specs.Prelude.{◌≡◌, true, length};
-ghost use Rattle.hierarchy.specs.Numbers.{check_outcome};
-ghost use Rattle.hierarchy.specs.Judgement.{Judgement, judge, outcome_of};
-ghost use Rattle.flattening.specs.FlatCards.{flat_room};
+ghost use Rattle.std.specs.Prelude.{◌≡◌, ◌≤◌, true, length};
+ghost use Rattle.card.specs.Tables.{has_room};
+ghost use Rattle.hierarchy.specs.Judgement.{judge};
+ghost use Rattle.flattening.specs.FlatCards.{one_subnet};
 ghost use Rattle.runners.specs.Calls.{flat_call};
 ghost use Rattle.runners.specs.Answers.{IsRow};
 ghost use Rattle.runners.specs.Nets.{flat_judged, IsNet};
+ghost use Rattle.runners.specs.inner.Steps.{answer_of};
 
-use crate::loader::net_of;
-use crate::row::row_on;
-use crate::{Net, RowAnswer, State};
-use card::{SMALL_CARD, SMALL_TABLE, TABLE};
+use crate::nets::Net;
+use crate::places::{Capacity, by_place};
+use crate::row::{NetView, called_row};
+use crate::{Refusal, RowAnswer, State};
+use card::{Counts, SMALL_CARD, SMALL_TABLE, TABLE};
 use flattening::load_flat;
-use hierarchy::Answer;
+use hierarchy::CardRefusal;
 
-// The check's answer to the flat card: its own refusal, or one subnet and the card's places and transitions.
-fn flat_answer(a: Answer) -> Answer
-    ensures { (j : Judgement) → check_outcome a ≡ outcome_of j → check_outcome result ≡ outcome_of (flat_judged j) }
+// The order that names a flat card's one subnet.
+const ORDER: [u16; 1] = [0];
+
+// The counts of the flat card of a card that has these.
+fn flat_counts(counts: Counts) -> Counts
+    ensures { result ≡ one_subnet counts }
 {
-    match a {
-        Answer::Refused(f, at) => Answer::Refused(f, at),
-        Answer::Accepted(_s, p, t) => Answer::Accepted(1, p, t),
+    Counts {
+        subnets: 1,
+        ..counts
     }
 }
 
-// The flat card's row, in the order that names its one subnet.
-fn flat_row_in(
-    card: &[u8],
-    numbers: &mut [u16],
-    flat: &mut [u16],
-    state: State,
-    row: &[u16],
-) -> RowAnswer
-    requires { flat_room (length card.now) (length numbers.old) (length flat.old) ≡ true }
-    ensures numbers_len_unchanged { length numbers.new ≡ length numbers.old }
-    ensures flat_len_unchanged { length flat.new ≡ length flat.old }
-    ensures row { IsRow (flat_call card.now state row.now) result }
+// The flat card's row, with the numbers of both cards in tables of this size, which have room for them.
+fn flat_row_in<const SIZE: usize>(card: &[u8], state: &State, row: &[u16]) -> Result<State, Refusal>
+    requires room { has_room (length card.now) SIZE ≡ true }
+    requires small { SIZE ≤ TABLE }
+    ensures { answer_of state.now result ≡ flat_call card.now state.now row.now }
 {
-    let k = load_flat(card, numbers, flat);
-    let own = k.answer;
-    let a = flat_answer(own);
-    let n = net_of(a, flat, &k.flat_starts);
-    let sizes = n.sizes;
-    let order = [0];
-    row_on(a, flat, &k.flat_starts, &n.full, sizes, &order, state, row)
+    let mut numbers = [0; SIZE];
+    let mut flat = [0; SIZE];
+    let loaded = load_flat(card, &mut numbers, &mut flat)?;
+    let card = loaded.flat(&flat);
+    let full = by_place::<Capacity>(&card);
+    called_row(&NetView::new(card, &full), &ORDER, state, row)
 }
 
 // The flat runner's row call: the step on the flat card. Two wrong ones that this rules out: one that reports a conflict before it looks at a
@@ -52,34 +49,18 @@ pub fn flat_row(card: &[u8], state: State, row: &[u16]) -> RowAnswer
     ensures { IsRow (flat_call card.now state row.now) result }
 {
     if card.len() <= SMALL_CARD {
-        let mut numbers = [0; SMALL_TABLE];
-        let mut flat = [0; SMALL_TABLE];
-        return flat_row_in(card, &mut numbers, &mut flat, state, row);
+        return RowAnswer::new(state, flat_row_in::<SMALL_TABLE>(card, &state, row));
     }
-    let mut numbers = [0; TABLE];
-    let mut flat = [0; TABLE];
-    flat_row_in(card, &mut numbers, &mut flat, state, row)
+    RowAnswer::new(state, flat_row_in::<TABLE>(card, &state, row))
 }
 
 // The net of a card's flat card. Two wrong ones that this rules out: one that hands on the card's own net, and one that takes a refused card's
 // header for a net.
-pub fn flat_net(card: &[u8]) -> Net
+pub fn flat_net(card: &[u8]) -> Result<Net, CardRefusal>
     ensures { IsNet (flat_judged (judge card.now)) result }
 {
     let mut numbers = [0; TABLE];
     let mut flat = [0; TABLE];
-    let k = load_flat(card, &mut numbers, &mut flat);
-    let own = k.answer;
-    let answer = flat_answer(own);
-    let n = net_of(answer, &flat, &k.flat_starts);
-    let starts = k.flat_starts;
-    let full = n.full;
-    let sizes = n.sizes;
-    Net {
-        answer,
-        numbers: flat,
-        starts,
-        full,
-        sizes,
-    }
+    let loaded = load_flat(card, &mut numbers, &mut flat)?;
+    Ok(Net::new(flat, loaded.flat_starts, flat_counts(loaded.counts)))
 }

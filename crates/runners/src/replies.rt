@@ -1,63 +1,44 @@
-// The paper's number and value of each reply.
+// The paper's number and value of each refusal.
 ghost use Rattle.std.specs.Prelude.{◌≡◌};
-ghost use Rattle.std.proofs.Math.Option.{none, some};
-ghost use Rattle.runners.specs.Numbers.{refused, refusal, row_outcome, reply_code};
+ghost use Rattle.runners.specs.Numbers.{refusal, number_of, value_of};
+ghost use Rattle.runners.specs.declared.Refusal.TheVariants.{BadCard};
 
-use crate::{Refusal, Reply};
-use hierarchy::fault_number;
+use crate::Refusal;
+use hierarchy::CardRefusal;
 
-// A reply as three numbers: its kind, which is 0 for ok, 1 for a refusal that gives its number only and 2 for one with a value, and both.
-#[derive(Clone, Copy)]
-pub struct Code {
-    pub kind: u8,
-    pub number: u64,
-    pub value: usize,
-}
+impl From<CardRefusal> for Refusal {
+    ghost from_gives = { λ r e. e ≡ BadCard r };
 
-fn plain(number: u64) -> Code
-    ensures { result ≡ reply_code (refused number none) }
-{
-    Code {
-        kind: 1,
-        number,
-        value: 0,
+    fn from(r: CardRefusal) -> Refusal {
+        Refusal::BadCard(r)
     }
 }
 
-fn valued(number: u64, value: usize) -> Code
-    ensures { result ≡ reply_code (refused number (some value)) }
-{
-    Code {
-        kind: 2,
-        number,
-        value,
+impl Refusal {
+    // Two wrong tables that this rules out: one that gives a conflict the number of a degree, and one that counts an order as a state.
+    pub fn number(self) -> u64
+        ensures { result ≡ number_of (refusal self) }
+    {
+        match self {
+            Refusal::BadCard(r) => r.fault.number(),
+            Refusal::BadRow => 20,
+            Refusal::BadDegree(_signal) => 21,
+            Refusal::Conflict(_place) => 22,
+            Refusal::BadOrder => 23,
+            Refusal::BadState => 25,
+        }
     }
-}
 
-// The refusals of a call. Two wrong tables that this rules out: one that gives a conflict the number of a degree, and one that leaves out the
-// bit of a refused card.
-pub fn refusal_code(why: Refusal) -> Code
-    ensures { result ≡ reply_code (refusal why) }
-{
-    match why {
-        Refusal::BadCard(f, at) => valued(fault_number(f), at),
-        Refusal::BadRow => plain(20),
-        Refusal::BadDegree(g) => valued(21, g),
-        Refusal::Conflict(p) => valued(22, p),
-        Refusal::BadOrder => plain(23),
-        Refusal::BadState => plain(25),
-    }
-}
-
-pub fn reply_code(reply: Reply) -> Code
-    ensures { result ≡ reply_code (row_outcome reply) }
-{
-    match reply {
-        Reply::Ok => Code {
-            kind: 0,
-            number: 0,
-            value: 0,
-        },
-        Reply::No(why) => refusal_code(why),
+    // The signal or place, or a refused card's bit. Two wrong ones that this rules out: one that leaves out the bit, and one that gives a row of
+    // another length a value.
+    pub fn value(self) -> Option<usize>
+        ensures { result ≡ value_of (refusal self) }
+    {
+        match self {
+            Refusal::BadCard(r) => Some(r.bit),
+            Refusal::BadDegree(signal) => Some(signal),
+            Refusal::Conflict(place) => Some(place),
+            Refusal::BadRow | Refusal::BadOrder | Refusal::BadState => None,
+        }
     }
 }

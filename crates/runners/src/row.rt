@@ -1,209 +1,163 @@
-// A row on a card's tables, subnet by subnet: the tests in front of the step, and the step. Nothing here, nor in what it calls, makes a flat card;
-// the flat runner hands in its flat card's tables as those of any card. The functions ask that the tables are a loaded card's, so none is an entry
-// point.
-ghost use Rattle.std.specs.Prelude.{◌≡◌, ◌≤◌, length};
-ghost use Rattle.hierarchy.specs.Judgement.{Judgement};
-ghost use Rattle.runners.specs.Calls.{called, in_order};
+// A row on a card, subnet by subnet: the tests in front of the step, and the step. Nothing here, nor in what it calls, makes a flat card; the flat
+// runner hands in its flat card as any card.
+ghost use Rattle.std.specs.Prelude.{◌≡◌, true, ◌≤◌, length};
+ghost use Rattle.std.proofs.Math.Option.{none, map};
+ghost use Rattle.card.specs.Finite.{some_unless, ◌otherwise◌};
+ghost use Rattle.hierarchy.specs.Conditions.{Meets};
+ghost use Rattle.hierarchy.specs.Judgement.{accepted};
+ghost use Rattle.flattening.specs.Flattening.{flatten};
+ghost use Rattle.runners.specs.Step.{conflict, next};
+ghost use Rattle.runners.specs.Rows.{settle, effective as effective_of, row_fault, row_next, row_conflict, row_refusal};
+ghost use Rattle.runners.specs.Calls.{view, store, valid, each_once, called, in_order};
 ghost use Rattle.runners.specs.Answers.{IsRow};
-ghost use Rattle.runners.specs.Nets.{IsNetIn};
-ghost use Rattle.runners.specs.inner.Finding.{IsFound};
-ghost use Rattle.runners.specs.inner.Steps.{with_degrees, IsStep, IsRowStep, IsLoadedRow, IsTestedRow};
-ghost use Rattle.runners.specs.declared.Reply.TheVariants.{No};
+ghost use Rattle.runners.specs.inner.Markings.{capacity, Filled};
+ghost use Rattle.runners.specs.inner.Steps.{with_degrees, answer_of, refusal_in};
+ghost use Rattle.runners.specs.declared.Refusal.TheVariants.{BadState, BadOrder, Conflict};
 
 use crate::guards::{row_test, state_test};
-use crate::order::each_once;
-use crate::rounds::{find_all, move_all, post_all};
-use crate::transfers::{codes, stored};
+use crate::order::order_test;
 use crate::verdict::uncovered;
-use crate::{Refusal, Reply, RowAnswer, Sizes, State, rules};
-use card::{MOST_PLACES, MOST_SIGNALS, MOST_TRANSITIONS};
-use hierarchy::Answer;
+use crate::visits::{Finding, Moving, Posting, visit_all};
+use crate::work::Work;
+use crate::{Refusal, RowAnswer, State};
+use card::MOST_SIGNALS;
+use card::view::CardView;
+use std::marker::Model;
 
-pub fn refuse(why: Refusal, state: State) -> RowAnswer
-    ensures { result ≡ record { reply = No why; state = state } }
-{
-    RowAnswer {
-        reply: Reply::No(why),
-        state: state,
+// An accepted card, and the full marking of each of its places.
+#[derive(Drop)]
+pub struct NetView<'a> {
+    card: CardView<'a>,
+    full: &'a [u32],
+}
+
+impl<'a> Model for NetView<'a> {
+    ghost use Rattle.card.specs.Card.{Card};
+    ghost use Rattle.runners.specs.inner.Steps.{HoldsNet};
+
+    ghost Value = { Card };
+
+    ghost view = { λ n. n.card };
+
+    ghost invariant = { λ n. HoldsNet n.card n.full.now };
+}
+
+impl<'a> NetView<'a> {
+    pub fn new(card: CardView<'a>, full: &'a [u32]) -> NetView<'a>
+        requires meets { Meets card }
+        requires filled { Filled capacity card full.now }
+        ensures { result ≡ card.entry }
+    {
+        NetView { card, full }
+    }
+
+    pub fn card(&self) -> &CardView<'a>
+        ensures value { result.now ≡ self.now }
+        ensures meets { Meets self.now }
+    {
+        &self.card
+    }
+
+    pub fn full(&self) -> &[u32]
+        ensures { Filled capacity self.now result.now }
+    {
+        self.full
+    }
+}
+
+impl RowAnswer {
+    // A call's answer: the next state, or the refusal and the state as it was.
+    pub(crate) fn new(state: State, next: Result<State, Refusal>) -> RowAnswer
+        ensures { IsRow (answer_of state next) result }
+    {
+        match next {
+            Ok(next) => RowAnswer {
+                reply: Ok(()),
+                state: next,
+            },
+            Err(why) => RowAnswer {
+                reply: Err(why),
+                state,
+            },
+        }
     }
 }
 
 // The new degrees become the last ones.
-fn record_degrees(state: State, row: &[u16]) -> State
-    ensures { length row.now ≤ 63 → result ≡ with_degrees state row.now }
+fn record_degrees(state: &mut State, row: &[u16])
+    requires { length row.now ≤ MOST_SIGNALS }
+    ensures { state.new ≡ with_degrees state.old row.now }
 {
-    let mut next = state;
-    let mut g: usize = 0;
-    while g < row.len() {
-        if MOST_SIGNALS <= g {
-            return next;
-        }
-        next.degrees[g] = row[g];
-        g += 1;
-    }
-    next
-}
-
-// The first two rounds, on a board that starts at zero, and its verdict: the lowest place in conflict, or the number of places.
-fn find_conflict(
-    numbers: &[u16],
-    starts: &[u32],
-    full: &[u32],
-    places: u16,
-    order: &[u16],
-    markings: &[u32],
-    transfers: &[u16],
-    row: &[u16],
-    candidates: &mut [bool],
-) -> u16
-    ensures candidates_len_unchanged { length candidates.new ≡ length candidates.old }
-    ensures found { IsFound numbers.now starts.now full.now places order.now markings.now transfers.now row.now result candidates.old candidates.new }
-{
-    let mut owed = [0; MOST_PLACES];
-    let mut due = [0; MOST_PLACES];
-    post_all(numbers, starts, order, transfers, &mut owed, &mut due);
-    let mut drawn = [0; MOST_PLACES];
-    let mut filled = [0; MOST_PLACES];
-    find_all(
-        numbers,
-        starts,
-        order,
-        markings,
-        transfers,
-        row,
-        &owed,
-        &due,
-        &mut drawn,
-        &mut filled,
-        candidates,
-    );
-    uncovered(full, places, markings, &owed, &due, &drawn, &filled)
+    state.degrees[..row.len()].copy_from_slice(row);
 }
 
 // The step: the first two rounds and the verdict, and, if the board shows no conflict, the third round.
-fn step(
-    numbers: &[u16],
-    starts: &[u32],
-    full: &[u32],
-    sizes: Sizes,
-    order: &[u16],
-    state: State,
-    row: &[u16],
-) -> RowAnswer
-    ensures { IsStep numbers.now starts.now full.now sizes order.now state row.now result }
+fn step(net: &NetView<'_>, order: &[u16], state: &State, row: &[u16]) -> Result<State, Refusal>
+    requires valid { valid (flatten net.now) state.now ≡ true }
+    requires ordered { each_once (length net.now.subnets) order.now ≡ true }
+    requires long { length row.now ≡ net.now.signals }
+    ensures { answer_of state.now result ≡ settle (map Conflict (conflict (flatten net.now) (view state.now) row.now)) state.now (store state.now (next (flatten net.now) (view state.now) row.now)) }
 {
-    let after = record_degrees(state, row);
-    let mut markings = state.markings;
-    let mut transfers = codes(state);
-    let mut candidates = [false; MOST_TRANSITIONS];
-    let places = sizes.places;
-    let p = find_conflict(
-        numbers,
-        starts,
-        full,
-        places,
-        order,
-        &markings,
-        &transfers,
-        row,
-        &mut candidates,
-    );
-    if p != places {
-        return refuse(Refusal::Conflict(p as usize), state);
+    let card = net.card();
+    let mut work = Work::new(*state);
+    visit_all::<Posting>(card, order, row, &mut work);
+    visit_all::<Finding>(card, order, row, &mut work);
+    if let Some(p) = uncovered(
+        net.full(),
+        card.places(),
+        &work.state.markings,
+        &work.standing,
+        &work.claimed,
+    ) {
+        return Err(Refusal::Conflict(p as usize));
     }
-    let degrees = state.degrees;
-    move_all(
-        numbers,
-        starts,
-        order,
-        &degrees,
-        row,
-        &candidates,
-        &mut markings,
-        &mut transfers,
-    );
-    RowAnswer {
-        reply: Reply::Ok,
-        state: stored(after, markings, transfers),
-    }
+    visit_all::<Moving>(card, order, row, &mut work);
+    record_degrees(&mut work.state, row);
+    Ok(work.state)
 }
 
-// The step on the effective row: the row's degrees put over the last ones, which of an empty row are the last ones.
-fn row_step(
-    numbers: &[u16],
-    starts: &[u32],
-    full: &[u32],
-    sizes: Sizes,
-    order: &[u16],
-    state: State,
-    row: &[u16],
-) -> RowAnswer
-    ensures { IsRowStep numbers.now starts.now full.now sizes order.now state row.now result }
+// The row that the step takes: of an empty row the last degrees, of any other the row.
+fn effective<'a>(last: &'a [u16], row: &'a [u16]) -> &'a [u16]
+    ensures { result.now ≡ effective_of last.now row.now }
 {
-    let n = sizes.signals as usize;
-    if MOST_SIGNALS < n {
-        return refuse(Refusal::BadState, state);
+    if row.is_empty() {
+        return last;
     }
-    let after = record_degrees(state, row);
-    let degrees = after.degrees;
-    step(numbers, starts, full, sizes, order, state, &degrees[..n])
+    row
 }
 
 // Tests 20 and 21, then the step.
 pub fn loaded_row(
-    numbers: &[u16],
-    starts: &[u32],
-    full: &[u32],
-    sizes: Sizes,
+    net: &NetView<'_>,
     order: &[u16],
-    state: State,
+    state: &State,
     row: &[u16],
-) -> RowAnswer
-    ensures { IsLoadedRow numbers.now starts.now full.now sizes order.now state row.now result }
+) -> Result<State, Refusal>
+    requires valid { valid (flatten net.now) state.now ≡ true }
+    requires ordered { each_once (length net.now.subnets) order.now ≡ true }
+    ensures { answer_of state.now result ≡ settle (row_refusal (flatten net.now) (view state.now) row.now) state.now (store state.now (row_next (flatten net.now) (view state.now) row.now)) }
 {
-    let fault = row_test(row, sizes.signals, rules::scale(numbers));
-    match fault {
-        Reply::No(why) => refuse(why, state),
-        Reply::Ok => row_step(numbers, starts, full, sizes, order, state, row),
-    }
+    row_test(net.card(), row)?;
+    step(net, order, state, effective(state.degrees(), row))
 }
 
-// Tests 25 and 23, then those of the row and the step.
-pub fn tested_row<'a>(
-    numbers: &'a [u16],
-    starts: &'a [u32],
-    full: &'a [u32],
-    sizes: Sizes,
-    order: &[u16],
-    state: State,
-    row: &[u16],
-) -> RowAnswer
-    ensures { IsTestedRow numbers.now starts.now full.now sizes order.now state row.now result }
+// Tests 25 and 23.
+pub fn tested(net: &NetView<'_>, order: &[u16], state: &State) -> Result<(), Refusal>
+    ensures { refusal_in result ≡ (some_unless (valid (flatten net.now) state.now) BadState otherwise some_unless (each_once (length net.now.subnets) order.now) BadOrder) }
 {
-    if !state_test(numbers, starts, full, sizes, state) {
-        return refuse(Refusal::BadState, state);
-    }
-    if !each_once(order, sizes.subnets) {
-        return refuse(Refusal::BadOrder, state);
-    }
-    loaded_row(numbers, starts, full, sizes, order, state, row)
+    state_test(net, state)?;
+    order_test(net.card(), order)
 }
 
-// A row call on a net: the card's own refusal, then the tests and the step.
-pub fn row_on<'a>(
-    answer: Answer,
-    numbers: &'a [u16],
-    starts: &'a [u32],
-    full: &'a [u32],
-    sizes: Sizes,
+// A row call on a net: the tests and the step.
+pub fn called_row(
+    net: &NetView<'_>,
     order: &[u16],
-    state: State,
+    state: &State,
     row: &[u16],
-) -> RowAnswer
-    ensures { (j : Judgement) → IsNetIn j answer numbers.now starts.now full.now sizes → IsRow (called (in_order order.now) j state row.now) result }
+) -> Result<State, Refusal>
+    ensures { answer_of state.now result ≡ called (in_order order.now) (accepted net.now) state.now row.now }
 {
-    match answer {
-        Answer::Refused(f, at) => refuse(Refusal::BadCard(f, at), state),
-        Answer::Accepted(_s, _p, _t) => tested_row(numbers, starts, full, sizes, order, state, row),
-    }
+    tested(net, order, state)?;
+    loaded_row(net, order, state, row)
 }

@@ -1,6 +1,6 @@
 -- The machine that reads and writes a card field by field: which field comes next, and where its number leads. Widths and faults are the
 -- grammar's.
-use Rattle.std.specs.Prelude.{ℕ, ◌+◌, ◌-◌, ◌≤◌, ◌≡◌, Bool, true, false, List, [], ◌∷◌, ltb}
+use Rattle.std.specs.Prelude.{ℕ, ◌+◌, ◌-◌, ◌≤◌, ◌≡◌, Bool, true, false, List, [], ◌∷◌, ltb, Result, Ok, Err}
 use Rattle.std.proofs.Math.Option.{Option, none, some}
 use Rattle.card.specs.Format.{Format, done, get}
 use Rattle.card.specs.Grammar.{header, subnet, place, transition, arc}
@@ -8,8 +8,8 @@ use Rattle.card.specs.declared.FormatFault.{FormatFault}
 use Rattle.card.specs.declared.layout.Phase.{Phase}
 use Rattle.card.specs.declared.layout.Phase.TheVariants.{Version, SubnetCount, SignalCount, Limit, Scale, Parent, SubnetType, PlaceCount, TransitionCount, Kind, Capacity, Tokens, Signal, ArcCount, Rank, Direction, ArcSubnet, ArcPlace, Weight}
 use Rattle.card.specs.declared.layout.Layout.{Layout}
-use Rattle.card.specs.declared.layout.Move.{Move}
-use Rattle.card.specs.declared.layout.Move.TheVariants.{More, Done, Bad}
+use Rattle.card.specs.declared.layout.Next.{Next}
+use Rattle.card.specs.declared.layout.Next.TheVariants.{More, Done}
 
 -- a format behind the fields that hold these numbers
 abbrev pub fed : {U A : Type 0} → Format U A → (numbers : List ℕ) → Format U A
@@ -109,12 +109,12 @@ layout_at p v g n s places transitions rows more arcs k =
 abbrev pub to : Layout → Phase → Layout
 to l p = layout_at p l.version l.signals l.subnets l.subnet l.places l.transitions l.place_rows l.transition_rows l.arc_rows l.capacity
 
-abbrev pub pick : Bool → Move → Move → Move
+abbrev pub pick : Bool → Next → Next → Next
 pick true a b = a
 pick false a b = b
 
 -- where a number leads that is not at fault
-abbrev pub move_at : Phase → Layout → (v : ℕ) → Move
+abbrev pub move_at : Phase → Layout → (v : ℕ) → Next
 move_at Version l v = More (layout_at SubnetCount v l.signals l.subnets l.subnet l.places l.transitions l.place_rows l.transition_rows l.arc_rows l.capacity)
 move_at SubnetCount l v = More (layout_at SignalCount l.version l.signals (v - 1) l.subnet l.places l.transitions l.place_rows l.transition_rows l.arc_rows l.capacity)
 move_at SignalCount l v = More (layout_at Limit l.version v l.subnets l.subnet l.places l.transitions l.place_rows l.transition_rows l.arc_rows l.capacity)
@@ -146,9 +146,13 @@ move_at Weight l v =
     (More (layout_at Parent l.version l.signals (l.subnets - 1) (l.subnet + 1) l.places l.transitions l.place_rows l.transition_rows l.arc_rows l.capacity))
     (Done (record { subnets = l.subnet + 1; places = l.places; transitions = l.transitions }))))
 
-abbrev pub or_bad : Option FormatFault → Move → Move
-or_bad none m = m
-or_bad (some f) m = Bad f
+-- a fault, or what comes next
+abbrev pub Move : Type 0
+Move = Result Next FormatFault
+
+abbrev pub or_bad : Option FormatFault → Next → Move
+or_bad none m = Ok m
+or_bad (some f) m = Err f
 
 abbrev pub step_at : Phase → Layout → (v : ℕ) → Move
 step_at p l v = or_bad (fault_at p l v) (move_at p l v)
@@ -184,15 +188,3 @@ pub record Sane (l : Layout) : Type 0 where
   pub subnet : l.subnet + l.subnets ≤ 31
   pub places : l.places ≤ 255
   pub transitions : l.transitions ≤ 255
-
--- k is the number of the arc's field that comes next, counted from 0
-pub record IsArcField (l : Layout) (k : ℕ) : Type 0 where
-  pub direction : k ≡ 0 → l.phase ≡ Direction
-  pub subnet : k ≡ 1 → l.phase ≡ ArcSubnet
-  pub place : k ≡ 2 → l.phase ≡ ArcPlace
-  pub weight : k ≡ 3 → l.phase ≡ Weight
-
--- and another field of the transition's arcs stands behind it
-pub record ArcGoesOn (l : Layout) (k : ℕ) : Type 0 where
-  pub inside : k ≤ 3
-  pub more : k ≡ 3 → 1 ≤ l.arc_rows

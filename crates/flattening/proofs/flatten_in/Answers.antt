@@ -1,22 +1,22 @@
-use Rattle.std.proofs.Common.{subst}
-use Rattle.card.proofs.ReadLaws.{lent_is}
-use Rattle.hierarchy.specs.declared.Answer.{Answer}
-use Rattle.hierarchy.specs.Output.{CheckRefused}
-use Rattle.hierarchy.proofs.Accepted.{accepted_loaded}
-use Rattle.flattening.proofs.FlatWrite.{flatten_refused, flatten_accepted}
+use Rattle.std.proofs.lemmas.Result.{err_from_is_err_and}
+use Rattle.flattening.proofs.FlatWrite.{flatten_refused, inside, cut, flatten_done}
 use Rattle.flattening.proofs.flatten_in.Goals as goal
 
-pub returns-in_default-clause-written : goal.returns-in_default-clause-written
-returns-in_default-clause-written c =
-    let a = c.args in
-    let x = c.load-k in
-    let h = accepted_loaded a.card.now x.result _ x.new.numbers x.ensures.checked (lent_is _ _ a.numbers.now x.new.numbers x.ensures.lent c.requires) in
-    flatten_refused a.card.now a.out.now x.result.answer _ _ h _ _ c.check_refused.result c.in_default.is (subst (λ (y : Answer). CheckRefused y c.check_refused.result) c.in_default.is c.check_refused.ensures)
+pub returns-in_err-loaded : goal.returns-in_err-loaded
+returns-in_err-loaded g c =
+    let p = err_from_is_err_and c.from_residual.result c.from_residual.ensures.1 in
+    rw (p.1, p.2) (flatten_refused _ _ _ _ c.load_flat_into.ensures.flat_card c.in_err-loaded.was)
 
-pub returns-clause-written : goal.returns-clause-written
-returns-clause-written c =
-    let a = c.args in
-    let x = c.load-k in
-    let h = accepted_loaded a.card.now x.result _ x.new.numbers x.ensures.checked (lent_is _ _ a.numbers.now x.new.numbers x.ensures.lent c.requires) in
-    flatten_accepted a.card.now a.out.now x.result.answer _ _ h _ _ _ c.narrow.result c.narrow-2.result c.narrow-3.result c.in-Accepted.is c.narrow.ensures.0 c.narrow-2.ensures.0 c.narrow-3.ensures.0 _
-    c.write_flat.result c.write_flat.ensures
+pub slice_bounds-bytes-end : goal.slice_bounds-bytes-end
+slice_bounds-bytes-end g c = inside _ _ _ _ c.in_ok-loaded.ensures.flattened _ c.flat.ensures _ c.encode-length.ensures
+
+pub slice_bounds-put_card-end : goal.slice_bounds-put_card-end
+slice_bounds-put_card-end g c = cut _ _ _ _ c.in_ok-loaded.ensures.flattened _ c.flat.ensures _ c.encode-length.ensures
+
+pub returns-then-not-put_card : goal.returns-then-not-put_card
+returns-then-not-put_card g c =
+    flatten_done _ _ _ _ c.in_ok-loaded.ensures.flattened _ c.flat.ensures _ c.encode-length.ensures _ _ c.put_card.result _ c.put_card.ensures.value c.put_card.ensures.out_after (rw c.if-not-put_card.true)
+
+pub returns : goal.returns
+returns g c =
+    flatten_done _ _ _ _ c.in_ok-loaded.ensures.flattened _ c.flat.ensures _ c.encode-length.ensures _ _ c.put_card.result _ c.put_card.ensures.value c.put_card.ensures.out_after (rw c.if-not-put_card.false)

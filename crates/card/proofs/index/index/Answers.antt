@@ -1,25 +1,24 @@
 -- The walk stores where each subnet begins and indexes its transitions, and stays where a card can have rows.
-use Rattle.std.proofs.Common.{ℕ, List, length, sym, ap, subst, ◌∙◌, arith}
+use Rattle.std.proofs.Common.{ℕ, ◌≡◌, List, length, sym, ap, subst, ◌∙◌, arith}
 use Rattle.std.proofs.lemmas.List.{length-replicate}
 use Rattle.card.specs.Index.{starts_size}
 use Rattle.card.specs.inner.Indexing.{AtSubnet, TransitionsIndexed}
 use Rattle.card.proofs.TableLaws.{no_yes}
-use Rattle.card.proofs.IndexLaws.{put_same, index_start, index_on, index_at, index_more, index_done}
+use Rattle.card.proofs.IndexLaws.{put_same, index_start, index_on, index_at, index_more, index_done, Indexing}
 use Rattle.card.proofs.index.index.Goals as goal
 
 pub loop-s-init : goal.loop-s-init
 loop-s-init c = record {
   long = length-replicate {A = ℕ} starts_size 0;
-  low = omega arith;
   places = omega arith;
   transitions = omega arith;
   indexed = λ k w d e. index_start k w c.args.numbers.now d _ c.version.result c.version.ensures c.header_fields.ensures.0 c.header_width.ensures.0;
 }
 
-pub returns-then-not-on_card : goal.returns-then-not-on_card
-returns-then-not-on_card c =
+pub returns-then-not-is_on_card : goal.returns-then-not-is_on_card
+returns-then-not-is_on_card c =
     let x = c.loop-s in
-    λ k w d e. absurd (no_yes (sym c.if-not-on_card.true ∙ c.on_card.ensures.1 (index_on k w _ d _ _ _ _ _ (x.invariant.indexed k w d e) (omega arith))))
+    λ k w d e. absurd (no_yes (sym c.if-not-is_on_card.true ∙ c.is_on_card.ensures.1 (index_on k w _ d _ _ _ _ _ (x.invariant.indexed k w d e) (omega arith))))
 
 pub loop-s-preserved : goal.loop-s-preserved
 loop-s-preserved c =
@@ -30,7 +29,6 @@ loop-s-preserved c =
     let q = c.after_places in
     let t = c.index_transitions-p in record {
       long = t.ensures.starts_len_unchanged ∙ ap length one.ensures ∙ put_same x.starts x.s x.p.row x.p.bit x.place x.transition ∙ x.invariant.long;
-      low = omega arith;
       places = omega (arith, x.invariant.places);
       transitions = omega (arith, x.invariant.transitions);
       indexed = λ k w d e.
@@ -43,4 +41,5 @@ loop-s-preserved c =
 pub returns : goal.returns
 returns c =
     let x = c.loop-s in
-    λ k w d e. c.put_subnet-2.ensures ∙ index_done k w _ d _ _ _ _ _ (x.invariant.indexed k w d e) (omega arith)
+    let e : x.s ≡ c.args.subnets = omega arith in
+    λ k w d q. c.put_subnet-2.ensures ∙ index_done k w _ d _ _ _ _ _ (subst (λ (i : ℕ). Indexing k x.starts x.p x.place x.transition i) e (x.invariant.indexed k w d q)) (omega arith)

@@ -1,4 +1,4 @@
-use Rattle.std.proofs.Common.{◌≡◌, ◌-◌, ◌*◌, ◌≤◌, length}
+use Rattle.std.proofs.Common.{◌≡◌, ◌*◌, ◌≤◌, length}
 use Rattle.card.specs.Card.{Card}
 use Rattle.card.specs.Index.{Laid, starts_size}
 use Rattle.card.specs.Wellformed.{Wellformed}
@@ -8,11 +8,7 @@ use Rattle.card.proofs.index.index.Given as goal
 abbrev pub invariant-loop-s : goal.invariant-loop-s
 invariant-loop-s l = record {
   long : length l.starts ≡ starts_size;
-  low : l.s ≤ l.subnets;
   places : l.place ≤ 65535 * l.s;
   transitions : l.transition ≤ 65535 * l.s;
   indexed : (c : Card) → Wellformed c → Laid c l.numbers → l.subnets ≡ length c.subnets → Indexing c l.starts l.p l.place l.transition l.s;
 }
-
-abbrev pub decreases-loop-s : goal.decreases-loop-s
-decreases-loop-s l = l.subnets - l.s

@@ -14,24 +14,22 @@ pub loop-t-init : goal.loop-t-init
 loop-t-init c =
     let b = c.args in record {
       long = refl;
-      low = omega arith;
       listed = λ k s a. list_start k s b.numbers.now b.starts.now b.from b.first b.count a;
     }
 
-pub returns-then-not-on_card-clause-by_index : goal.returns-then-not-on_card-clause-by_index
-returns-then-not-on_card-clause-by_index c =
+pub returns-then-not-is_on_card-clause-by_index : goal.returns-then-not-is_on_card-clause-by_index
+returns-then-not-is_on_card-clause-by_index c =
     let b = c.args in
     let x = c.loop-t in
-    λ k s a. absurd (no_yes (sym c.if-not-on_card.true ∙ c.on_card.ensures.1 (list_on k s _ _ _ _ _ a _ _ _ (x.invariant.listed k s a))))
+    λ k s a. absurd (no_yes (sym c.if-not-is_on_card.true ∙ c.is_on_card.ensures.1 (list_on k s _ _ _ _ _ a _ _ _ (x.invariant.listed k s a))))
 
 pub loop-t-preserved : goal.loop-t-preserved
 loop-t-preserved c =
     let b = c.args in
     let x = c.loop-t in
-    let row = c.put_wide in
-    let bit = c.put_wide-in-loop-t in record {
+    let row = c.put_start in
+    let bit = c.put_start-in-loop-t in record {
       long = rw (bit.ensures, row.ensures) (set_long x.starts _ _ (132 + x.t) x.p.row (388 + x.t) x.p.bit refl refl ∙ x.invariant.long);
-      low = omega arith;
       listed = λ k s a. list_more k s _ _ _ _ _ a _ _ _ (x.invariant.listed k s a) c.loop-t-test.true c.arc_count.result c.arc_count.ensures _ _ c.after_transition-p.result row.ensures bit.ensures c.version.result c.version.ensures c.after_transition-p.ensures;
     }
 

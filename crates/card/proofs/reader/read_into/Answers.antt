@@ -3,13 +3,13 @@ use Rattle.std.proofs.Common.{ℕ, refl, ap, ◌∙◌, replicate}
 use Rattle.card.proofs.ReadLaws.{cleared_long, fill_refused, fill_whole}
 use Rattle.card.proofs.reader.read_into.Goals as goal
 
-pub returns-in_default-clause-read : goal.returns-in_default-clause-read
-returns-in_default-clause-read c = (fill_refused _ _ _ _ 0 _ _ c.fill-a.ensures.filled c.in_default.is refl).0
+pub returns-in-Err-clause-read : goal.returns-in-Err-clause-read
+returns-in-Err-clause-read c = (fill_refused _ _ _ 0 _ _ c.read_fields.ensures.filled c.in-Err.is refl).0
 
-pub returns-in_default-clause-table : goal.returns-in_default-clause-table
-returns-in_default-clause-table c =
-    (fill_refused _ _ _ _ _ _ _ c.fill-a.ensures.filled c.in_default.is
-    (c.clear-in_default.ensures ∙ ap (λ (n : ℕ). replicate n 0) (cleared_long _ _ _ c.clear.ensures c.fill-a.ensures.numbers_len_unchanged))).1
+pub returns-in-Err-clause-table : goal.returns-in-Err-clause-table
+returns-in-Err-clause-table c =
+    (fill_refused _ _ _ _ _ _ c.read_fields.ensures.filled c.in-Err.is
+    (c.fill-in-Err.ensures.after (λ y e. e) ∙ ap (λ (n : ℕ). replicate n 0) (cleared_long _ _ _ (c.fill.ensures.after (λ y e. e)) c.read_fields.ensures.numbers_len_unchanged))).1
 
-pub returns-clause-read : goal.returns-clause-read
-returns-clause-read c = (fill_whole _ _ _ _ _ _ c.fill-a.ensures.filled c.in-Whole.is refl c.index.ensures).0
+pub returns-in-Ok-clause-read : goal.returns-in-Ok-clause-read
+returns-in-Ok-clause-read c = (fill_whole _ _ _ _ _ _ c.read_fields.ensures.filled c.in-Ok.is refl c.index.ensures).0

@@ -5,24 +5,25 @@ use Rattle.card.specs.Rows.{tables_in}
 use Rattle.card.proofs.RoundTrip.{counted_is}
 use Rattle.card.proofs.TableSpell.{tables_inside, rows_ragged, rows_uncounted, rows_unfit, rows_lines, rows_spelt}
 use Rattle.card.proofs.writer.spell.Goals as goal
+use Rattle.card.proofs.writer.spell.Goals.{then-not-is_whole-via-then-not-is_whole, then-not-is_whole-via-else-not-is_whole+then-not-counts_match, then-not-is_whole-via-else-not-is_whole+else-not-counts_match+then-not-values_fit}
 
-pub returns-then-not-whole_rows : goal.returns-then-not-whole_rows
-returns-then-not-whole_rows c = rows_ragged _ _ _ _ _ _ c.unspelt.ensures (sym c.whole_rows.ensures ∙ c.if-not-whole_rows.true)
-
-pub returns-then-not-counts_match : goal.returns-then-not-counts_match
-returns-then-not-counts_match c =
-    rows_uncounted _ _ _ _ _ _ c.unspelt-then-not-counts_match.ensures (sym c.whole_rows.ensures ∙ c.if-not-whole_rows.false) (sym (c.counts_match.ensures c.args.head) ∙ c.if-not-counts_match.true)
-
-pub returns-then-not-values_fit : goal.returns-then-not-values_fit
-returns-then-not-values_fit c =
-    rows_unfit _ _ _ _ _ _ c.unspelt-then-not-values_fit.ensures (sym c.whole_rows.ensures ∙ c.if-not-whole_rows.false) (sym (c.counts_match.ensures c.args.head) ∙ c.if-not-counts_match.false)
-    c.values_fit.result c.values_fit.ensures c.if-not-values_fit.true
+pub returns-then-not-is_whole : goal.returns-then-not-is_whole
+returns-then-not-is_whole c =
+    let r = sym c.is_whole.ensures in
+    elim c.then-not-is_whole.branch [
+      | then-not-is_whole-via-then-not-is_whole w ↦ rows_ragged _ _ _ _ _ (r ∙ w.if-not-is_whole.true)
+      | then-not-is_whole-via-else-not-is_whole+then-not-counts_match w ↦
+          rows_uncounted _ _ _ _ _ (r ∙ w.if-not-is_whole.false) (sym (w.counts_match.ensures c.args.head) ∙ w.if-not-counts_match.true)
+      | then-not-is_whole-via-else-not-is_whole+else-not-counts_match+then-not-values_fit w ↦
+          rows_unfit _ _ _ _ _ (r ∙ w.if-not-is_whole.false) (sym (w.counts_match.ensures c.args.head) ∙ w.if-not-counts_match.false)
+          w.values_fit.result w.values_fit.ensures w.if-not-values_fit.true
+    ]
 
 pub gather-numbers-requires-clause-tables_inside : goal.gather-numbers-requires-clause-tables_inside
 gather-numbers-requires-clause-tables_inside c =
     let a = c.args in
-    tables_inside a.head a.subnets.now a.places.now a.transitions.now a.arcs.now
-    ((counted_is (tables_in a.head a.subnets.now a.places.now a.transitions.now a.arcs.now)).0 (sym (c.counts_match.ensures a.head) ∙ c.if-not-counts_match.false))
+    tables_inside a.head a.rows.now.subnets.now a.rows.now.places.now a.rows.now.transitions.now a.rows.now.arcs.now
+    ((counted_is (tables_in a.head a.rows.now.subnets.now a.rows.now.places.now a.rows.now.transitions.now a.rows.now.arcs.now)).0 (sym (c.counts_match.ensures a.head) ∙ c.if-not-counts_match.false))
 
 pub gather-numbers-requires-clause-few_subnets : goal.gather-numbers-requires-clause-few_subnets
 unfolding header
@@ -32,6 +33,6 @@ pub returns : goal.returns
 returns c =
     let a = c.args in
     let n = sym (c.counts_match.ensures a.head) ∙ c.if-not-counts_match.false in
-    let l = rows_lines a.head a.subnets.now a.places.now a.transitions.now a.arcs.now c.gather-numbers.result n (c.values_fit.ensures.0 c.if-not-values_fit.false) c.gather-numbers.ensures in
-    rows_spelt _ _ _ _ _ (sym c.whole_rows.ensures ∙ c.if-not-whole_rows.false) n l.fit c.spell_numbers.result
-    (c.spell_numbers.ensures (tables_in a.head a.subnets.now a.places.now a.transitions.now a.arcs.now) l)
+    let l = rows_lines a.head a.rows.now.subnets.now a.rows.now.places.now a.rows.now.transitions.now a.rows.now.arcs.now c.gather-numbers.result n (c.values_fit.ensures.0 c.if-not-values_fit.false) c.gather-numbers.ensures in
+    rows_spelt _ _ _ _ _ (sym c.is_whole.ensures ∙ c.if-not-is_whole.false) n l.fit c.spell_numbers.result
+    (c.spell_numbers.ensures (tables_in a.head a.rows.now.subnets.now a.rows.now.places.now a.rows.now.transitions.now a.rows.now.arcs.now) l)

@@ -1,9 +1,10 @@
-use Rattle.std.proofs.Common.{◌-◌, ◌≤◌}
-use Rattle.flattening.proofs.FlatPut.{PlacesUpTo}
+use Rattle.std.proofs.Common.{◌+◌}
+use Rattle.card.specs.Card.{first_place}
+use Rattle.flattening.specs.inner.FlatNumbers.{place_position, Fills}
 use Rattle.flattening.proofs.tables.put_places.Given as goal
 
 abbrev pub invariant-loop-n : goal.invariant-loop-n
-invariant-loop-n l = record { in_range : l.n ≤ l.count; stored : PlacesUpTo l.numbers l.row l.first l.n l.initial.out l.out }
+invariant-loop-n l = Fills l.card (place_position 0) (place_position (first_place l.card l.s + l.n)) l.fn.out l.out
 
-abbrev pub decreases-loop-n : goal.decreases-loop-n
-decreases-loop-n l = l.count - l.n
+abbrev pub invariant-loop-s : goal.invariant-loop-s
+invariant-loop-s l = Fills l.card (place_position 0) (place_position (first_place l.card l.s)) l.fn.out l.out

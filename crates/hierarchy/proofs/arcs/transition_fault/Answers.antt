@@ -1,24 +1,40 @@
-use Rattle.std.proofs.Common.{arith}
-use Rattle.hierarchy.proofs.ArcLaws.{no_fault_start, no_fault_more, fault_found, places_there, with_unit, without_unit}
+use Rattle.std.proofs.Common.{◌<◌, ◌≤◌, arith, ap, sym}
+use Rattle.std.proofs.lemmas.Result.{err_from_is_err_and}
+use Rattle.card.specs.Card.{Transition, transition_at}
+use Rattle.hierarchy.specs.Check.{transition_fault}
+use Rattle.hierarchy.proofs.FirstLaws.{walk_on, walk_found, walk_end}
+use Rattle.hierarchy.proofs.ArcLaws.{places_there}
 use Rattle.hierarchy.proofs.arcs.transition_fault.Goals as goal
 
-pub loop-j-init : goal.loop-j-init
-loop-j-init c = λ d l e p. no_fault_start l p c.transition_row-row.ensures c.arc_count-n.ensures
+pub arc_fault-requires : goal.arc_fault-requires
+arc_fault-requires c = omega (arith, ap (λ (r : Transition). r.arcs) c.transition-j-end.ensures)
 
 pub loop-j-preserved : goal.loop-j-preserved
-loop-j-preserved c = λ d l e p. let h = c.loop-j.invariant d l e p in no_fault_more h c.loop-j-test.true (c.in-Nothing.ensures d l e h.begins (omega arith))
+loop-j-preserved c =
+    λ l.
+    let m : c.loop-j.j < (transition_at c.args.card.now c.args.t).arcs = omega (arith, ap (λ (r : Transition). r.arcs) c.transition-j-end.ensures) in
+    walk_on (c.loop-j.invariant l) m (c.in_ok-arc_fault.ensures l)
 
-pub returns-in-Fault : goal.returns-in-Fault
-returns-in-Fault c = λ d l e p. let h = c.loop-j.invariant d l e p in fault_found h c.loop-j-test.true (c.in-Fault.ensures d l e h.begins (omega arith))
+pub returns-in_err-arc_fault : goal.returns-in_err-arc_fault
+unfolding transition_fault
+returns-in_err-arc_fault c =
+    let r = err_from_is_err_and c.from_residual.result c.from_residual.ensures.1 in
+    λ l.
+    let m : c.loop-j.j < (transition_at c.args.card.now c.args.t).arcs = omega (arith, ap (λ (r : Transition). r.arcs) c.transition-j-end.ensures) in
+    rw (r.1, r.2) (rw (← walk_found (c.loop-j.invariant l) m (c.in_err-arc_fault.ensures l)))
 
-pub returns-then-has_unit : goal.returns-then-has_unit
-returns-then-has_unit c =
-    λ d l e p.
-    let h = c.loop-j.invariant d l e p in
-    with_unit h c.loop-j-test.false (c.if-has_unit.ensures d l c.args.i c.args.t h.begins h.count (places_there h c.loop-j-test.false))
+pub returns-then-not-has_unit : goal.returns-then-not-has_unit
+unfolding transition_fault
+returns-then-not-has_unit c =
+    λ l.
+    let m : (transition_at c.args.card.now c.args.t).arcs ≤ c.loop-j.j = omega (arith, ap (λ (r : Transition). r.arcs) c.transition-j-end.ensures) in
+    let n = walk_end (c.loop-j.invariant l) m in
+    rw (c.at.ensures, ← n, ← c.if-not-has_unit.ensures (places_there c.args.card.now c.args.i c.args.t (sym n)), c.transition_bit.ensures.value c.args.i l)
 
 pub returns : goal.returns
+unfolding transition_fault
 returns c =
-    λ d l e p.
-    let h = c.loop-j.invariant d l e p in
-    without_unit h c.loop-j-test.false l.indexed c.transition_bit.ensures (c.if-has_unit.ensures d l c.args.i c.args.t h.begins h.count (places_there h c.loop-j-test.false))
+    λ l.
+    let m : (transition_at c.args.card.now c.args.t).arcs ≤ c.loop-j.j = omega (arith, ap (λ (r : Transition). r.arcs) c.transition-j-end.ensures) in
+    let n = walk_end (c.loop-j.invariant l) m in
+    rw (← n, ← c.if-not-has_unit.ensures (places_there c.args.card.now c.args.i c.args.t (sym n)))

@@ -1,17 +1,24 @@
+use Rattle.std.proofs.lemmas.Result.{err_from_is_err_and}
 use Rattle.hierarchy.specs.Check.{check}
 use Rattle.hierarchy.proofs.CheckLaws.{found_first, found_later}
 use Rattle.hierarchy.proofs.check.first_fault.Goals as goal
 
-pub returns-in_default : goal.returns-in_default
+pub returns-in_err-arcs_fault : goal.returns-in_err-arcs_fault
 unfolding check
-returns-in_default c = λ d l s w. found_first c.arcs_fault-a.result _ _ (c.arcs_fault-a.ensures d l s) _ _ c.in_default.is
+returns-in_err-arcs_fault c =
+    let p = err_from_is_err_and c.from_residual.result c.from_residual.ensures.1 in
+    rw (p.1, p.2) (found_first c.arcs_fault.result _ _ c.arcs_fault.ensures _ c.in_err-arcs_fault.was)
 
-pub returns-in_default-b : goal.returns-in_default-b
+pub returns-in_err-interfaces_fault : goal.returns-in_err-interfaces_fault
 unfolding check
-returns-in_default-b c = λ d l s w. found_later c.arcs_fault-a.result _ _ (c.arcs_fault-a.ensures d l s) c.in-Nothing.is _ (found_first c.interfaces_fault-b.result _ _ (c.interfaces_fault-b.ensures d l s) _ _ c.in_default-b.is)
+returns-in_err-interfaces_fault c =
+    let p = err_from_is_err_and c.from_residual-in_err-interfaces_fault.result c.from_residual-in_err-interfaces_fault.ensures.1 in
+    rw (p.1, p.2)
+    (found_later c.arcs_fault.result _ _ c.arcs_fault.ensures _ c.in_ok-arcs_fault.was _
+    (found_first c.interfaces_fault.result _ _ c.interfaces_fault.ensures _ c.in_err-interfaces_fault.was))
 
 pub returns : goal.returns
 unfolding check
 returns c =
-    λ d l s w. found_later c.arcs_fault-a.result _ _ (c.arcs_fault-a.ensures d l s) c.in-Nothing.is _
-    (found_later c.interfaces_fault-b.result _ _ (c.interfaces_fault-b.ensures d l s) c.in-Nothing-b.is _ (c.types_fault.ensures d l s w))
+    found_later c.arcs_fault.result _ _ c.arcs_fault.ensures _ c.in_ok-arcs_fault.was _
+    (found_later c.interfaces_fault.result _ _ c.interfaces_fault.ensures _ c.in_ok-interfaces_fault.was _ c.types_fault.ensures)

@@ -1,14 +1,14 @@
-use Rattle.std.proofs.Common.{arith}
-use Rattle.hierarchy.proofs.ChildLaws.{ordinal_start, ordinal_more, one_le}
+use Rattle.std.proofs.Common.{refl, sym, ◌∙◌, rules, arith}
+use Rattle.std.proofs.lemmas.Iterator.{YieldsList-from_range}
+use Rattle.std.proofs.lemmas.Iterator.Consumers.{YieldsList-at, YieldsList-from_filter, count_from_yields_List}
+use borrow.Author.Tests.{tests}
+use Rattle.hierarchy.specs.Conditions.{is_child}
+use Rattle.hierarchy.proofs.ChildLaws.{ordinal_filtered}
 use Rattle.hierarchy.proofs.children.ordinal.Goals as goal
 
-pub loop-h-init : goal.loop-h-init
-loop-h-init c = (omega arith, omega arith, λ d l e. ordinal_start d c.args.i)
-
-pub loop-h-preserved : goal.loop-h-preserved
-loop-h-preserved c =
+pub returns : goal.returns
+returns c =
     let a = c.args in
-    let x = c.is_child in
-    let y = c.one-n in
-    let z = c.loop-h in
-    (omega (arith, one_le x.result, y.ensures), omega arith, λ d l e. ordinal_more d a.i z.h z.n y.result x.result (z.invariant.2 d l e) (x.ensures d l e) y.ensures)
+    count_from_yields_List _ c.count.result c.count.ensures.ran
+    (YieldsList-from_filter _ (is_child a.card.now a.i) (YieldsList-at c.filter.ensures.source (YieldsList-from_range 0 a.j a.j refl (omega arith))) c.filter.ensures.closure (λ x b q k. search (rules, tests)))
+    ∙ sym (ordinal_filtered a.card.now a.i a.j)

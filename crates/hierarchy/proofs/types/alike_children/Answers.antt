@@ -1,59 +1,39 @@
-use Rattle.std.proofs.Common.{◌≡◌, ◌<◌, arith, false, length, sym, true}
-use Rattle.hierarchy.specs.Conditions.{children, child}
+use Rattle.std.proofs.Common.{◌≡◌, ℕ, List, length, refl, sym, ap, ◌∙◌, rules, arith}
+use borrow.Author.Tests.{tests, ne_eqb}
+use Rattle.std.specs.List.{filter, range_with_len}
+use Rattle.std.proofs.lemmas.Iterator.{YieldsList-from_range}
+use Rattle.std.proofs.lemmas.Iterator.Consumers.{YieldsList-at, YieldsList-from_filter}
+use Rattle.hierarchy.specs.Conditions.{is_child, children}
+use Rattle.hierarchy.specs.Check.{same_type}
 use Rattle.hierarchy.specs.inner.Likeness.{child_alike}
-use Rattle.hierarchy.proofs.WalkLaws.{counts_differ, compared_start, compared_more, compared_fails, compared_end}
-use Rattle.hierarchy.proofs.ChildLaws.{kth_below, child_counted}
-use Rattle.hierarchy.proofs.TypeLaws.{types_at}
+use Rattle.hierarchy.proofs.WalkLaws.{counts_differ}
+use Rattle.hierarchy.proofs.AllBelow.{all_beside, as_many}
+use Rattle.hierarchy.proofs.ChildLaws.{child_counted, ordinal_filtered, children_filtered}
 use Rattle.hierarchy.proofs.types.alike_children.Goals as goal
 
-pub returns-then-count-ordinal : goal.returns-then-count-ordinal
-returns-then-count-ordinal c =
+pub returns-then-ordinal : goal.returns-then-ordinal
+returns-then-ordinal c =
     let a = c.args in
-    let i = c.ordinal-count in
-    let j = c.ordinal in
-    λ d h e k. counts_differ (length (children d a.r)) (length (children d a.s)) i.result j.result (child_alike d a.r a.s)
-    (child_counted d a.subnets a.r i.result e (i.ensures d h e)) (child_counted d a.subnets a.s j.result e (j.ensures d h e)) c.if-count-ordinal.true
+    let d = a.card.now in
+    let m : ℕ = c.subnets-subnets.result in
+    let n : ℕ = c.ordinal.result in
+    let xs : List ℕ = filter (is_child d a.r) (range_with_len 0 m) in
+    let ys : List ℕ = filter (is_child d a.s) (range_with_len 0 m) in
+    let x : xs ≡ children d a.r = ap (λ (k : ℕ). filter (is_child d a.r) (range_with_len 0 k)) c.subnets-subnets.ensures.value ∙ sym (children_filtered d a.r) in
+    let y : ys ≡ children d a.s = ap (λ (k : ℕ). filter (is_child d a.s) (range_with_len 0 k)) c.subnets-subnets.ensures.value ∙ sym (children_filtered d a.s) in
+    as_many (length (children d a.r)) (length (children d a.s)) n c.ordinal-2.result (child_alike d a.r a.s) c.all.result
+    (child_counted d m a.r n c.subnets-subnets.ensures.value c.ordinal.ensures) (child_counted d m a.s c.ordinal-2.result c.subnets-subnets.ensures.value c.ordinal-2.ensures) c.if-ordinal.true
+    (all_beside n xs ys (same_type d) (child_alike d a.r a.s) _ _ c.all.result c.all.ensures.ran
+    (YieldsList-at c.zip.ensures.first (YieldsList-from_filter _ (is_child d a.r) (YieldsList-at c.filter-lower.ensures.source (YieldsList-from_range 0 m m refl (omega arith))) c.filter-lower.ensures.closure (λ i b q k. search (rules, tests))))
+    (YieldsList-at c.zip.ensures.second (YieldsList-from_filter _ (is_child d a.s) (YieldsList-at c.filter-upper.ensures.source (YieldsList-from_range 0 m m refl (omega arith))) c.filter-upper.ensures.closure (λ i b q k. search (rules, tests))))
+    (sym (c.ordinal.ensures ∙ ordinal_filtered d a.r m)) (sym (c.if-ordinal.true ∙ c.ordinal-2.ensures ∙ ordinal_filtered d a.s m))
+    (λ i b q k. search (rules, tests))
+    (λ k l. rw (x, y) refl))
 
-pub loop-k-init : goal.loop-k-init
-loop-k-init c =
+pub returns-else-ordinal : goal.returns-else-ordinal
+returns-else-ordinal c =
     let a = c.args in
-    let i = c.ordinal-count in
-    let j = c.ordinal in
-    λ d h e k. compared_start (length (children d a.r)) (length (children d a.s)) i.result j.result (child_alike d a.r a.s)
-    (child_counted d a.subnets a.r i.result e (i.ensures d h e)) (child_counted d a.subnets a.s j.result e (j.ensures d h e)) c.if-count-ordinal.false
-
-pub returns-then-not-same_type : goal.returns-then-not-same_type
-returns-then-not-same_type c =
-    let a = c.args in
-    let x = c.kth_child-lower in
-    let y = c.kth_child-upper in
-    let z = c.loop-k in
-    λ d h e k.
-    let g = z.invariant d h e k in
-    let l : z.k < length (children d a.r) = omega arith in
-    let m : z.k < length (children d a.s) = omega arith in
-    let p : x.result ≡ child d a.r z.k = x.ensures d h e k l in
-    let q : y.result ≡ child d a.s z.k = y.ensures d h e k m in
-    compared_fails (length (children d a.r)) (length (children d a.s)) c.ordinal-count.result z.k (child_alike d a.r a.s) g c.loop-k-test.true (sym (types_at d a.r a.s z.k x.result y.result false p q
-    (c.if-not-same_type.ensures d h (kth_below d a.r z.k x.result l p) (kth_below d a.s z.k y.result m q))))
-
-pub loop-k-preserved : goal.loop-k-preserved
-loop-k-preserved c =
-    let a = c.args in
-    let x = c.kth_child-lower in
-    let y = c.kth_child-upper in
-    let z = c.loop-k in
-    λ d h e k.
-    let g = z.invariant d h e k in
-    let l : z.k < length (children d a.r) = omega arith in
-    let m : z.k < length (children d a.s) = omega arith in
-    let p : x.result ≡ child d a.r z.k = x.ensures d h e k l in
-    let q : y.result ≡ child d a.s z.k = y.ensures d h e k m in
-    compared_more (length (children d a.r)) (length (children d a.s)) c.ordinal-count.result z.k (child_alike d a.r a.s) g (sym (types_at d a.r a.s z.k x.result y.result true p q
-    (c.if-not-same_type.ensures d h (kth_below d a.r z.k x.result l p) (kth_below d a.s z.k y.result m q))))
-
-pub returns : goal.returns
-returns c =
-    let a = c.args in
-    let z = c.loop-k in
-    λ d h e k. compared_end (length (children d a.r)) (length (children d a.s)) c.ordinal-count.result z.k (child_alike d a.r a.s) (z.invariant d h e k) c.loop-k-test.false
+    let d = a.card.now in
+    let m : ℕ = c.subnets-subnets.result in
+    rw (ne_eqb c.ordinal.result c.ordinal-2.result c.if-ordinal.false) (counts_differ (length (children d a.r)) (length (children d a.s)) c.ordinal.result c.ordinal-2.result (child_alike d a.r a.s)
+    (child_counted d m a.r c.ordinal.result c.subnets-subnets.ensures.value c.ordinal.ensures) (child_counted d m a.s c.ordinal-2.result c.subnets-subnets.ensures.value c.ordinal-2.ensures) c.if-ordinal.false)

@@ -1,55 +1,40 @@
-use Rattle.std.proofs.Common.{subst}
-use Rattle.card.specs.declared.writer.SpellAnswer.{SpellAnswer}
-use Rattle.hierarchy.specs.declared.Answer.{Answer}
-use Rattle.hierarchy.specs.Output.{SpellRefused, CheckRefused}
+use Rattle.std.proofs.lemmas.Result.{err_from_is_err_and}
 use Rattle.hierarchy.proofs.WriteLaws.{spelt_whole, spell_turned, check_turned, put_done}
 use Rattle.hierarchy.proofs.write.write.Goals as goal
 
-pub returns-in_default : goal.returns-in_default
-returns-in_default c =
+pub returns-in_err-bytes : goal.returns-in_err-bytes
+returns-in_err-bytes c =
     let x = c.args in
-    spell_turned x.head x.subnets.now x.places.now x.transitions.now x.arcs.now c.spell-w.result c.spell-w.ensures x.out.now _ _ c.spell_refused.result c.in_default.is
-    (subst (λ (x : SpellAnswer). SpellRefused x c.spell_refused.result) c.in_default.is c.spell_refused.ensures)
+    let p = err_from_is_err_and c.from_residual.result c.from_residual.ensures.1 in
+    rw (p.1, p.2) (spell_turned x.head x.rows.now.subnets.now x.rows.now.places.now x.rows.now.transitions.now x.rows.now.arcs.now c.spell.result c.spell.ensures x.out.now _ c.in_err-bytes.was)
+
+pub slice_bounds-card-end : goal.slice_bounds-card-end
+slice_bounds-card-end c =
+    let x = c.args in
+    let s = spelt_whole x.head x.rows.now.subnets.now x.rows.now.places.now x.rows.now.transitions.now x.rows.now.arcs.now c.spell.result c.spell.ensures _ c.in_ok-bytes.was in
+    s.cut
 
 pub slice_bounds-bytes-end : goal.slice_bounds-bytes-end
 slice_bounds-bytes-end c =
     let x = c.args in
-    let s = spelt_whole x.head x.subnets.now x.places.now x.transitions.now x.arcs.now c.spell-w.result c.spell-w.ensures _ c.in-Whole.is in
+    let s = spelt_whole x.head x.rows.now.subnets.now x.rows.now.places.now x.rows.now.transitions.now x.rows.now.arcs.now c.spell.result c.spell.ensures _ c.in_ok-bytes.was in
     s.few
 
-pub slice_bounds-check-end : goal.slice_bounds-check-end
-slice_bounds-check-end c =
+pub returns-in_err-check : goal.returns-in_err-check
+returns-in_err-check c =
     let x = c.args in
-    let s = spelt_whole x.head x.subnets.now x.places.now x.transitions.now x.arcs.now c.spell-w.result c.spell-w.ensures _ c.in-Whole.is in
-    s.cut
+    let p = err_from_is_err_and c.from_residual-in_err-check.result c.from_residual-in_err-check.ensures.1 in
+    let s = spelt_whole x.head x.rows.now.subnets.now x.rows.now.places.now x.rows.now.transitions.now x.rows.now.arcs.now c.spell.result c.spell.ensures _ c.in_ok-bytes.was in
+    rw (p.1, p.2) (check_turned x.head x.rows.now.subnets.now x.rows.now.places.now x.rows.now.transitions.now x.rows.now.arcs.now _ _ s x.out.now _ c.in_err-check.ensures)
 
-pub returns-in_default-b : goal.returns-in_default-b
-returns-in_default-b c =
+pub returns-then-not-put_card : goal.returns-then-not-put_card
+returns-then-not-put_card c =
     let x = c.args in
-    let s = spelt_whole x.head x.subnets.now x.places.now x.transitions.now x.arcs.now c.spell-w.result c.spell-w.ensures _ c.in-Whole.is in
-    check_turned x.head x.subnets.now x.places.now x.transitions.now x.arcs.now c.spell-w.result.bytes _ s x.out.now _ _ c.check_refused.result c.in_default-b.ensures
-    (subst (λ (x : Answer). CheckRefused x c.check_refused.result) c.in_default-b.is c.check_refused.ensures)
-
-pub slice_bounds-bytes-end-2 : goal.slice_bounds-bytes-end-2
-slice_bounds-bytes-end-2 c =
-    let x = c.args in
-    let s = spelt_whole x.head x.subnets.now x.places.now x.transitions.now x.arcs.now c.spell-w.result c.spell-w.ensures _ c.in-Whole.is in
-    s.few
-
-pub slice_bounds-put_card-end : goal.slice_bounds-put_card-end
-slice_bounds-put_card-end c =
-    let x = c.args in
-    let s = spelt_whole x.head x.subnets.now x.places.now x.transitions.now x.arcs.now c.spell-w.result c.spell-w.ensures _ c.in-Whole.is in
-    s.cut
-
-pub returns-then-put_card : goal.returns-then-put_card
-returns-then-put_card c =
-    let x = c.args in
-    let s = spelt_whole x.head x.subnets.now x.places.now x.transitions.now x.arcs.now c.spell-w.result c.spell-w.ensures _ c.in-Whole.is in
-    put_done x.head x.subnets.now x.places.now x.transitions.now x.arcs.now c.spell-w.result.bytes _ s _ _ _ c.in-Accepted.ensures x.out.now _ c.put_card.result _ c.put_card.ensures.value c.put_card.ensures.out_after (rw c.if-put_card.true)
+    let s = spelt_whole x.head x.rows.now.subnets.now x.rows.now.places.now x.rows.now.transitions.now x.rows.now.arcs.now c.spell.result c.spell.ensures _ c.in_ok-bytes.was in
+    put_done x.head x.rows.now.subnets.now x.rows.now.places.now x.rows.now.transitions.now x.rows.now.arcs.now _ _ s _ c.in_ok-check.ensures x.out.now _ c.put_card.result _ c.put_card.ensures.value c.put_card.ensures.out_after (rw c.if-not-put_card.true)
 
 pub returns : goal.returns
 returns c =
     let x = c.args in
-    let s = spelt_whole x.head x.subnets.now x.places.now x.transitions.now x.arcs.now c.spell-w.result c.spell-w.ensures _ c.in-Whole.is in
-    put_done x.head x.subnets.now x.places.now x.transitions.now x.arcs.now c.spell-w.result.bytes _ s _ _ _ c.in-Accepted.ensures x.out.now _ c.put_card.result _ c.put_card.ensures.value c.put_card.ensures.out_after (rw c.if-put_card.false)
+    let s = spelt_whole x.head x.rows.now.subnets.now x.rows.now.places.now x.rows.now.transitions.now x.rows.now.arcs.now c.spell.result c.spell.ensures _ c.in_ok-bytes.was in
+    put_done x.head x.rows.now.subnets.now x.rows.now.places.now x.rows.now.transitions.now x.rows.now.arcs.now _ _ s _ c.in_ok-check.ensures x.out.now _ c.put_card.result _ c.put_card.ensures.value c.put_card.ensures.out_after (rw c.if-not-put_card.false)

@@ -1,34 +1,41 @@
-use Rattle.std.proofs.Common.{◌+◌, ◌/◌, length, arith}
-use Rattle.programs.proofs.AgreeLaws.{going_end, going_no, going_more, size_is, row_size_is, call_at_is}
+use Rattle.std.proofs.Common.{◌≡◌, ◌+◌, List, ℕ, sym, ◌∙◌, subst, arith}
+use Rattle.programs.specs.Agreeing.{IsBoth, call_size, call_of}
+use Rattle.programs.proofs.AgreeLaws.{row_size_is, size_is, going_end, going_no, going_more}
 use Rattle.programs.proofs.agree.agree_from.Goals as goal
 
-pub returns-then-not-b : goal.returns-then-not-b
-returns-then-not-b c = λ k eg es.
+pub returns-in_default : goal.returns-in_default
+returns-in_default c = λ k eg es.
     let a = c.args in
-    let l = c.loop-k in
-    let n = c.row_bytes-n in
-    let size = n.result + a.subnets in
-    going_no a.card.now a.file.now k a.first (length a.file.now / size) l.k l.flat l.subnet (l.invariant.going k eg es) c.loop-k-test.true c.both_calls-b.result
-    (call_at_is a.card.now a.file.now k l.k size l.flat l.subnet c.both_calls-b.result (size_is k n.result a.signals a.subnets eg es n.ensures)
-    (c.both_calls-b.ensures k eg (row_size_is k n.result a.signals eg n.ensures)))
-    c.if-not-b.true
+    let l = c.loop-call in
+    let n = c.row_bytes-row_size in
+    let size : call_size k ≡ n.result + a.subnets = size_is k n.result a.signals a.subnets eg es n.ensures in
+    let steps = c.in-Some.ensures.steps in
+    let both = c.both_calls.ensures k eg (row_size_is k n.result a.signals eg n.ensures ∙ sym c.split_at.ensures.front_len) in
+    let here = subst (λ (u : List ℕ). IsBoth a.card.now (call_of k u) l.states c.both_calls.result) (sym c.split_at.ensures.by_index.0) both in
+    going_no a.card.now k a.file.now a.first _ l.states (l.invariant.3 k eg es) c.in-Some.call.now _ steps.1.0 (omega (arith, size, c.requires.some_subnets))
+    (steps.1.1 ∙ l.invariant.2 ∙ sym size) (rw c.in_default.is at here)
 
-pub loop-k-preserved : goal.loop-k-preserved
-loop-k-preserved c = record {
-  within = omega arith;
-  going = λ k eg es.
-      let a = c.args in
-      let l = c.loop-k in
-      let n = c.row_bytes-n in
-      let size = n.result + a.subnets in
-      going_more a.card.now a.file.now k a.first (length a.file.now / size) l.k l.flat l.subnet (l.invariant.going k eg es) c.loop-k-test.true c.both_calls-b.result
-      (call_at_is a.card.now a.file.now k l.k size l.flat l.subnet c.both_calls-b.result (size_is k n.result a.signals a.subnets eg es n.ensures)
-      (c.both_calls-b.ensures k eg (row_size_is k n.result a.signals eg n.ensures)))
-      c.if-not-b.false;
-}
+pub loop-call-preserved : goal.loop-call-preserved
+loop-call-preserved c =
+    let a = c.args in
+    let l = c.loop-call in
+    let n = c.row_bytes-row_size in
+    let steps = c.in-Some.ensures.steps in (
+      let same = steps.0 in omega (arith, same, l.invariant.2, c.requires.some_subnets),
+      tt,
+      steps.0 ∙ l.invariant.2,
+      λ k eg es.
+          let size : call_size k ≡ n.result + a.subnets = size_is k n.result a.signals a.subnets eg es n.ensures in
+          let both = c.both_calls.ensures k eg (row_size_is k n.result a.signals eg n.ensures ∙ sym c.split_at.ensures.front_len) in
+          let here = subst (λ (u : List ℕ). IsBoth a.card.now (call_of k u) l.states c.both_calls.result) (sym c.split_at.ensures.by_index.0) both in
+          going_more a.card.now k a.file.now a.first _ l.states (l.invariant.3 k eg es) c.in-Some.call.now _ steps.1.0 (omega (arith, size, c.requires.some_subnets))
+          (steps.1.1 ∙ l.invariant.2 ∙ sym size) c.in-Some-both_calls.after (rw c.in-Some-both_calls.is at here),
+    )
 
 pub returns : goal.returns
 returns c = λ k eg es.
     let a = c.args in
-    let l = c.loop-k in
-    going_end a.card.now a.file.now k a.first (length a.file.now / (c.row_bytes-n.result + a.subnets)) l.k l.flat l.subnet (l.invariant.going k eg es) c.loop-k-test.false
+    let l = c.loop-call in
+    let n = c.row_bytes-row_size in
+    let size : call_size k ≡ n.result + a.subnets = size_is k n.result a.signals a.subnets eg es n.ensures in
+    going_end a.card.now k a.file.now a.first _ l.states (l.invariant.3 k eg es) (omega (arith, size, l.invariant.2, c.in-None.ensures.steps.1.0))

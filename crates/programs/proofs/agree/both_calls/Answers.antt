@@ -1,15 +1,14 @@
-use borrow.Author.Tests.{not-true, not-false}
 use Rattle.programs.proofs.AgreeLaws.{call_unread, call_read}
 use Rattle.programs.proofs.agree.both_calls.Goals as goal
 
-pub returns-then-not-row : goal.returns-then-not-row
-returns-then-not-row c = λ k eg en.
+pub returns-in-Some : goal.returns-in-Some
+returns-in-Some c = λ k eg en.
     let a = c.args in
-    call_unread a.card.now a.bytes.now a.n a.flat a.subnet k en c.requires.1 c.order_of-order.result c.order_of-order.ensures c.both_without_row.result
-    c.row_of-row.result (c.row_of-row.ensures.0 k eg c.requires.2) (not-true _ c.if-not-row.true) c.both_without_row.ensures
+    call_read a.card.now a.row.now a.order.now a.before k en c.order_of-numbers.result c.order_of-numbers.ensures c.both_rows.result c.row_of.result
+    (c.row_of.ensures.row k eg c.requires.few_signals) c.in-Some.row c.in-Some.is (rw c.degrees.ensures.value at c.both_rows.ensures)
 
-pub returns : goal.returns
-returns c = λ k eg en.
+pub returns-in-None : goal.returns-in-None
+returns-in-None c = λ k eg en.
     let a = c.args in
-    call_read a.card.now a.bytes.now a.n a.flat a.subnet k en c.requires.1 c.order_of-order.result c.order_of-order.ensures c.both_rows.result
-    c.row_of-row.result (c.row_of-row.ensures.0 k eg c.requires.2) (not-false _ c.if-not-row.false) c.both_rows.ensures
+    call_unread a.card.now a.row.now a.order.now a.before k en c.order_of-numbers.result c.order_of-numbers.ensures c.both_without_row.result c.row_of.result
+    (c.row_of.ensures.row k eg c.requires.few_signals) c.in-None.is c.both_without_row.ensures

@@ -1,9 +1,9 @@
-use Rattle.std.proofs.Common.{arith}
-use Rattle.card.proofs.Copy.{copy_more, copy_done}
+use Rattle.std.proofs.Common.{refl, arith}
+use Rattle.programs.proofs.AgreeLaws.{order_more, order_end}
 use Rattle.programs.proofs.agree.order_of.Goals as goal
 
 pub loop-i-preserved : goal.loop-i-preserved
-loop-i-preserved c = record { within = omega arith; copied = λ l. copy_more _ _ _ _ (c.loop-i.invariant.copied l) c.loop-i-test.true }
+loop-i-preserved c = order_more c.args.bytes.now _ c.loop-i.i _ c.loop-i.invariant (omega arith) c.requires refl
 
 pub returns : goal.returns
-returns c = λ l. copy_done _ _ _ _ (c.loop-i.invariant.copied l) (omega arith)
+returns c = order_end c.args.bytes.now _ c.loop-i.i c.loop-i.invariant (omega arith)

@@ -1,21 +1,31 @@
-use Rattle.std.proofs.Common.{[], ap, ◌∙◌}
+use Rattle.std.proofs.Common.{List, ℕ, ap₂}
 use Rattle.hierarchy.specs.Judgement.{judge}
 use Rattle.runners.specs.declared.State.{State as Lent}
 use Rattle.programs.specs.Runs.{Run}
 use Rattle.programs.proofs.StoryLaws.{story}
-use Rattle.programs.proofs.BlockLaws.{fresh_answer}
+use Rattle.programs.proofs.BlockLaws.{fresh_refused, flat_refused, turned_back, begun}
 use Rattle.programs.proofs.blocks.begin.Goals as goal
 
-pub returns : goal.returns
-returns c =
+pub returns-in_err-state-clause-turned_back : goal.returns-in_err-state-clause-turned_back
+returns-in_err-state-clause-turned_back c =
     let card = c.args.card.now in
-    let f = c.fresh-f.ensures in
-    let run = ap {B = Run} (λ (s : Lent). record { number = 1; state = s; left = [] }) f.state in
-    let text = c.first_line-line.ensures (judge card) (f.answer ∙ fresh_answer card) in
+    turned_back card _ c.from_residual.result (fresh_refused card _ (rw c.in_err-state.was at c.fresh.ensures)) c.from_residual.ensures.1
+
+pub returns-in_err-net-clause-turned_back : goal.returns-in_err-net-clause-turned_back
+returns-in_err-net-clause-turned_back c =
+    let card = c.args.card.now in
+    turned_back card _ c.from_residual-in_err-net.result (flat_refused (judge card) _ _ (rw c.in_err-net.was at c.flat_net.ensures)) c.from_residual-in_err-net.ensures.1
+
+pub returns-clause-begun : goal.returns-clause-begun
+returns-clause-begun c =
+    let card = c.args.card.now in
+    let net = rw c.in_ok-net.was at c.flat_net.ensures in
+    let state = rw c.in_ok-state.was at c.fresh.ensures.state in
+    let run = ap₂ {C = Run} (λ (s : Lent) (xs : List ℕ). record { number = 1; state = s; left = xs }) state c.new.ensures in
+    let accepted = begun (judge card) _ net in
     record {
-      runs = c.is_accepted.ensures (judge card) (f.answer ∙ fresh_answer card);
-      net = c.flat_net-net.ensures;
+      accepted = accepted;
+      net = net;
       run = run;
-      text = text;
-      program = λ room calls last h e fit. story card c.first_line-line.result last _ room calls run text h e fit;
+      program = λ room calls last h e fit. story card _ room calls last accepted run h e fit;
     }

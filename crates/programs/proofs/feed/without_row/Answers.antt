@@ -3,4 +3,4 @@ use Rattle.programs.proofs.FeedLaws.{row_missing}
 use Rattle.programs.proofs.feed.without_row.Goals as goal
 
 pub returns : goal.returns
-returns c = λ j h. row_missing c.args.net c.args.state c.net_row.result _ (omega arith) j h (c.net_row.ensures _ h)
+returns c = row_missing c.args.net.now c.requires c.args.state c.row.result _ (omega arith) c.row.ensures

@@ -1,23 +1,22 @@
-use Rattle.std.proofs.Common.{◌≡◌, ℕ, List, sym, ap, ◌∙◌, arith}
-use Rattle.std.proofs.Math.Option.{Option, none}
-use Rattle.runners.specs.Rows.{no_row, or_no_row}
-use Rattle.programs.specs.Files.{file_row}
-use Rattle.programs.specs.declared.file.FileRow.{FileRow}
-use Rattle.programs.proofs.FileLaws.{cells_length, cells_fill, cells_handed}
+use Rattle.std.proofs.Common.{◌-◌, ◌*◌, ℕ, List, Some, sym, ap, ◌∙◌}
+use Rattle.card.specs.Fields.{field_at}
+use Rattle.programs.proofs.FileLaws.{row_length, row_fill, row_cells}
 use Rattle.programs.proofs.file.cells_of.Goals as goal
 
--- bytes that hold nothing are handed out as no row
-nothing : {r : FileRow} {o : Option (List ℕ)} → r ≡ file_row no_row → o ≡ none → r ≡ file_row (or_no_row o)
-nothing e n = e ∙ ap (λ (o : Option (List ℕ)). file_row (or_no_row o)) (sym n)
-
 pub returns-then-bytes-n : goal.returns-then-bytes-n
-returns-then-bytes-n c = nothing c.no_row.ensures (cells_length _ _ _ _ c.if-bytes-n.true)
+returns-then-bytes-n c = sym (row_length c.args.bytes.now c.args.signals (λ e. c.if-bytes-n.true (e ∙ sym c.row_bytes-n.ensures)))
 
 pub returns-then-field_at-ne0 : goal.returns-then-field_at-ne0
 returns-then-field_at-ne0 c =
-    nothing c.no_row-then-field_at-ne0.ensures (cells_fill _ _ _ _ c.if-bytes-n.false _ c.field_at.ensures c.if-field_at-ne0.true)
+    let bytes = c.args.bytes.now in
+    let g = c.args.signals in
+    let e = c.row_bytes-n.ensures in
+    sym (row_fill bytes g (c.if-bytes-n.false ∙ e) c.field_at.result (c.field_at.ensures ∙ ap (λ (n : ℕ). field_at bytes (10 * g) (8 * n - 10 * g)) e) c.if-field_at-ne0.true)
 
 pub returns : goal.returns
 returns c =
-    cells_handed c.args.lead c.args.cell c.args.signals c.args.bytes.now c.if-bytes-n.false _ c.field_at.ensures (omega arith) c.if-field_at-ne0.false _
-    c.cells_in.ensures
+    let bytes = c.args.bytes.now in
+    let g = c.args.signals in
+    let e = c.row_bytes-n.ensures in
+    ap (λ (xs : List ℕ). Some xs) c.cells_in.ensures
+    ∙ sym (row_cells bytes g (c.if-bytes-n.false ∙ e) c.field_at.result (c.field_at.ensures ∙ ap (λ (n : ℕ). field_at bytes (10 * g) (8 * n - 10 * g)) e) c.if-field_at-ne0.false)

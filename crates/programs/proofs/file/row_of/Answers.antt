@@ -1,20 +1,15 @@
-use borrow.Author.Tests.{not-false}
-use Rattle.std.proofs.Common.{◌≡◌, length, ap, arith, rules}
-use Rattle.programs.specs.declared.file.FileRow.{FileRow}
-use Rattle.programs.proofs.FileLaws.{count_few, row_marked, row_unmarked}
+use borrow.Author.Tests.{both_ways}
+use Rattle.std.proofs.Common.{List, ℕ, Some, ap, ◌∙◌}
+use Rattle.programs.proofs.FileLaws.{row_marked, row_unmarked}
 use Rattle.programs.proofs.file.row_of.Goals as goal
 
-pub returns-then-all_marked : goal.returns-then-all_marked
-returns-then-all_marked c = (
-  λ f e l. row_marked f _ _ e _ c.cells_of-row.ensures _ c.all_marked.ensures (not-false _ c.if-not-row.false) c.if-all_marked.true _ c.empty_row.ensures,
-  λ l. absurd (omega arith),
-  omega (arith, ap (λ (w : FileRow). w.count) c.empty_row.ensures),
-)
+pub returns-then-is_marked-clause-row : goal.returns-then-is_marked-clause-row
+returns-then-is_marked-clause-row c = λ f e l.
+    ap (λ (xs : List ℕ). Some xs) c.empty.ensures
+    ∙ row_marked f c.args.bytes.now c.args.signals e c.cells_of.result c.cells_of.ensures c.in_ok-row.row c.in_ok-row.was
+    (rw c.degrees.ensures.value at (c.is_marked.ensures.0 c.if-is_marked.true))
 
-pub returns : goal.returns
-returns c =
-    let long : length c.cells_of-row.result.degrees ≡ 63 = search rules in (
-      λ f e l. row_unmarked f _ _ e _ c.cells_of-row.ensures _ c.all_marked.ensures (not-false _ c.if-not-row.false) c.if-all_marked.false,
-      λ l. absurd (omega arith),
-      count_few _ _ c.cells_of-row.ensures long,
-    )
+pub returns-clause-row : goal.returns-clause-row
+returns-clause-row c = λ f e l.
+    row_unmarked f c.args.bytes.now c.args.signals e c.cells_of.result c.cells_of.ensures c.in_ok-row.row c.in_ok-row.was
+    (λ a. both_ways c.is_marked.result c.if-is_marked.false ((rw c.degrees.ensures.value at c.is_marked.ensures).1 a))

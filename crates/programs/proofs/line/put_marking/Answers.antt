@@ -1,7 +1,9 @@
-use Rattle.std.proofs.Common.{arith}
-use Rattle.programs.proofs.LineLaws.{puts_most, decimal_long}
+use Rattle.std.proofs.Common.{◌∷◌, arith}
+use Rattle.programs.specs.Text.{decimal}
+use Rattle.programs.specs.Lines.{longest}
+use Rattle.programs.proofs.LineLaws.{appended_few, decimal_long}
 use Rattle.programs.proofs.line.put_marking.Goals as goal
 
-pub returns : goal.returns
-returns c =
-    (c.put_number.ensures, omega (arith, puts_most _ _ _ _ _ c.put_number.ensures, decimal_long 9 c.args.m (omega arith)))
+pub returns-clause-short : goal.returns-clause-short
+returns-clause-short c =
+    omega (arith, appended_few longest c.args.line.now (32 ∷ decimal c.args.marking) _ c.put_number.ensures, decimal_long 9 c.args.marking (omega arith))

@@ -1,15 +1,10 @@
-use Rattle.std.proofs.Common.{◌-◌, ◌+◌, ◌*◌, ◌≤◌, map, take}
+use Rattle.std.proofs.Common.{◌≡◌, ◌+◌, ◌*◌, ◌≤◌, ◌++◌, length, map, take}
 use Rattle.programs.specs.Text.{decimal}
-use Rattle.programs.specs.Lines.{Puts, spaced}
+use Rattle.programs.specs.Lines.{longest, spaced}
 use Rattle.programs.proofs.line.put_markings.Given as goal
 
-abbrev pub invariant-loop-i : goal.invariant-loop-i
-invariant-loop-i l = record {
-  puts : Puts l.initial.out l.at (spaced (map decimal (take l.i l.state.markings))) l.out l.next;
-  most : l.next ≤ l.at + 11 * l.i;
-  within : l.i ≤ 255;
-  counted : l.i ≤ l.count;
+abbrev pub invariant-loop-marking : goal.invariant-loop-marking
+invariant-loop-marking l = record {
+  words : l.line ≡ take longest (l.initial.line ++ spaced (map decimal (take l.marking-index l.marking-items)));
+  short : length l.line ≤ length l.initial.line + 11 * l.marking-index;
 }
-
-abbrev pub decreases-loop-i : goal.decreases-loop-i
-decreases-loop-i l = 255 - l.i

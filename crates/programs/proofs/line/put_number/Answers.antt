@@ -1,7 +1,8 @@
 use Rattle.std.proofs.Common.{[], ◌∷◌}
 use Rattle.programs.specs.Text.{decimal}
-use Rattle.programs.proofs.LineLaws.{puts_join}
+use Rattle.programs.specs.Lines.{longest}
+use Rattle.programs.proofs.TextLaws.{append_twice}
 use Rattle.programs.proofs.line.put_number.Goals as goal
 
 pub returns : goal.returns
-returns c = puts_join _ _ (32 ∷ []) _ _ (decimal c.args.n) _ _ c.put_byte-next.ensures c.put_decimal.ensures
+returns c = append_twice longest c.args.line.now (32 ∷ []) (decimal c.args.n) _ _ c.push.ensures c.push_decimal.ensures

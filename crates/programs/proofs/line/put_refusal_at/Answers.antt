@@ -1,9 +1,16 @@
-use Rattle.std.proofs.Common.{arith}
-use Rattle.programs.proofs.LineLaws.{puts_most, decimal_long, value_words_is}
+use Rattle.std.proofs.Common.{◌∷◌, arith}
+use Rattle.programs.specs.Text.{decimal}
+use Rattle.programs.specs.Lines.{longest}
+use Rattle.programs.proofs.LineLaws.{appended_few, decimal_long, value_words_is}
 use Rattle.programs.proofs.line.put_refusal_at.Goals as goal
 
 pub returns : goal.returns
-returns c =
-    let p = c.put_refusal-next.ensures in
-    let q = c.put_number.ensures in
-    (value_words_is c.args.n c.args.value _ _ _ _ _ _ p.0 q, omega (arith, p.1, puts_most _ _ _ _ _ q, decimal_long 19 c.args.value (omega arith)))
+returns c = record {
+  words = value_words_is c.args.number c.args.value longest c.args.line.now _ _ c.put_refusal.ensures.words c.put_number.ensures;
+  short = omega (
+    arith,
+    c.put_refusal.ensures.short,
+    appended_few longest c.put_refusal.new.line (32 ∷ decimal c.args.value) _ c.put_number.ensures,
+    decimal_long 19 c.args.value (omega arith),
+  );
+}

@@ -1,12 +1,25 @@
-use Rattle.std.proofs.Common.{arith}
+use Rattle.std.proofs.Common.{[], ◌∷◌, arith}
 use Rattle.runners.specs.Calls.{view}
-use Rattle.programs.proofs.LineLaws.{puts_most, state_words_is}
+use Rattle.programs.specs.Lines.{longest}
+use Rattle.programs.proofs.LineLaws.{appended_few, appended_fits, state_words_is}
 use Rattle.programs.proofs.line.put_state.Goals as goal
 
+pub put_markings-requires : goal.put_markings-requires
+put_markings-requires c = appended_fits longest c.args.line.now (111 ∷ 107 ∷ []) _ c.extend_from_slice.ensures
+
+pub put_transfers-requires : goal.put_transfers-requires
+put_transfers-requires c = appended_fits longest c.put_markings.new.line (32 ∷ 124 ∷ []) _ c.extend_from_slice-2.ensures
+
 pub returns : goal.returns
-returns c =
-    let p = c.put_two-a.ensures in
-    let q = c.put_markings-b.ensures in
-    let o = c.put_two-c.ensures in
-    let u = c.put_transfers.ensures in
-    (state_words_is (view c.args.state) _ _ _ _ _ _ _ _ _ _ p q.0 o u.0, omega (arith, q.1, u.1, puts_most _ _ _ _ _ p, puts_most _ _ _ _ _ o))
+returns c = record {
+  words =
+      state_words_is (view c.args.state.now) longest c.args.line.now _ _ _ _ c.extend_from_slice.ensures c.put_markings.ensures.words c.extend_from_slice-2.ensures
+      c.put_transfers.ensures.words;
+  short = omega (
+    arith,
+    appended_few longest c.args.line.now (111 ∷ 107 ∷ []) _ c.extend_from_slice.ensures,
+    c.put_markings.ensures.short,
+    appended_few longest c.put_markings.new.line (32 ∷ 124 ∷ []) _ c.extend_from_slice-2.ensures,
+    c.put_transfers.ensures.short,
+  );
+}

@@ -1,15 +1,9 @@
-use Rattle.std.proofs.Common.{◌-◌, ◌+◌, ◌*◌, ◌≤◌, map, take}
-use Rattle.runners.specs.declared.Slot.{Slot}
-use Rattle.programs.specs.Lines.{Puts, spaced, transfer_word}
+use Rattle.std.proofs.Common.{◌≡◌, ◌+◌, ◌*◌, ◌≤◌, ◌++◌, length, map, take}
+use Rattle.programs.specs.Lines.{longest, spaced, transfer_word}
 use Rattle.programs.proofs.line.put_transfers.Given as goal
 
-abbrev pub invariant-loop-i : goal.invariant-loop-i
-invariant-loop-i l = record {
-  puts : Puts l.initial.out l.at (spaced (map transfer_word (take l.i (map (λ (x : Slot). x.transfer) l.state.slots)))) l.out l.next;
-  most : l.next ≤ l.at + 6 * l.i;
-  within : l.i ≤ 255;
-  counted : l.i ≤ l.count;
+abbrev pub invariant-loop-transfer : goal.invariant-loop-transfer
+invariant-loop-transfer l = record {
+  words : l.line ≡ take longest (l.initial.line ++ spaced (map transfer_word (take l.transfer-index l.transfer-items)));
+  short : length l.line ≤ length l.initial.line + 6 * l.transfer-index;
 }
-
-abbrev pub decreases-loop-i : goal.decreases-loop-i
-decreases-loop-i l = 255 - l.i

@@ -1,7 +1,8 @@
+use Rattle.std.proofs.Common.{length, ap, arith}
 use Rattle.programs.proofs.LineLaws.{card_done}
 use Rattle.programs.proofs.line.refusal_line.Goals as goal
 
 pub returns : goal.returns
 returns c =
-    let w = c.put_refusal_at-a.ensures in
-    card_done c.args.number c.args.value _ _ _ _ w.0 w.1 c.put_byte-length.ensures
+    card_done c.args.number c.args.value _ _ (rw c.new-line.ensures at c.put_refusal_at.ensures.words)
+    (omega (arith, ap length c.new-line.ensures, c.put_refusal_at.ensures.short)) c.push.ensures

@@ -6,6 +6,5 @@ use Rattle.programs.proofs.line.reply_line.Goals as goal
 
 pub returns : goal.returns
 returns c =
-    let w = c.put_reply-c.ensures in
-    reply_done (row_outcome c.args.reply) (view c.args.state) c.args.n _ _ _ _ _ _ _ _ (omega arith) c.put_decimal-a.ensures c.put_byte-b.ensures w.0 w.1
-    c.put_byte-length.ensures
+    reply_done (row_outcome c.args.reply) (view c.args.state.now) c.args.n _ _ _ _ (omega arith) (rw c.new-line.ensures at c.push_decimal.ensures) c.push.ensures
+    c.put_reply.ensures.words c.put_reply.ensures.short c.push-2.ensures

@@ -1,17 +1,16 @@
 -- `runners::flat_runner::flat_net` meets its contract.
-use Rattle.std.proofs.Common.{replicate, refl}
-use Rattle.card.specs.Tables.{table_size}
-use Rattle.hierarchy.specs.Judgement.{judge}
-use Rattle.flattening.proofs.FlatCardLaws.{lent_flat_is}
-use Rattle.runners.specs.Nets.{flat_judged}
-use Rattle.runners.proofs.NetLaws.{flat_card_loaded}
+use Rattle.std.proofs.Common.{rules}
+use Rattle.std.proofs.lemmas.Result.{err_from_is_err_and}
+use Rattle.runners.proofs.NetLaws.{flat_loaded_meets, flat_net_refused, flat_net_accepted}
 use Rattle.runners.proofs.flat_runner.flat_net.Goals as goal
 
+pub returns-in_err-loaded : goal.returns-in_err-loaded
+returns-in_err-loaded c =
+    let p = err_from_is_err_and c.from_residual.result c.from_residual.ensures.1 in
+    rw (p.1, p.2) (flat_net_refused c.args.card.now c.in_err-loaded.field-0.0 c.in_err-loaded.ensures.flat_card.answer)
+
+pub new-requires-clause-meets : goal.new-requires-clause-meets
+new-requires-clause-meets c = flat_loaded_meets c.args.card.now c.load_flat.new.numbers c.load_flat.new.flat c.in_ok-loaded.loaded (search rules)
+
 pub returns : goal.returns
-returns c =
-    let a = c.args in
-    let x = c.load_flat-k in
-    let y = x.ensures in
-    let t = lent_flat_is a.card.now _ (replicate table_size 0) x.new.numbers (replicate table_size 0) x.new.flat y.lent_flat refl in
-    let o = c.flat_answer-answer in
-    c.net_of-n.ensures (flat_judged (judge a.card.now)) (flat_card_loaded a.card.now x.result table_size table_size x.new.numbers x.new.flat o.result y.flat_card t.0 t.1 refl (o.ensures (judge a.card.now) y.flat_card.answer))
+returns c = flat_net_accepted c.args.card.now c.load_flat.new.numbers c.load_flat.new.flat c.in_ok-loaded.loaded (search rules) c.new.result c.new.ensures

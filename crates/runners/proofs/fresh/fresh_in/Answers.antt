@@ -1,25 +1,20 @@
 -- `runners::fresh::fresh_in` meets its contract.
-use Rattle.std.proofs.Common.{ap}
-use Rattle.card.proofs.ReadLaws.{lent_is}
-use Rattle.hierarchy.proofs.Accepted.{accepted_loaded}
-use Rattle.runners.specs.declared.State.{State}
+use Rattle.std.proofs.Common.{rules}
+use Rattle.std.proofs.lemmas.Result.{err_from_is_err_and}
+use Rattle.hierarchy.specs.Judgement.{IsAccepted}
+use Rattle.runners.proofs.NetLaws.{loaded_meets}
 use Rattle.runners.proofs.FreshLaws.{fresh_refused, fresh_accepted}
 use Rattle.runners.proofs.fresh.fresh_in.Goals as goal
 
-pub returns-in_default-clause-fresh : goal.returns-in_default-clause-fresh
-returns-in_default-clause-fresh c =
-    let a = c.args in
-    let x = c.load-k in
-    let h = accepted_loaded a.card.now x.result _ x.new.numbers x.ensures.checked (lent_is _ _ a.numbers.now x.new.numbers x.ensures.lent c.requires) in
-    fresh_refused a.card.now x.result.answer _ _ h _ _ c.blank.result c.in_default.is c.blank.ensures
+pub returns-in_err-checked : goal.returns-in_err-checked
+returns-in_err-checked g c =
+    let p = err_from_is_err_and c.from_residual.result c.from_residual.ensures.1 in
+    rw (p.1, p.2) (fresh_refused c.args.card.now c.in_err-checked.field-0.0 c.in_err-checked.ensures.checked.answer)
 
-pub returns-clause-fresh : goal.returns-clause-fresh
-returns-clause-fresh c =
-    let a = c.args in
-    let x = c.load-k in
-    let h = accepted_loaded a.card.now x.result _ x.new.numbers x.ensures.checked (lent_is _ _ a.numbers.now x.new.numbers x.ensures.lent c.requires) in
-    let b = c.blank-s in
-    let m = c.by_place-m in
-    fresh_accepted a.card.now x.result.answer _ _ h _ _ _ c.narrow.result c.signals.result m.result c.in-Accepted.is c.narrow.ensures.0 c.signals.ensures m.ensures
-    (record { markings = m.result; slots = b.result.slots; degrees = b.result.degrees; places = b.result.places; transitions = b.result.transitions; signals = b.result.signals })
-    (ap (λ (y : State). record { markings = m.result; slots = y.slots; degrees = y.degrees; places = y.places; transitions = y.transitions; signals = y.signals }) b.ensures)
+pub fresh_state-requires : goal.fresh_state-requires
+fresh_state-requires g c = rw c.new.ensures (loaded_meets c.args.card.now c.load.new.numbers c.in_ok-checked.checked (search rules))
+
+pub returns : goal.returns
+returns g c =
+    let h : IsAccepted c.args.card.now c.load.new.numbers c.in_ok-checked.checked = search rules in
+    fresh_accepted c.args.card.now _ h.judged c.new.result c.new.ensures c.fresh_state.result c.fresh_state.ensures

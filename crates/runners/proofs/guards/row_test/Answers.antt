@@ -1,23 +1,24 @@
 -- `runners::guards::row_test` meets its contract.
-use Rattle.runners.proofs.GuardLaws.{row_empty, row_long, row_high, row_fits}
+use Rattle.std.proofs.Common.{◌∙◌, sym, rules, tests, arith}
+use Rattle.std.specs.Prelude.{Some, None}
+use Rattle.flattening.specs.Flattening.{flatten}
+use Rattle.runners.proofs.GuardLaws.{same_signals, row_empty, row_long, row_high}
 use Rattle.runners.proofs.guards.row_test.Goals as goal
 
-pub returns-then-row-eq0 : goal.returns-then-row-eq0
-returns-then-row-eq0 c =
-    let a = c.args in
-    λ k e u. row_empty k a.row.now a.signals a.scale e u c.if-row-eq0.true
+pub returns-then-is_empty : goal.returns-then-is_empty
+returns-then-is_empty c = row_empty (flatten c.args.card.now) c.args.row.now (search (rules, tests))
 
 pub returns-then-row-signals : goal.returns-then-row-signals
 returns-then-row-signals c =
     let a = c.args in
-    λ k e u. row_long k a.row.now a.signals a.scale e u c.if-row-eq0.false c.if-row-signals.true
+    row_long (flatten a.card.now) a.row.now (search (rules, tests)) (λ e. c.if-row-signals.true (e ∙ same_signals a.card.now ∙ sym c.signals.ensures.value))
 
-pub returns-then-g-signals : goal.returns-then-g-signals
-returns-then-g-signals c =
+pub returns-in-Some : goal.returns-in-Some
+returns-in-Some c =
     let a = c.args in
-    λ k e u. row_high k a.row.now a.signals a.scale e u c.high_degree-g.result c.if-row-signals.false c.high_degree-g.ensures c.if-g-signals.true
+    row_high (flatten a.card.now) a.row.now (omega (arith, c.if-row-signals.false, c.signals.ensures.value, same_signals a.card.now)) (Some c.in-Some.signal) c.in-Some.ensures
 
-pub returns : goal.returns
-returns c =
+pub returns-in-None : goal.returns-in-None
+returns-in-None c =
     let a = c.args in
-    λ k e u. row_fits k a.row.now a.signals a.scale e u c.high_degree-g.result c.if-row-signals.false c.high_degree-g.ensures c.if-g-signals.false
+    row_high (flatten a.card.now) a.row.now (omega (arith, c.if-row-signals.false, c.signals.ensures.value, same_signals a.card.now)) None c.in-None.ensures

@@ -1,31 +1,22 @@
 -- `runners::row::step` meets its contract.
-use Rattle.std.proofs.Common.{rules, ◌≡◌, Bool, false, [], length, arith}
-use Rattle.std.proofs.Math.ListN.{length-replicate}
-use Rattle.runners.specs.Calls.{view}
-use Rattle.runners.proofs.StepRow.{begins, row_conflict, free_of, turn_move, row_moved}
+use Rattle.std.proofs.Common.{rules, ◌≡◌, length}
+use Rattle.runners.proofs.RowLaws.{step_refused, step_made}
 use Rattle.runners.proofs.row.step.Goals as goal
 
-pub returns-then-p-places : goal.returns-then-p-places
-returns-then-p-places c =
+pub returns-in-Some : goal.returns-in-Some
+returns-in-Some c =
     let a = c.args in
-    let x = c.codes-transfers in
-    let f = c.find_conflict-p in
-    λ k n v o rl.
-    let g = f.ensures.found k (view a.state) n.tables n.full n.sizes.places o (begins k n.tables.meets a.state v a.row.now x.result x.ensures) (length-replicate {A = Bool} 255 false) in
-    row_conflict k (view a.state) a.row.now f.result a.sizes.places n.sizes.places g.conflicts a.state _ c.refuse.result c.refuse.ensures c.if-p-places.true
+    let k = c.card-card in
+    let q = c.requires in
+    step_refused a.net.now k.ensures.meets a.state.now q.valid a.order.now q.ordered a.row.now k.result.now k.ensures.value c.new-work.result c.visit_all.new.work c.visit_all-2.new.work c.new-work.ensures c.visit_all.ensures c.visit_all-2.ensures
+    c.full.result.now c.full.ensures c.places.result c.places.ensures.value c.uncovered.result c.uncovered.ensures c.in-Some.p c.in-Some.is
 
 pub returns : goal.returns
 returns c =
     let a = c.args in
-    let x = c.codes-transfers in
-    let f = c.find_conflict-p in
-    let ml : length a.state.markings ≡ 255 = search rules in
-    let sl : length a.state.slots ≡ 255 = search rules in
-    λ k n v o rl.
-    let g = f.ensures.found k (view a.state) n.tables n.full n.sizes.places o (begins k n.tables.meets a.state v a.row.now x.result x.ensures) (length-replicate {A = Bool} 255 false) in
-    let cs = f.new.candidates in
-    let p3 = c.move_all.ensures.on_state [] [] [] [] k (view a.state) n.tables o (turn_move k n.tables.meets a.state v a.row.now x.result x.ensures [] [] [] [] cs g.candidates) in
-    row_moved k n.tables.meets a.state v a.row.now x.result x.ensures [] [] [] [] cs g.candidates _ _ c.record_degrees-after.result c.stored.result p3 c.stored.ensures
-    (c.record_degrees-after.ensures (omega (arith, rl, n.tables.meets.wellformed.few_signals))) rl
-    (free_of k (view a.state) a.row.now f.result a.sizes.places n.sizes.places g.conflicts c.if-p-places.false)
-    ml sl
+    let k = c.card-card in
+    let q = c.requires in
+    let ml : length a.state.now.markings ≡ 255 = search rules in
+    let xl : length a.state.now.transfers ≡ 255 = search rules in
+    step_made a.net.now k.ensures.meets a.state.now q.valid a.order.now q.ordered a.row.now k.result.now k.ensures.value c.new-work.result c.visit_all.new.work c.visit_all-2.new.work c.new-work.ensures c.visit_all.ensures c.visit_all-2.ensures
+    c.full.result.now c.full.ensures c.places.result c.places.ensures.value c.uncovered.result c.uncovered.ensures (search rules) c.visit_all-3.new.work c.visit_all-3.ensures q.long ml xl c.record_degrees.new.state c.record_degrees.ensures

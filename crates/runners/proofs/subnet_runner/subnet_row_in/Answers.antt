@@ -1,14 +1,27 @@
 -- `runners::subnet_runner::subnet_row_in` meets its contract.
-use Rattle.card.proofs.ReadLaws.{lent_is}
-use Rattle.hierarchy.specs.Judgement.{judge}
-use Rattle.runners.proofs.NetLaws.{card_loaded, own_net_row}
+use Rattle.std.proofs.Common.{rules, ap, ◌∙◌}
+use Rattle.card.specs.Card.{Card}
+use Rattle.std.proofs.lemmas.Result.{err_from_is_err_and}
+use Rattle.hierarchy.specs.Judgement.{accepted, IsAccepted}
+use Rattle.runners.specs.Calls.{called, in_order}
+use Rattle.runners.proofs.NetLaws.{loaded_meets}
+use Rattle.runners.proofs.CallLaws.{subnet_refused, subnet_called}
 use Rattle.runners.proofs.subnet_runner.subnet_row_in.Goals as goal
 
-pub returns-clause-row : goal.returns-clause-row
-returns-clause-row c =
+pub by_place-full-requires : goal.by_place-full-requires
+by_place-full-requires g c = rw c.new-card.ensures (loaded_meets c.args.card.now c.load.new.numbers c.in_ok-checked.checked (search rules))
+
+pub new-requires-clause-meets : goal.new-requires-clause-meets
+new-requires-clause-meets g c = rw c.new-card.ensures (loaded_meets c.args.card.now c.load.new.numbers c.in_ok-checked.checked (search rules))
+
+pub returns-in_err-checked : goal.returns-in_err-checked
+returns-in_err-checked g c =
     let a = c.args in
-    let x = c.load-k in
-    let j = judge a.card.now in
-    let t = lent_is _ _ a.numbers.now x.new.numbers x.ensures.lent c.requires in
-    let l = card_loaded a.card.now x.result _ x.new.numbers x.ensures.checked t in
-    own_net_row a.card.now a.order.now a.row.now a.state c.row_on.result (c.row_on.ensures j (c.net_of-n.ensures j l))
+    let p = err_from_is_err_and c.from_residual.result c.from_residual.ensures.1 in
+    rw (p.1, p.2) (subnet_refused a.card.now a.row.now a.state.now a.order.now c.in_err-checked.field-0.0 c.in_err-checked.ensures.checked.answer)
+
+pub returns : goal.returns
+returns g c =
+    let a = c.args in
+    let h : IsAccepted a.card.now c.load.new.numbers c.in_ok-checked.checked = search rules in
+    c.called_row.ensures ∙ ap (λ (k : Card). called (in_order a.order.now) (accepted k) a.state.now a.row.now) (c.new.ensures ∙ c.new-card.ensures) ∙ subnet_called a.card.now a.row.now a.state.now a.order.now _ h.judged
