@@ -7,7 +7,7 @@ use card::INPUT_BYTES;
 use console::{put, read_file, read_input};
 use hierarchy::check::check;
 use programs::agree::agree;
-use programs::line::Line;
+use programs::line::turned_back_line;
 use std::io;
 
 fn put_agreed(rt: &HostRuntime, yes: bool) -> io::Result<()> {
@@ -20,7 +20,7 @@ fn put_agreed(rt: &HostRuntime, yes: bool) -> io::Result<()> {
 fn put_answer(rt: &HostRuntime, card: &[u8], calls: &[u8]) -> io::Result<()> {
     match check(card) {
         Ok(_counts) => put_agreed(rt, agree(card, calls)),
-        Err(refusal) => put(rt, Line::from(refusal).as_slice()),
+        Err(refusal) => put(rt, turned_back_line(refusal).as_slice()),
     }
 }
 

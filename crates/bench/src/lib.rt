@@ -4,8 +4,9 @@
 
 mod rows;
 
+use card::Counts;
 use card::reader::read;
-use card::{Counts, SMALL_CARD, SMALL_TABLE, TABLE};
+use card::room::with_table;
 use hierarchy::check::check;
 
 fn accepted(counts: Counts) -> u64 {
@@ -25,7 +26,7 @@ fn topped(n: u16, answer: u64) -> u64 {
 // What the reader answers, below the number of field i. It looks at the table, so that no compiler leaves the table out.
 fn read_field_in(card: &[u8], i: usize, numbers: &mut [u16]) -> u64 {
     let answer = match read(card, numbers) {
-        Ok(read) => accepted(read.counts),
+        Ok(index) => accepted(index.counts()),
         Err(why) => refused(why.fault.number(), why.bit),
     };
     topped(numbers.get(i).copied().unwrap_or(0), answer)
@@ -33,12 +34,7 @@ fn read_field_in(card: &[u8], i: usize, numbers: &mut [u16]) -> u64 {
 
 #[unsafe(no_mangle)]
 pub extern "C" fn read_field(card: &[u8], i: usize) -> u64 {
-    if card.len() <= SMALL_CARD {
-        let mut numbers = [0; SMALL_TABLE];
-        return read_field_in(card, i, &mut numbers);
-    }
-    let mut numbers = [0; TABLE];
-    read_field_in(card, i, &mut numbers)
+    with_table(card.len(), &mut |numbers| read_field_in(card, i, numbers))
 }
 
 // What the check answers.

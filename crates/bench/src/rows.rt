@@ -20,10 +20,10 @@ pub extern "C" fn flat_rows(card: &[u8], rows: &[u16]) -> u64 {
     let Ok(net) = flat_net(card) else {
         return 0;
     };
-    let Ok(state) = fresh(card) else {
+    let Ok(first) = fresh(card) else {
         return 0;
     };
-    sum(net.rows(&[0], state, rows))
+    sum(net.rows(&[0], first.state, rows))
 }
 
 // The rows on the card's own subnets, visited in this order, and how the markings end. A refused card has none.
@@ -32,8 +32,8 @@ pub extern "C" fn subnet_rows(card: &[u8], order: &[u16], rows: &[u16]) -> u64 {
     let Ok(net) = card_net(card) else {
         return 0;
     };
-    let Ok(state) = fresh(card) else {
+    let Ok(first) = fresh(card) else {
         return 0;
     };
-    sum(net.rows(order, state, rows))
+    sum(net.rows(order, first.state, rows))
 }

@@ -1,25 +1,16 @@
 -- Bits and fields of bytes, and the span of three bytes in which a field lies. Assumes nothing.
 use Prim.Native.Nat.{ℕ, zero, suc, ◌+◌, ◌-◌, ◌*◌, ◌/◌, ◌%◌, ◌^◌, ◌≤◌, ◌<◌}
 use mathlib.Core.Path.{◌≡◌, refl, ap, sym, ◌∙◌}
-use mathlib.Core.Bool.{Bool, true, false}
 use mathlib.Core.List.{List}
 use mathlib.Core.Logic.{◌⊎◌, inl, inr}
 use native.Mathlib.Nat.{add-zero, pow-suc, div-one, div-eq_of_lt, mod-lt, mul-add-mod_self_right}
 use native.Mathlib.Omega.{arith}
 use lib.ListN.{length, get_or}
-use lib.Dec.{ltb}
 use lib.Seq.{ext_get_or}
 use lib.Pow.{pow_pos, field, high, mod-mod-pow, shr-shr}
-use borrow.Author.Tests.{ltb-true, ltb-false}
+use Rattle.std.proofs.lemmas.Bool.{cases_lt}
 use Rattle.card.specs.Bits.{bit, bit_field}
 use Rattle.card.specs.inner.Spans.{span, Span}
-
-pub lt_or_ge : (a b : ℕ) → (a < b) ⊎ (b ≤ a)
-lt_or_ge a b = go (ltb a b) refl
-  where
-    go : (t : Bool) → ltb a b ≡ t → (a < b) ⊎ (b ≤ a)
-    go true e = inl (ltb-true a b e)
-    go false e = inr (ltb-false a b e)
 
 -- a number has the low bits of its remainder by a power of two
 pub low_digit : (n w u : ℕ) → u < w → n % 2 ^ w / 2 ^ u % 2 ≡ n / 2 ^ u % 2
@@ -64,7 +55,7 @@ field_is f at w v hv hb =
 pub three_bit : (bytes : List ℕ) (k a b c : ℕ) → b < 256 → c < 256 → (j : ℕ) → j < 24
     → (j < 8 → get_or bytes k 0 ≡ a) → (8 ≤ j → j < 16 → get_or bytes (k + 1) 0 ≡ b) → (16 ≤ j → get_or bytes (k + 2) 0 ≡ c)
     → bit bytes (8 * k + j) ≡ (65536 * a + (256 * b + c)) / 2 ^ (23 - j) % 2
-three_bit bytes k a b c hb hc j h is_a is_b is_c = split (lt_or_ge j 8) (lt_or_ge j 16) ∙ ap (λ (n : ℕ). n / 2 ^ (23 - j) % 2) (omega arith)
+three_bit bytes k a b c hb hc j h is_a is_b is_c = split (cases_lt j 8) (cases_lt j 16) ∙ ap (λ (n : ℕ). n / 2 ^ (23 - j) % 2) (omega arith)
   where
     split : (j < 8) ⊎ (8 ≤ j) → (j < 16) ⊎ (16 ≤ j) → bit bytes (8 * k + j) ≡ ((a * 2 ^ 8 + b) * 2 ^ 8 + c) / 2 ^ (23 - j) % 2
     split (inl l) m =
@@ -128,7 +119,7 @@ pub field_bits : (f g : ℕ → ℕ) → ((i : ℕ) → f i < 2) → ((i : ℕ) 
     → (i : ℕ) → at ≤ i → i < at + w → f i ≡ g i
 unfolding bit_field
 field_bits f g hf hg at zero e i l u = absurd (omega arith)
-field_bits f g hf hg at (suc w) e i l u = go (lt_or_ge i (at + w)) (field_bits f g hf hg at w (omega (arith, hf (at + w), hg (at + w))) i l)
+field_bits f g hf hg at (suc w) e i l u = go (cases_lt i (at + w)) (field_bits f g hf hg at w (omega (arith, hf (at + w), hg (at + w))) i l)
   where
     go : (i < at + w) ⊎ (at + w ≤ i) → (i < at + w → f i ≡ g i) → f i ≡ g i
     go (inl h) k = k h

@@ -16,9 +16,10 @@ use Rattle.card.specs.declared.layout.Layout.{Layout}
 use Rattle.card.specs.declared.layout.Next.{Next}
 use Rattle.card.specs.declared.layout.Next.TheVariants.{More, Done}
 use Rattle.std.specs.Prelude.{Ok}
+use Rattle.std.proofs.lemmas.Bool.Decides.{Decides-and}
 use Rattle.card.specs.Tables.{table_size, card_bits}
 use Rattle.card.specs.Writing.{bits_before}
-use Rattle.card.proofs.Decides.{le_is, and_is, some_unless_is}
+use Rattle.card.proofs.Decides.{le_is, some_unless_is}
 use Rattle.card.proofs.Shape.{One, times, arc_s, place_s, transition_s, subnets_s, card_s}
 
 abbrev SaneMove : Next → Type 0
@@ -34,7 +35,7 @@ module _ (l : Layout) (v : ℕ) (small : l.subnet + l.subnets ≤ 31) (places : 
   unfolding header subnet
   sane_move Version h e = record { head = h; subnet = small; places = places; transitions = transitions }
   sane_move SubnetCount h e =
-      let k = (some_unless_is _ _ _ (and_is _ _ _ _ (le_is 1 v) (le_is v max_subnets))).0 e in
+      let k = (some_unless_is _ _ _ (Decides-and _ _ (le_is 1 v) (le_is v max_subnets))).0 e in
       record { head = tt; subnet = omega (arith, k.1); places = places; transitions = transitions }
   sane_move SignalCount h e = record { head = tt; subnet = small; places = places; transitions = transitions }
   sane_move Limit h e = record { head = tt; subnet = small; places = places; transitions = transitions }
@@ -42,10 +43,10 @@ module _ (l : Layout) (v : ℕ) (small : l.subnet + l.subnets ≤ 31) (places : 
   sane_move Parent h e = record { head = tt; subnet = small; places = places; transitions = transitions }
   sane_move SubnetType h e = record { head = tt; subnet = small; places = places; transitions = transitions }
   sane_move PlaceCount h e =
-      let k = (some_unless_is _ _ _ (and_is _ _ _ _ (le_is 1 v) (le_is (l.places + v) max_count))).0 e in
+      let k = (some_unless_is _ _ _ (Decides-and _ _ (le_is 1 v) (le_is (l.places + v) max_count))).0 e in
       record { head = tt; subnet = small; places = k.1; transitions = transitions }
   sane_move TransitionCount h e =
-      let k = (some_unless_is _ _ _ (and_is _ _ _ _ (le_is 1 v) (le_is (l.transitions + v) max_count))).0 e in
+      let k = (some_unless_is _ _ _ (Decides-and _ _ (le_is 1 v) (le_is (l.transitions + v) max_count))).0 e in
       record { head = tt; subnet = small; places = places; transitions = k.1 }
   sane_move Kind h e = record { head = tt; subnet = small; places = places; transitions = transitions }
   sane_move Capacity h e = record { head = tt; subnet = small; places = places; transitions = transitions }
@@ -165,8 +166,8 @@ budget_subnets v g (suc n) s p t lp lt =
           λ places c1 c2. (
             omega arith,
             λ transitions d1 d2.
-                let x = (some_unless_is _ _ _ (and_is _ _ _ _ (le_is 1 places) (le_is (p + places) max_count))).0 c2 in
-                let y = (some_unless_is _ _ _ (and_is _ _ _ _ (le_is 1 transitions) (le_is (t + transitions) max_count))).0 d2 in
+                let x = (some_unless_is _ _ _ (Decides-and _ _ (le_is 1 places) (le_is (p + places) max_count))).0 c2 in
+                let y = (some_unless_is _ _ _ (Decides-and _ _ (le_is 1 transitions) (le_is (t + transitions) max_count))).0 d2 in
                 let r = budget_subnets v g n (suc s) (p + places) (t + transitions) x.1 y.1 in
                 let u = budget_times (transition_s v g) 127 wide (budget_transition v g) transitions (subnets_s v g n (suc s) (p + places) (t + transitions)) _ _ r in
                 budget_more (times places (place_s s) (times transitions (transition_s v g) (subnets_s v g n (suc s) (p + places) (t + transitions)))) _ _ _ _
@@ -187,8 +188,8 @@ budget_card = (
     λ subnets b1 b2. (
       omega arith,
       λ signals c1 c2.
-          let x = (some_unless_is _ _ _ (and_is _ _ _ _ (le_is 1 subnets) (le_is subnets max_subnets))).0 b2 in
-          let v = (some_unless_is _ _ _ (and_is _ _ _ _ (le_is 1 version) (le_is version max_version))).0 a2 in
+          let x = (some_unless_is _ _ _ (Decides-and _ _ (le_is 1 subnets) (le_is subnets max_subnets))).0 b2 in
+          let v = (some_unless_is _ _ _ (Decides-and _ _ (le_is 1 version) (le_is version max_version))).0 a2 in
           let none : (first width : ℕ) → max_version < first → since first width version ≡ 0 = λ first width l. since_none first width version (omega (arith, v.1)) in (
             omega (arith, none 4 8 (omega arith)),
             λ limit d1 d2. (

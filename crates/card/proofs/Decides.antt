@@ -3,44 +3,21 @@ use Prim.Native.Nat.{ℕ, zero, suc, ◌+◌, ◌≤◌, ◌<◌}
 use mathlib.Core.Path.{◌≡◌, refl, sym, subst}
 use mathlib.Core.Logic.Iff
 use mathlib.Core.Logic.{◌↔◌, ◌⊎◌, inl, inr}
-use mathlib.Core.Bool.{Bool, true, false, not, ◌&&◌, ◌||◌, cond, false≢true}
+use mathlib.Core.Bool.{Bool, true, false, not, ◌||◌, cond, false≢true}
 use mathlib.Core.Option.{Option, none, some, some-ne-none}
 use native.Mathlib.Omega.{arith}
-use lib.Dec.{leb, ltb, eqb}
-use borrow.Author.Tests.{eqb-true, eqb-false, ltb-true, leb-true, eq-eqb, lt-ltb, le-leb}
+use lib.Dec.{leb, eqb}
+use borrow.Author.Tests.{eqb-true, eqb-false, leb-true, le-leb}
+use Rattle.std.specs.Bool.{Decides}
+use Rattle.std.proofs.lemmas.Bool.Decides.{Decides-and, Decides-or}
 use Rattle.card.specs.Finite.{every, any, some_if, some_unless, first_of, ◌otherwise◌}
 
--- a test decides a proposition; a search that finds nothing proves one
-abbrev pub Decides : Bool → Type 0 → Type 0
-Decides b P = (b ≡ true) ↔ P
-
+-- a search that finds nothing proves a proposition
 abbrev pub Clears : {A : Type 0} → Option A → Type 0 → Type 0
 Clears o P = (o ≡ none) ↔ P
 
-pub eq_is : (a b : ℕ) → Decides (eqb a b) (a ≡ b)
-eq_is a b = (eqb-true a b, eq-eqb a b)
-
-pub lt_is : (a b : ℕ) → Decides (ltb a b) (a < b)
-lt_is a b = (ltb-true a b, lt-ltb a b)
-
 pub le_is : (a b : ℕ) → Decides (leb a b) (a ≤ b)
 le_is a b = (leb-true a b, le-leb a b)
-
-pub not_is : (b : Bool) (P : Type 0) → Decides b P → Decides (not b) (¬ P)
-not_is true P d = (λ e p. false≢true e, λ n. absurd (n (d.0 refl)))
-not_is false P d = (λ e p. false≢true (d.1 p), λ n. refl)
-
-pub and_is : (a b : Bool) (P Q : Type 0) → Decides a P → Decides b Q → Decides (a && b) (P × Q)
-and_is true b P Q d e = (λ h. (d.0 refl, e.0 h), λ h. e.1 h.1)
-and_is false b P Q d e = (λ h. absurd (false≢true h), λ h. d.1 h.0)
-
-pub or_is : (a b : Bool) (P Q : Type 0) → Decides a P → Decides b Q → Decides (a || b) (P ⊎ Q)
-or_is true b P Q d e = (λ h. inl (d.0 refl), λ h. refl)
-or_is false b P Q d e = (λ h. inr (e.0 h), back)
-  where
-    back : P ⊎ Q → b ≡ true
-    back (inl p) = absurd (false≢true (d.1 p))
-    back (inr q) = e.1 q
 
 -- below n + 1 is below n, or n
 pub last_is : (n : ℕ) (P : ℕ → Type 0) → (((k : ℕ) → k < n → P k) × P n) ↔ ((k : ℕ) → k < suc n → P k)
@@ -53,7 +30,7 @@ last_is n P = (λ h k l. go h k l (eqb k n) refl, λ h. (λ k l. h k (omega arit
 pub every_is : (n : ℕ) (f : ℕ → Bool) (P : ℕ → Type 0) → ((k : ℕ) → Decides (f k) (P k)) → Decides (every n f) ((k : ℕ) → k < n → P k)
 unfolding every
 every_is zero f P d = (λ h k l. absurd (omega arith), λ h. refl)
-every_is (suc n) f P d = Iff.trans (and_is (every n f) (f n) _ _ (every_is n f P d) (d n)) (last_is n P)
+every_is (suc n) f P d = Iff.trans (Decides-and (every n f) (f n) (every_is n f P d) (d n)) (last_is n P)
 
 abbrev pub Some : ℕ → (ℕ → Type 0) → Type 0
 Some n P = (k : ℕ) × (k < n) × P k
@@ -72,7 +49,7 @@ any_step n P = (forth, λ x. back x (eqb x.0 n) refl)
 pub any_is : (n : ℕ) (f : ℕ → Bool) (P : ℕ → Type 0) → ((k : ℕ) → Decides (f k) (P k)) → Decides (any n f) (Some n P)
 unfolding any
 any_is zero f P d = (λ h. absurd (false≢true h), λ x. absurd (omega (arith, x.1)))
-any_is (suc n) f P d = Iff.trans (or_is (any n f) (f n) _ _ (any_is n f P d) (d n)) (any_step n P)
+any_is (suc n) f P d = Iff.trans (Decides-or (any n f) (f n) (any_is n f P d) (d n)) (any_step n P)
 
 -- searches
 pub some_unless_is : {A : Type 0} (b : Bool) (x : A) (P : Type 0) → Decides b P → Clears (some_unless b x) P

@@ -11,6 +11,7 @@ use lib.Dec.{ltb, leb}
 use lib.ListN.{length, get_or, set, replicate, length-set, length-replicate, get_or-replicate}
 use lib.Seq.{ext_get_or, get_or-set_same, get_or-set_other}
 use borrow.Author.Tests.{lt-ltb, le-ltb, le-leb, lt-leb}
+use Rattle.std.proofs.lemmas.Bool.{cases_lt}
 use Rattle.card.specs.Finite.{sum_to}
 use Rattle.card.specs.Card.{Card, subnet_at, transition_at, first_place, first_transition, first_arc}
 use Rattle.card.specs.Format.{count, size, size_from}
@@ -22,7 +23,6 @@ use Rattle.card.specs.Wellformed.{Wellformed}
 use Rattle.card.specs.declared.index.Position.{Position}
 use Rattle.card.proofs.Bounds.{since_small}
 use Rattle.card.proofs.Sums.{table_length, table_at}
-use Rattle.card.proofs.BitLaws.{lt_or_ge}
 use Rattle.card.proofs.Prefix.{places_below, transitions_below}
 use Rattle.card.proofs.Positions.{counted, arcs_few, transition_order}
 
@@ -97,11 +97,11 @@ module _ (o n : ℕ) (f : ℕ → ℕ) where
   column_blank size h i l = get_or-replicate size (o + i) 0 0 (omega arith) ∙ sym (up_past 0 f i (omega arith))
 
   column_more : (starts : List ℕ) (k v : ℕ) → k < n → o + n ≤ length starts → v ≡ f k → Column starts o n k f → Column (set starts (o + k) v) o n (k + 1) f
-  column_more starts k v h long e x i l = go (lt_or_ge i k)
+  column_more starts k v h long e x i l = go (cases_lt i k)
     where
       go : (i < k) ⊎ (k ≤ i) → get_or (set starts (o + k) v) (o + i) 0 ≡ up_to (k + 1) f i
       go (inl b) = get_or-set_other starts (o + k) (o + i) v 0 (λ q. omega arith) ∙ x i l ∙ up_below k f i b ∙ sym (up_below (k + 1) f i (omega arith))
-      go (inr b) = there (lt_or_ge k i)
+      go (inr b) = there (cases_lt k i)
         where
           there : (k < i) ⊎ (i ≤ k) → get_or (set starts (o + k) v) (o + i) 0 ≡ up_to (k + 1) f i
           there (inl d) = get_or-set_other starts (o + k) (o + i) v 0 (λ q. omega arith) ∙ x i l ∙ up_past k f i b ∙ sym (up_past (k + 1) f i (omega arith))
@@ -360,7 +360,7 @@ module _ (c : Card) (w : Wellformed c) (numbers : List ℕ) (d : Laid c numbers)
         all = ap (first_transition c) (let e : s ≡ length c.subnets = omega (arith, x.inside) in e) ∙ sym (counted c w).transitions
 
         pick : (i a v y z : ℕ) → (i < a → v ≡ y) → (a ≤ i → v ≡ z) → v ≡ cond (ltb i a) y z
-        pick i a v y z f g = go (lt_or_ge i a)
+        pick i a v y z f g = go (cases_lt i a)
           where
             go : (i < a) ⊎ (a ≤ i) → v ≡ cond (ltb i a) y z
             go (inl b) = rw (lt-ltb i a b) (f b)

@@ -19,8 +19,10 @@ pub mod Bounds
 pub mod Turn
 pub mod RunLaws
 pub mod RowNumbers
+pub mod RowListLaws
 pub mod Positions
 pub mod Length
+pub mod SearchLaws
 pub mod LongInput
 pub mod IndexLaws
 pub mod ReadLaws
@@ -33,3 +35,4 @@ pub mod NumberLaws
 pub mod TableSpell
 pub mod SliceLaws
 pub mod ViewLaws
+pub mod TextLaws

@@ -1,6 +1,6 @@
 -- Of a long input the first bytes decide: no card has more bits than card_bits. Assumes nothing.
 use Prim.Native.Nat.{ℕ, zero, suc, ◌+◌, ◌-◌, ◌*◌, ◌/◌, ◌≤◌, ◌<◌}
-use mathlib.Core.Path.{◌≡◌, refl, ap, ap₂}
+use mathlib.Core.Path.{◌≡◌, refl, ap}
 use mathlib.Core.Bool.{Bool, true, false, cond}
 use mathlib.Core.List.{List}
 use mathlib.Core.Option.{Option, none, some}
@@ -9,7 +9,7 @@ use lib.ListN.{length, get_or, take}
 use lib.Seq.{get_or-take, length-take-le}
 use lib.Dec.{ltb, eqb}
 use borrow.Author.Tests.{lt-ltb, le-ltb}
-use Rattle.card.specs.Finite.{first_of, some_if, ◌otherwise◌}
+use Rattle.card.specs.Finite.{some_if, ◌otherwise◌}
 use Rattle.card.specs.Numbers.{number}
 use Rattle.card.specs.Bits.{bit, bit_field, bytes_for}
 use Rattle.card.specs.Card.{Card}
@@ -24,6 +24,7 @@ use Rattle.card.proofs.BitLaws.{field_local}
 use Rattle.card.proofs.Shape.{erase, counts_of}
 use Rattle.card.proofs.Bounds.{Budget}
 use Rattle.card.proofs.Length.{budget_whole}
+use Rattle.card.proofs.SearchLaws.{first_same}
 
 module _ {U A B : Type 0} (f : A → B) (a b : List ℕ) where
   -- where so many bits are left, bytes that agree that far are read alike
@@ -56,11 +57,6 @@ module _ {U A B : Type 0} (f : A → B) (a b : List ℕ) where
       go true y r p ih q = absurd (not_whole _ _ _ _ q)
       go false (some g) r p ih q = absurd (not_whole _ _ _ _ q)
       go false none r p ih q = omega (arith, ih p q, h.0)
-
-pub first_same : {A : Type 0} (from n : ℕ) (f g : ℕ → Option A) → ((i : ℕ) → from ≤ i → i < from + n → f i ≡ g i) → first_of from n f ≡ first_of from n g
-unfolding first_of
-first_same from zero f g h = refl
-first_same from (suc n) f g h = ap₂ (λ x y. x otherwise y) (h from (omega arith) (omega arith)) (first_same (suc from) n f g (λ i l u. h i (omega arith) (omega arith)))
 
 bit_same : (a b : List ℕ) (i : ℕ) → get_or a (i / 8) 0 ≡ get_or b (i / 8) 0 → bit a i ≡ bit b i
 unfolding bit

@@ -8,13 +8,14 @@ use native.Mathlib.Omega.{arith}
 use native.Mathlib.Nat.{zero-div}
 use lib.ListN.{length, get_or, length-append, get_or-append, get_or-eq_default}
 use lib.Seq.{get_or-append-add}
+use Rattle.std.proofs.lemmas.Bool.{cases_lt}
+use Rattle.std.proofs.lemmas.Bool.Decides.{Decides-ltb, Decides-and}
 use Rattle.card.specs.Finite.{table, All}
 use Rattle.card.specs.Bits.{bit, bit_field, bits_of, bytes_for, pack}
 use Rattle.card.specs.Writing.{Field, spell, all_fit}
-use Rattle.card.proofs.Decides.{and_is, lt_is}
 use Rattle.card.proofs.Sums.{table_length, table_at, all_append, all_table, all_at}
 use Rattle.card.proofs.Yields.{field_small}
-use Rattle.card.proofs.BitLaws.{field_is, lt_or_ge}
+use Rattle.card.proofs.BitLaws.{field_is}
 use Rattle.card.proofs.Walk.{bits, Spelt}
 
 -- what holds at each of 0 .. 7 holds below 8
@@ -44,7 +45,7 @@ Small b = b < 2
 
 get_small : (xs : List ℕ) → All Small xs → (i : ℕ) → get_or xs i 0 < 2
 unfolding Small
-get_small xs h i = go (lt_or_ge i (length xs))
+get_small xs h i = go (cases_lt i (length xs))
   where
     go : (i < length xs) ⊎ (length xs ≤ i) → get_or xs i 0 < 2
     go (inl l) = all_at Small xs 0 h i l
@@ -52,7 +53,7 @@ get_small xs h i = go (lt_or_ge i (length xs))
 
 pub bit_pack : (xs : List ℕ) → All Small xs → (i : ℕ) → bit (pack xs) i ≡ get_or xs i 0
 unfolding bit pack
-bit_pack xs h i = go (lt_or_ge (i / 8) (bytes_for (length xs)))
+bit_pack xs h i = go (cases_lt (i / 8) (bytes_for (length xs)))
   where
     byte : ℕ → ℕ
     byte k = bit_field (λ j. get_or xs j 0) (8 * k) 8
@@ -71,7 +72,7 @@ pack_length xs = table_length 0 (bytes_for (length xs)) _
 
 pub pack_bytes : (xs : List ℕ) → All Small xs → (k : ℕ) → get_or (pack xs) k 0 < 256
 unfolding pack
-pack_bytes xs h k = go (lt_or_ge k (bytes_for (length xs)))
+pack_bytes xs h k = go (cases_lt k (bytes_for (length xs)))
   where
     byte : ℕ → ℕ
     byte j = bit_field (λ i. get_or xs i 0) (8 * j) 8
@@ -101,7 +102,7 @@ spelt_flat : (bytes before : List ℕ) (fs : List Field) → all_fit fs ≡ true
 unfolding flat flat_map mathlib.Core.List.flatten all_fit
 spelt_flat bytes before [] a h = tt
 spelt_flat bytes before (f ∷ fs) a h =
-    let fit = (and_is _ _ _ _ (lt_is f.value (2 ^ f.width)) (λ (e : all_fit fs ≡ true). e, λ (e : all_fit fs ≡ true). e)).0 a in
+    let fit = (Decides-and _ _ (Decides-ltb f.value (2 ^ f.width)) (λ (e : all_fit fs ≡ true). e, λ (e : all_fit fs ≡ true). e)).0 a in
     (field_is (bit bytes) (length before) f.width f.value fit.0 own, rw long at (spelt_flat bytes (before ++ here) fs fit.1 (λ i. h i ∙ ap (λ xs. get_or xs i 0) (sym (append_assoc before here (flat fs))))))
   where
     here : List ℕ

@@ -9,9 +9,10 @@ use lib.ListN.{length, get_or, set, length-set, get_or-eq_default}
 use lib.Seq.{get_or-set_same, get_or-set_other}
 use lib.Arith.{digits_lt}
 use lib.Pow.{pow-add, pow_pos, shr-shr, shr_lt}
+use Rattle.std.proofs.lemmas.Bool.{cases_lt}
 use Rattle.card.specs.Bits.{bit, bit_field}
 use Rattle.card.specs.inner.Spans.{Span, patch, Put}
-use Rattle.card.proofs.BitLaws.{lt_or_ge, low_digit, low_bit, high_bit, three_bit, span_bit, field_is}
+use Rattle.card.proofs.BitLaws.{low_digit, low_bit, high_bit, three_bit, span_bit, field_is}
 
 -- a patched span has 24 bits, and each step to it fits 32: p and q are the code's powers of two
 module _ (x low w v p q : ℕ) (ep : p ≡ 2 ^ low) (eq : q ≡ 2 ^ w) (hx : x < 2 ^ 24) (hs : low + w ≤ 24) (hv : v < 2 ^ w) where
@@ -87,7 +88,7 @@ module _ (bytes : List ℕ) (k y : ℕ) where
   -- a bit is as it was if it is so within the three bytes and before the end
   stored_same : (i : ℕ) → ((j : ℕ) → i ≡ 8 * k + j → j < 24 → i < 8 * length bytes → bit (stored bytes k y) i ≡ bit bytes i) → bit (stored bytes k y) i ≡ bit bytes i
   unfolding bit
-  stored_same i within = go (lt_or_ge i (8 * k)) (lt_or_ge i (8 * k + 24)) (lt_or_ge i (8 * length bytes))
+  stored_same i within = go (cases_lt i (8 * k)) (cases_lt i (8 * k + 24)) (cases_lt i (8 * length bytes))
     where
       go : (i < 8 * k) ⊎ (8 * k ≤ i) → (i < 8 * k + 24) ⊎ (8 * k + 24 ≤ i) → (i < 8 * length bytes) ⊎ (8 * length bytes ≤ i) → bit (stored bytes k y) i ≡ bit bytes i
       go (inl a) b c = rw (stored_byte (i / 8) (λ e. omega arith) (λ e. omega arith) (λ e. omega arith))

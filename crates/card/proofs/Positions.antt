@@ -7,6 +7,7 @@ use native.Mathlib.Omega.{arith}
 use native.Mathlib.Nat.{zero-add, add-zero, add-suc}
 use lib.ListN.{length, get_or, length-append, get_or-append}
 use lib.Seq.{get_or-append-add}
+use Rattle.std.proofs.lemmas.Bool.{cases_lt}
 use Rattle.card.specs.Finite.{sum_to, table, All}
 use Rattle.card.specs.Card.{Card, subnet_at, place_at, transition_at, arc_at, first_place, first_transition, first_arc, no_transition, header_fields, subnet_fields, place_fields, transition_fields, arc_fields}
 use Rattle.card.specs.Format.{count}
@@ -16,7 +17,6 @@ use Rattle.card.specs.inner.Runs.{runs}
 use Rattle.card.specs.Index.{subnet_row, transition_row, place_field, arc_field, SubnetThere, PlaceThere, TransitionThere, ArcThere, Lists, Laid}
 use Rattle.card.specs.Wellformed.{Wellformed, TransitionRow}
 use Rattle.card.proofs.Sums.{sum_mono, all_at}
-use Rattle.card.proofs.BitLaws.{lt_or_ge}
 use Rattle.card.proofs.Prefix.{Counted}
 use Rattle.card.proofs.RunLaws.{runs_suc}
 use Rattle.card.proofs.RowNumbers.{place_numbers, arc_numbers, transition_numbers, subnet_numbers, numbers_rows}
@@ -34,7 +34,7 @@ module _ (from : ℕ) (run : ℕ → List ℕ) where
   run_at : (n i k : ℕ) → i < n → k < length (run (from + i)) → get_or (runs from n run) (before i + k) 0 ≡ get_or (run (from + i)) k 0
   unfolding sum_to
   run_at zero i k h l = absurd (omega arith)
-  run_at (suc n) i k h l = ap (λ xs. get_or xs (before i + k) 0) (runs_suc from n run) ∙ go (lt_or_ge i n) (run_at n i k)
+  run_at (suc n) i k h l = ap (λ xs. get_or xs (before i + k) 0) (runs_suc from n run) ∙ go (cases_lt i n) (run_at n i k)
     where
       go : (i < n) ⊎ (n ≤ i) → (i < n → k < length (run (from + i)) → get_or (runs from n run) (before i + k) 0 ≡ get_or (run (from + i)) k 0)
           → get_or (runs from n run ++ run (from + n)) (before i + k) 0 ≡ get_or (run (from + i)) k 0

@@ -9,14 +9,16 @@ use lib.ListN.{length, get_or, length-append, get_or-append}
 use lib.Seq.{get_or-append_seam, get_or-append-add}
 use lib.Dec.{eqb}
 use borrow.Author.Tests.{eqb-true, eqb-false}
+use Rattle.std.proofs.lemmas.List.{length-map}
+use Rattle.std.proofs.lemmas.Bool.Decides.{Decides-eqb, Decides-ltb, Decides-and}
 use Rattle.card.specs.Finite.{sum_to, All}
 use Rattle.card.specs.Card.{Header, Subnet, Place, Transition, Arc, Card, normal, header_of, subnet_at, place_at, transition_at, arc_at, first_place, first_transition, first_arc, no_place, no_transition}
 use Rattle.card.specs.Format.{of, each, grow}
 use Rattle.card.specs.Grammar.{max_version, max_count, header, subnet, place, transition, arc, whole_transition, with, whole_subnet, card, max_subnets, max_signals, limit_width, scale_width, header_alone}
 use Rattle.card.specs.Parsing.{Parsing, refused, whole, read, excess, closed, ended, read_card}
 use Rattle.card.specs.Wellformed.{SubnetRow, PlaceRow, TransitionRow, ArcRow, Rows, Wellformed}
-use Rattle.card.proofs.Decides.{eq_is, lt_is, le_is, and_is, implies_is, cond_is, some_unless_is}
-use Rattle.card.proofs.Sums.{sum_same, sum_mono, sum_list, total, total_append, map_length, all_append, all_map, all_more, all_at}
+use Rattle.card.proofs.Decides.{le_is, implies_is, cond_is, some_unless_is}
+use Rattle.card.proofs.Sums.{sum_same, sum_mono, sum_list, total, total_append, all_append, all_map, all_more, all_at}
 use Rattle.card.proofs.Yields.{Yields, Listed, not_whole, yields_read, yields_more, yields_then, yields_of, yields_each, yields_grow}
 
 -- the rows by themselves
@@ -33,9 +35,9 @@ header_yields : Yields header HeaderRow
 unfolding header
 header_yields =
     λ v lv ev s ls es g lg eg m lm em q lq eq.
-    let k = (some_unless_is _ _ _ (and_is _ _ _ _ (le_is 1 s) (le_is s max_subnets))).0 es in
+    let k = (some_unless_is _ _ _ (Decides-and _ _ (le_is 1 s) (le_is s max_subnets))).0 es in
     record {
-      version = (some_unless_is _ _ _ (and_is _ _ _ _ (le_is 1 v) (le_is v max_version))).0 ev;
+      version = (some_unless_is _ _ _ (Decides-and _ _ (le_is 1 v) (le_is v max_version))).0 ev;
       some_subnets = k.0;
       few_subnets = k.1;
       some_signals = (some_unless_is _ _ _ (le_is 1 g)).0 eg;
@@ -53,10 +55,10 @@ subnet_yields : (s p t : ℕ) → Yields (subnet s p t) (SubnetAfter s p t)
 unfolding subnet
 subnet_yields s p t =
     λ parent lparent eparent type ltype etype places lplaces eplaces transitions ltransitions etransitions.
-    let a = (some_unless_is _ _ _ (cond_is _ _ _ _ _ _ (eq_is s 0) (eq_is parent 0) (lt_is parent s))).0 eparent in
-    let b = (some_unless_is _ _ _ (implies_is _ _ _ _ (eq_is s 0) (eq_is type 0))).0 etype in
-    let c = (some_unless_is _ _ _ (and_is _ _ _ _ (le_is 1 places) (le_is (p + places) max_count))).0 eplaces in
-    let d = (some_unless_is _ _ _ (and_is _ _ _ _ (le_is 1 transitions) (le_is (t + transitions) max_count))).0 etransitions in
+    let a = (some_unless_is _ _ _ (cond_is _ _ _ _ _ _ (Decides-eqb s 0) (Decides-eqb parent 0) (Decides-ltb parent s))).0 eparent in
+    let b = (some_unless_is _ _ _ (implies_is _ _ _ _ (Decides-eqb s 0) (Decides-eqb type 0))).0 etype in
+    let c = (some_unless_is _ _ _ (Decides-and _ _ (le_is 1 places) (le_is (p + places) max_count))).0 eplaces in
+    let d = (some_unless_is _ _ _ (Decides-and _ _ (le_is 1 transitions) (le_is (t + transitions) max_count))).0 etransitions in
     record {
       row = record { main = λ e. (a.0 e, b e); parent = a.1; type = ltype; places = c.0; transitions = d.0 };
       few_places = c.1;
@@ -68,7 +70,7 @@ unfolding place
 place_yields s =
     λ kind lkind ekind capacity lcapacity ecapacity tokens ltokens etokens.
     record {
-      main = (some_unless_is _ _ _ (implies_is _ _ _ _ (eq_is s 0) (eq_is kind normal))).0 ekind;
+      main = (some_unless_is _ _ _ (implies_is _ _ _ _ (Decides-eqb s 0) (Decides-eqb kind normal))).0 ekind;
       kind = omega arith;
       positive = (some_unless_is _ _ _ (le_is 1 capacity)).0 ecapacity;
       capacity = omega arith;
@@ -80,7 +82,7 @@ unfolding transition
 transition_yields version signals =
     λ signal lsignal esignal arcs larcs earcs rank lrank erank.
     record {
-      signal = (some_unless_is _ _ _ (lt_is signal signals)).0 esignal;
+      signal = (some_unless_is _ _ _ (Decides-ltb signal signals)).0 esignal;
       positive = (some_unless_is _ _ _ (le_is 1 arcs)).0 earcs;
       arcs = omega (arith, larcs);
       rank = lrank;
@@ -161,7 +163,7 @@ module _ (c : Card) (r : Subnet) (ps : List Place) (ts : List (Transition × Lis
     unfolding more
     transitions_long =
         length-append c.transitions (map (λ t. t.0) ts)
-        ∙ ap (λ (n : ℕ). length c.transitions + n) (map_length (λ t. t.0) ts ∙ nts.long)
+        ∙ ap (λ (n : ℕ). length c.transitions + n) (length-map ts (λ t. t.0) ∙ nts.long)
 
     more_place_count : length more.places ≡ first_place more (length more.subnets)
     unfolding first_place

@@ -7,29 +7,33 @@ use mathlib.Core.List.{List, ◌∷◌, map}
 use mathlib.Core.Option.{Option, none, some}
 use native.Mathlib.Omega.{arith}
 use native.Mathlib.Nat.{add-zero}
-use native.Mathlib.Numerals.{add-one}
 use lib.ListN.{length, get_or, take, replicate, length-take, length-replicate, get_or-eq_default}
 use lib.Seq.{ext_get_or, get_or-take}
-use lib.Dec.{eqb}
-use borrow.Author.Tests.{lt-ltb, le-ltb, eq-eqb, ne_eqb}
+use lib.Dec.{eqb, ltb}
 use Rattle.card.specs.Numbers.{number}
-use Rattle.card.specs.Finite.{table, some_if, lowest, first_of, ◌otherwise◌}
+use Rattle.card.specs.Finite.{table, some_if, lowest, ◌otherwise◌}
 use Rattle.card.specs.Bits.{bit, bit_field, bytes_for}
 use Rattle.card.specs.Card.{Card}
 use Rattle.card.specs.Format.{Format, done, get}
 use Rattle.card.specs.Grammar.{card}
 use Rattle.card.specs.Parsing.{Parsing, refused, whole, read, excess, read_card}
 use Rattle.card.specs.Writing.{fields}
-use Rattle.card.specs.Tables.{numbers_of, numbers_table, ReadOutcome, outcome_of, has_room, IsRead, IsTable, IsLent}
-use Rattle.card.specs.inner.Reader.{ended_as, filled_outcome, IsFilled}
+use Rattle.card.specs.Tables.{numbers_of, numbers_table, ReadOutcome, outcome_of, IsRead, IsTable, IsLent}
+use Rattle.card.proofs.SearchLaws.{first_same}
+use Rattle.std.specs.Prelude as Std
+use Rattle.std.specs.Option.{option_or}
+use Rattle.std.specs.Bool.{then_some}
+use Rattle.card.specs.inner.Reader.{excess_of, ended_as, filled_outcome, IsFilled}
 use Rattle.card.specs.declared.FormatRefusal.{FormatRefusal}
 use Rattle.std.specs.Prelude.{Result, Ok, Err}
+use Rattle.std.proofs.lemmas.Bool.{cases_lt}
 use Rattle.card.specs.declared.FormatFault.{FormatFault}
 use Rattle.card.specs.declared.FormatFault.TheVariants.{BadFill}
 use Rattle.card.specs.declared.Counts.{Counts}
+use Rattle.card.specs.declared.index.CardIndex.{CardIndex}
 use Rattle.card.proofs.Sums.{table_length, table_at}
 use Rattle.card.proofs.Yields.{bit_small, field_small, not_whole}
-use Rattle.card.proofs.BitLaws.{lt_or_ge, field_join}
+use Rattle.card.proofs.BitLaws.{field_join}
 use Rattle.card.specs.Index.{Laid, Loaded, starts_of}
 use Rattle.card.specs.Wellformed.{Wellformed}
 use Rattle.card.proofs.Ranges.{read_wellformed}
@@ -79,18 +83,13 @@ zeros_table from (suc n) = ap (λ (xs : List ℕ). 0 ∷ xs) (zeros_table (suc f
 pub blank_table : (n : ℕ) → replicate {A = ℕ} n 0 ≡ table 0 n (λ i. 0)
 blank_table n = zeros_table 0 n
 
-pub cleared_all : (t : List ℕ) (bytes n : ℕ) → t ≡ replicate n 0 → has_room bytes n ≡ true → (t ≡ replicate (length t) 0) × (has_room bytes (length t) ≡ true)
-cleared_all t bytes n e h =
-    let q : length t ≡ n = ap length e ∙ length-replicate {A = ℕ} n 0 in
-    rw q (e, h)
-
 pub cleared_long : (t u : List ℕ) (n : ℕ) → t ≡ replicate n 0 → length u ≡ length t → length u ≡ n
 cleared_long t u n e q = q ∙ ap length e ∙ length-replicate {A = ℕ} n 0
 
 -- a table with room for them holds each of a card's numbers
 pub entered : (size : ℕ) (c : Card) → length (numbers_of c) ≤ size → (i : ℕ) → get_or (numbers_table size c) i 0 ≡ get_or (numbers_of c) i 0
 unfolding numbers_table
-entered size c few i = go (lt_or_ge i size)
+entered size c few i = go (cases_lt i size)
   where
     go : (i < size) ⊎ (size ≤ i) → get_or (numbers_table size c) i 0 ≡ get_or (numbers_of c) i 0
     go (inl l) = table_at size (λ j. get_or (numbers_of c) j 0) 0 i l
@@ -121,7 +120,7 @@ module _ (bytes : List ℕ) where
   table_is : (t : List ℕ) (n : ℕ) (c : Card) → ((i : ℕ) → n ≤ i → get_or t i 0 ≡ 0) → take n t ≡ numbers_of c → t ≡ numbers_table (length t) c
   unfolding numbers_table
   table_is t n c zeros e =
-      ext_get_or 0 t _ (sym (table_length 0 (length t) _)) (λ i l. at i l (lt_or_ge i n) ∙ sym (table_at (length t) (λ j. get_or (numbers_of c) j 0) 0 i l))
+      ext_get_or 0 t _ (sym (table_length 0 (length t) _)) (λ i l. at i l (cases_lt i n) ∙ sym (table_at (length t) (λ j. get_or (numbers_of c) j 0) 0 i l))
     where
       at : (i : ℕ) → i < length t → (i < n) ⊎ (n ≤ i) → get_or t i 0 ≡ get_or (numbers_of c) i 0
       at i l (inl m) = sym (get_or-take n t i 0 m) ∙ ap (λ xs. get_or xs i 0) e
@@ -162,31 +161,23 @@ module _ (bytes : List ℕ) where
       go (refused n i) p = (record { answer = p; starts = λ c end r. tt }, record { is = z ∙ blank_table size; fits = λ c end r. absurd (not_whole _ _ _ _ r) })
       go (whole c end) p = absurd (let z : ◌≡◌ {A = ℕ} 0 1 = cc in omega arith)
 
-  pub fill_whole : (a : Result Counts FormatRefusal) (k : Counts) (size : ℕ) (t starts : List ℕ) → IsFilled (read_card bytes) a t → a ≡ Ok k → length t ≡ size
-      → ((c : Card) → Wellformed c → Laid c t → k.subnets ≡ length c.subnets → starts ≡ starts_of c)
-      → IsRead (read_card bytes) (Ok (record { counts = k; starts = starts })) × IsTable (read_card bytes) size t
-  fill_whole a k size t starts h e long g = go (read_card bytes) refl (sym (ap filled_outcome e) ∙ h.answer)
+  pub fill_whole : (a : Result Counts FormatRefusal) (k : Counts) (size : ℕ) (t : List ℕ) (x : CardIndex) → IsFilled (read_card bytes) a t → a ≡ Ok k → length t ≡ size → x.counts ≡ k
+      → ((c : Card) → Wellformed c → Laid c t → k.subnets ≡ length c.subnets → x.starts ≡ starts_of c) → IsRead (read_card bytes) (Ok x) × IsTable (read_card bytes) size t
+  fill_whole a k size t x h e long counts g = go (read_card bytes) refl (sym (ap filled_outcome e) ∙ h.answer)
     where
-      go : (x : Parsing Card) → read_card bytes ≡ x → filled_outcome (Ok k) ≡ outcome_of x → IsRead x (Ok (record { counts = k; starts = starts })) × IsTable x size t
+      go : (y : Parsing Card) → read_card bytes ≡ y → filled_outcome (Ok k) ≡ outcome_of y → IsRead y (Ok x) × IsTable y size t
       go (refused n i) p q = absurd (let z : ◌≡◌ {A = ℕ} 0 1 = cc in omega arith)
       go (whole c end) p q =
           let is = h.table c end p in
           let few = h.fits c end p in
           let w = read_wellformed bytes c end p in
-          let s : starts ≡ starts_of c = g c w (subst (Laid c) (sym is) (laid c w (numbers_table (length t) c) (entered (length t) c few))) cc in (
-            record { answer = q; starts = λ d m y. s ∙ ap starts_of (let z : c ≡ d = cc in z) },
+          let s : x.starts ≡ starts_of c = g c w (subst (Laid c) (sym is) (laid c w (numbers_table (length t) c) (entered (length t) c few))) cc in (
+            record { answer = ap filled_outcome (ap Ok counts) ∙ q; starts = λ d m y. s ∙ ap starts_of (let z : c ≡ d = cc in z) },
             record { is = is ∙ ap (λ (n : ℕ). numbers_table n c) long; fits = λ d m y. subst (λ (z : Card). length (numbers_of z) ≤ size) (let z : c ≡ d = cc in z) (omega (arith, few, long)) },
           )
 
--- a lent table has room, or is as it was
-pub lent_filled : (x : Parsing Card) (room : Bool) (before after : List ℕ) → room ≡ true → IsTable x (length before) after → IsLent x room before after
-lent_filled x room before after e h = rw e h
-
 pub lent_is : (x : Parsing Card) (room : Bool) (before after : List ℕ) → IsLent x room before after → room ≡ true → IsTable x (length before) after
 lent_is x room before after h e = subst (λ (b : Bool). IsLent x b before after) e h
-
-pub lent_kept : (x : Parsing Card) (room : Bool) (before : List ℕ) → room ≡ false → IsLent x room before before
-lent_kept x room before e = rw e refl
 
 -- `tables_loaded`: THE TWO TABLES OF A CARD HOLD ITS ROWS
 pub tables_loaded : (size : ℕ) (c : Card) → Wellformed c → length (numbers_of c) ≤ size → Loaded c (numbers_table size c) (starts_of c)
@@ -198,42 +189,18 @@ read_loaded bytes c end size numbers starts e s h =
     let g : IsTable (whole c end) size numbers = subst (λ (x : Parsing Card). IsTable x size numbers) e h in
     rw (g.is, s) (tables_loaded size c (read_wellformed bytes c end e) (g.fits c end refl))
 
--- nothing is in excess up to bit i
-pub record Checked (bytes : List ℕ) (end i : ℕ) : Type 0 where
-  pub low : end ≤ i
-  pub high : i ≤ 8 * bytes_for end
-  pub left : lowest end (8 * bytes_for end - end) (λ j. eqb (bit bytes j) 1) ≡ lowest i (8 * bytes_for end - i) (λ j. eqb (bit bytes j) 1)
-
+-- a search for a set fill bit, and then a further byte, is `excess`
 module _ (bytes : List ℕ) (end : ℕ) where
-  pub checked_start : Checked bytes end end
-  checked_start = record { low = omega arith; high = omega arith; left = refl }
-
   one_field : (i : ℕ) → bit_field (bit bytes) i 1 ≡ bit bytes i
   unfolding bit_field
   one_field i = omega (arith, ap (bit bytes) (add-zero i))
 
-  step_out : (i : ℕ) → i < 8 * bytes_for end → lowest i (8 * bytes_for end - i) (λ j. eqb (bit bytes j) 1) ≡ some_if (eqb (bit bytes i) 1) i otherwise lowest (i + 1) (8 * bytes_for end - (i + 1)) (λ j. eqb (bit bytes j) 1)
-  unfolding first_of
-  step_out i l =
-      let q : 8 * bytes_for end - i ≡ suc (8 * bytes_for end - (i + 1)) = omega arith in
-      rw (q, add-one)
-
-  pub checked_more : (i v : ℕ) → Checked bytes end i → i < 8 * bytes_for end → v ≡ bit_field (bit bytes) i 1 → (v ≡ 1 → ⊥) → Checked bytes end (i + 1)
-  checked_more i v h l e n =
-      record { low = omega (arith, h.low); high = omega arith; left = h.left ∙ step_out i l ∙ rw (← one_field i, ← e, ne_eqb v 1 n) }
-
-  pub found_bit : (i v : ℕ) → Checked bytes end i → i < 8 * bytes_for end → v ≡ bit_field (bit bytes) i 1 → v ≡ 1 → some i ≡ excess bytes end
+  pub excess_found : (f r : Std.Option ℕ) → excess_of f ≡ lowest end (8 * bytes_for end - end) (λ i. eqb (bit_field (bit bytes) i 1) 1)
+      → r ≡ option_or f (then_some (ltb (bytes_for end) (length bytes)) (8 * bytes_for end)) → excess_of r ≡ excess bytes end
   unfolding excess
-  found_bit i v h l e n = sym (rw (h.left, step_out i l, ← one_field i, ← e, eq-eqb v 1 n))
-
-  no_bit : (i : ℕ) → Checked bytes end i → 8 * bytes_for end ≤ i → lowest end (8 * bytes_for end - end) (λ j. eqb (bit bytes j) 1) ≡ none
-  unfolding first_of
-  no_bit i h l = let q : 8 * bytes_for end - i ≡ 0 = omega arith in h.left ∙ rw q
-
-  pub found_byte : (i : ℕ) → Checked bytes end i → 8 * bytes_for end ≤ i → bytes_for end < length bytes → some (8 * bytes_for end) ≡ excess bytes end
-  unfolding excess
-  found_byte i h l m = sym (rw (no_bit i h l, lt-ltb (bytes_for end) (length bytes) m))
-
-  pub found_nothing : (i : ℕ) → Checked bytes end i → 8 * bytes_for end ≤ i → length bytes ≤ bytes_for end → none ≡ excess bytes end
-  unfolding excess
-  found_nothing i h l m = sym (rw (no_bit i h l, le-ltb (bytes_for end) (length bytes) m))
+  excess_found f r h e = ap excess_of e ∙ go f (ltb (bytes_for end) (length bytes)) (h ∙ first_same end (8 * bytes_for end - end) _ _ (λ i a b. ap (λ (v : ℕ). some_if (eqb v 1) i) (one_field i)))
+    where
+      go : (f : Std.Option ℕ) (more : Bool) {x : Option ℕ} → excess_of f ≡ x → excess_of (option_or f (then_some more (8 * bytes_for end))) ≡ x otherwise some_if more (8 * bytes_for end)
+      go (Std.Some i) more q = rw (← q)
+      go Std.None true q = rw (← q)
+      go Std.None false q = rw (← q)

@@ -10,6 +10,9 @@ use native.Mathlib.Omega.{arith}
 use native.Mathlib.Nat.{zero-add}
 use lib.ListN.{length, get_or}
 use borrow.Author.Tests.{ltb-false}
+use Rattle.std.proofs.lemmas.Bool.{cases_lt}
+use Rattle.std.proofs.lemmas.Bool.Decides.{Decides-eqb, Decides-ltb, Decides-and}
+use Rattle.std.specs.Bool.{Decides}
 use Rattle.card.specs.Numbers.{number}
 use Rattle.card.specs.Bits.{bit, bit_field, bytes_for}
 use Rattle.card.specs.Card.{Card, first_place, first_transition, first_arc}
@@ -19,14 +22,14 @@ use Rattle.card.specs.Parsing.{Parsing, refused, whole, read, excess, closed, en
 use Rattle.card.specs.Writing.{Field, fields, encode, all_fit, counted, read_tables}
 use Rattle.card.specs.Wellformed.{Wellformed}
 use Rattle.card.specs.declared.FormatFault.TheVariants.{BadTable}
-use Rattle.card.proofs.Decides.{Decides, Clears, eq_is, lt_is, and_is, some_if_is, otherwise_is, first_of_is}
+use Rattle.card.proofs.Decides.{Clears, some_if_is, otherwise_is, first_of_is}
 use Rattle.card.proofs.Yields.{bit_small, not_whole}
 use Rattle.card.proofs.Ranges.{read_wellformed}
 use Rattle.card.proofs.Walk.{bits, built, walk, NoFault, Fits, Proper, Spelt, every_more, fits_all, read_spelt, clean_walk, walk_clean}
 use Rattle.card.proofs.Prefix.{Counted, built_card}
 use Rattle.card.proofs.Sound.{rows_counted, clean_card}
 use Rattle.card.proofs.Tied.{Spells, read_get, tied_card}
-use Rattle.card.proofs.BitLaws.{field_bits, same_bytes, lt_or_ge}
+use Rattle.card.proofs.BitLaws.{field_bits, same_bytes}
 use Rattle.card.proofs.Pack.{spell_fill, spell_length, spell_bytes, spell_spelt}
 
 -- nothing is in excess where the fill bits are zero and no byte follows
@@ -37,7 +40,7 @@ pub record Filled (bytes : List ℕ) (end : ℕ) : Type 0 where
 pub filled_is : (bytes : List ℕ) (end : ℕ) → Clears (excess bytes end) (Filled bytes end)
 unfolding excess
 filled_is bytes end =
-    Iff.trans (otherwise_is _ _ _ _ (first_of_is end (8 * bytes_for end - end) _ _ (λ i. some_if_is _ _ _ (eq_is (bit bytes i) 1))) (some_if_is _ _ _ (lt_is (bytes_for end) (length bytes)))) (
+    Iff.trans (otherwise_is _ _ _ _ (first_of_is end (8 * bytes_for end - end) _ _ (λ i. some_if_is _ _ _ (Decides-eqb (bit bytes i) 1))) (some_if_is _ _ _ (Decides-ltb (bytes_for end) (length bytes)))) (
       λ h. record { zeros = λ i a b. omega (arith, bit_small bytes i, h.0 i a (omega arith)); last = omega (arith, h.1) },
       λ h. (λ i a b. λ e. omega (arith, h.zeros i a (omega arith)), λ l. omega (arith, h.last)),
     )
@@ -45,8 +48,8 @@ filled_is bytes end =
 pub counted_is : (c : Card) → Decides (counted c) (Counted c)
 unfolding counted
 counted_is c =
-    Iff.trans (and_is _ _ _ _ (and_is _ _ _ _ (eq_is (length c.places) (first_place c (length c.subnets))) (eq_is (length c.transitions) (first_transition c (length c.subnets))))
-    (eq_is (length c.arcs) (first_arc c (length c.transitions))))
+    Iff.trans (Decides-and _ _ (Decides-and _ _ (Decides-eqb (length c.places) (first_place c (length c.subnets))) (Decides-eqb (length c.transitions) (first_transition c (length c.subnets))))
+    (Decides-eqb (length c.arcs) (first_arc c (length c.transitions))))
     (λ h. record { places = h.0.0; transitions = h.0.1; arcs = h.1 }, λ h. ((h.places, h.transitions), h.arcs))
 
 -- the card that tables make is read as a walk of the grammar with their numbers
@@ -85,7 +88,7 @@ read_write c d end e = go (counted c && all_fit (fields card c)) refl e
     go : (b : Bool) → counted c && all_fit (fields card c) ≡ b → cond b (read_card (encode c)) (refused (number BadTable) 0) ≡ whole d end → (d ≡ c) × Written c end
     go false p q = absurd (not_whole _ _ _ _ q)
     go true p q =
-        let k = (and_is _ _ _ _ (counted_is c) (λ (h : all_fit (fields card c) ≡ true). h, λ (h : all_fit (fields card c) ≡ true). h)).0 p in
+        let k = (Decides-and _ _ (counted_is c) (λ (h : all_fit (fields card c) ≡ true). h, λ (h : all_fit (fields card c) ≡ true). h)).0 p in
         let r = read_encode c k.1 in
         let i : d ≡ c = (walk_whole c d end k.0 (sym r ∙ q)).0 in
         (i, record { counts = k.0; fit = k.1; reads = subst (λ (x : Card). read_card (encode c) ≡ whole x end) i q })
@@ -115,7 +118,7 @@ read_inside bytes (get w value fault next) at end a l e =
 -- bytes that spell the same fields have the same bits there
 pub spelt_same : (a b : List ℕ) (at : ℕ) (fs : List Field) → Spelt a at fs → Spelt b at fs → (i : ℕ) → at ≤ i → i < at + bits fs → bit a i ≡ bit b i
 spelt_same a b at [] x y i l m = absurd (omega arith)
-spelt_same a b at (f ∷ fs) x y i l m = go (lt_or_ge i (at + f.width)) (λ h. spelt_same a b (at + f.width) fs x.1 y.1 i h (omega arith))
+spelt_same a b at (f ∷ fs) x y i l m = go (cases_lt i (at + f.width)) (λ h. spelt_same a b (at + f.width) fs x.1 y.1 i h (omega arith))
   where
     go : (i < at + f.width) ⊎ (at + f.width ≤ i) → (at + f.width ≤ i → bit a i ≡ bit b i) → bit a i ≡ bit b i
     go (inl h) k = field_bits (bit a) (bit b) (bit_small a) (bit_small b) at f.width (x.0 ∙ sym y.0) i l h
@@ -124,7 +127,7 @@ spelt_same a b at (f ∷ fs) x y i l m = go (lt_or_ge i (at + f.width)) (λ h. s
 -- bytes that spell a card, with zeros behind, have the bits of the card that its tables make
 encode_bits : (bytes : List ℕ) (d : Card) (at : ℕ) → Spells bytes card d 0 at → all_fit (fields card d) ≡ true → Filled bytes at → (i : ℕ) → i < 8 * length bytes → bit (encode d) i ≡ bit bytes i
 unfolding encode
-encode_bits bytes d at t fit f i l = go (lt_or_ge i (bits (fields card d)))
+encode_bits bytes d at t fit f i l = go (cases_lt i (bits (fields card d)))
   where
     go : (i < bits (fields card d)) ⊎ (bits (fields card d) ≤ i) → bit (encode d) i ≡ bit bytes i
     go (inl h) = spelt_same (encode d) bytes 0 (fields card d) (spell_spelt (fields card d) fit) t.spelt i (omega arith) (omega arith)

@@ -7,6 +7,7 @@ use mathlib.Core.Option.{Option, none, some}
 use native.Mathlib.Omega.{arith}
 use lib.ListN.{length, length-append}
 use lib.Dec.{ltb}
+use Rattle.std.proofs.lemmas.List.{length-map}
 use Rattle.card.specs.Numbers.{number}
 use Rattle.card.specs.Bits.{bit, bit_field}
 use Rattle.card.specs.Card.{Header, Subnet, Place, Transition, Arc, Card, header_of, subnet_at, place_at, transition_at, arc_at}
@@ -16,7 +17,6 @@ use Rattle.card.specs.Parsing.{Parsing, refused, whole, read, unless_fault}
 use Rattle.card.specs.declared.FormatFault.{FormatFault}
 use Rattle.card.specs.declared.FormatFault.TheVariants.{Truncated}
 use Rattle.card.specs.declared.Counts.{Counts}
-use Rattle.card.proofs.Sums.{map_length}
 
 abbrev pub One : Type 0
 One = Unit {0}
@@ -156,7 +156,7 @@ erase_grow (suc n) c =
     let a : length (c.subnets ++ (r ∷ [])) ≡ suc (length c.subnets) = length-append c.subnets (r ∷ []) ∙ omega arith in
     let b : length (c.places ++ ps) ≡ length c.places + r.places = length-append c.places ps ∙ ap (λ (x : ℕ). length c.places + x) lp in
     let d : length (c.transitions ++ map (λ x. x.0) ts) ≡ length c.transitions + r.transitions =
-    length-append c.transitions (map (λ x. x.0) ts) ∙ ap (λ (x : ℕ). length c.transitions + x) (map_length (λ x. x.0) ts ∙ lt) in
+    length-append c.transitions (map (λ x. x.0) ts) ∙ ap (λ (x : ℕ). length c.transitions + x) (length-map ts (λ x. x.0) ∙ lt) in
     erase_grow n (with c r ps ts) ∙ rw (a, b, d))
 
 -- THE SHAPE OF THE GRAMMAR

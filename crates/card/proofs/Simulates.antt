@@ -8,6 +8,7 @@ use native.Mathlib.Omega.{arith}
 use native.Mathlib.Numerals.{add-one}
 use lib.Dec.{ltb}
 use borrow.Author.Tests.{ltb-true, ltb-false}
+use Rattle.std.proofs.lemmas.Bool.Decides.{Decides-and}
 use Rattle.card.specs.Format.{Format, done, get, ◌>>=◌}
 use Rattle.card.specs.Grammar.{max_count, header, subnet, place, transition, arc, max_subnets}
 use Rattle.card.specs.inner.Layout.{fed, width_at, fault_at, start_of, layout_at, pick, move_at}
@@ -17,7 +18,7 @@ use Rattle.card.specs.declared.layout.Layout.{Layout}
 use Rattle.card.specs.declared.Counts.{Counts}
 use Rattle.card.specs.declared.layout.Next.{Next}
 use Rattle.card.specs.declared.layout.Next.TheVariants.{More, Done}
-use Rattle.card.proofs.Decides.{le_is, and_is, some_unless_is}
+use Rattle.card.proofs.Decides.{le_is, some_unless_is}
 use Rattle.card.proofs.Shape.{One, strip, times, arc_s, place_s, transition_s, subnet_s, subnets_s, card_s}
 
 -- what comes after the subnet, the transitions, the places and the arcs at hand
@@ -146,7 +147,7 @@ pub sim : (p : Phase) (l : Layout) (v : ℕ) → fault_at p l v ≡ none → nex
 unfolding header subnet place transition arc subnets_s
 sim Version l v e = refl
 sim SubnetCount l v e =
-    let h = (some_unless_is _ _ _ (and_is _ _ _ _ (le_is 1 v) (le_is v max_subnets))).0 e in
+    let h = (some_unless_is _ _ _ (Decides-and _ _ (le_is 1 v) (le_is v max_subnets))).0 e in
     ap (λ (n : ℕ). fed (head_s l) (l.version ∷ n ∷ [])) (less_one v h.0)
 sim SignalCount l v e = refl
 sim Limit l v e = refl
@@ -154,11 +155,11 @@ sim Scale l v e = refl
 sim Parent l v e = refl
 sim SubnetType l v e = refl
 sim PlaceCount l v e =
-    let h = (some_unless_is _ _ _ (and_is _ _ _ _ (le_is 1 v) (le_is (l.places + v) max_count))).0 e in
+    let h = (some_unless_is _ _ _ (Decides-and _ _ (le_is 1 v) (le_is (l.places + v) max_count))).0 e in
     ap (λ (n : ℕ). fed (strip (subnet l.subnet 0 l.transitions) >>= (λ r. times n (place_s l.subnet) (times r.transitions (transition_s l.version l.signals) (rest_subnets l (l.places + v) (l.transitions + r.transitions))))) (0 ∷ 0 ∷ 0 ∷ []))
     (less_one v h.0)
 sim TransitionCount l v e =
-    let h = (some_unless_is _ _ _ (and_is _ _ _ _ (le_is 1 v) (le_is (l.transitions + v) max_count))).0 e in
+    let h = (some_unless_is _ _ _ (Decides-and _ _ (le_is 1 v) (le_is (l.transitions + v) max_count))).0 e in
     ap (λ (n : ℕ). times (suc l.place_rows) (place_s l.subnet) (times n (transition_s l.version l.signals) (rest_subnets l l.places (l.transitions + v)))) (less_one v h.0)
 sim Kind l v e = refl
 sim Capacity l v e = refl

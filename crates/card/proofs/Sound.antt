@@ -6,10 +6,11 @@ use native.Mathlib.Omega.{arith}
 use lib.ListN.{length}
 use lib.Dec.{eqb}
 use borrow.Author.Tests.{eqb-true, eqb-false}
+use Rattle.std.proofs.lemmas.Bool.Decides.{Decides-eqb, Decides-ltb, Decides-and}
 use Rattle.card.specs.Card.{Header, Subnet, Place, Transition, Arc, Card, normal, header_of, subnet_at, place_at, transition_at, arc_at, first_place, first_transition, first_arc}
 use Rattle.card.specs.Grammar.{max_count, header, subnet, place, transition, arc, card, max_version, max_subnets, max_signals}
 use Rattle.card.specs.Wellformed.{PlaceRow, TransitionRow, ArcRow, Rows, Wellformed}
-use Rattle.card.proofs.Decides.{eq_is, lt_is, le_is, and_is, implies_is, cond_is, some_unless_is}
+use Rattle.card.proofs.Decides.{le_is, implies_is, cond_is, some_unless_is}
 use Rattle.card.proofs.Sums.{sum_below, all_at}
 use Rattle.card.proofs.Ranges.{HeaderRow, SubnetAfter}
 use Rattle.card.proofs.Walk.{Every, Proper}
@@ -19,9 +20,9 @@ use Rattle.card.proofs.Prefix.{Counted, places_below, transitions_below, first_p
 clean_header : (h : Header) → HeaderRow h → Every Proper header h
 unfolding header
 clean_header h r = (
-  ((some_unless_is _ _ _ (and_is _ _ _ _ (le_is 1 h.version) (le_is h.version max_version))).1 r.version, omega (arith, r.version)),
+  ((some_unless_is _ _ _ (Decides-and _ _ (le_is 1 h.version) (le_is h.version max_version))).1 r.version, omega (arith, r.version)),
   (
-    ((some_unless_is _ _ _ (and_is _ _ _ _ (le_is 1 h.subnets) (le_is h.subnets max_subnets))).1 (r.some_subnets, r.few_subnets), omega (arith, r.few_subnets)),
+    ((some_unless_is _ _ _ (Decides-and _ _ (le_is 1 h.subnets) (le_is h.subnets max_subnets))).1 (r.some_subnets, r.few_subnets), omega (arith, r.few_subnets)),
     (((some_unless_is _ _ _ (le_is 1 h.signals)).1 r.some_signals, omega (arith, r.few_signals)), ((refl, r.limit), ((refl, r.scale), tt))),
   ),
 )
@@ -29,12 +30,12 @@ clean_header h r = (
 clean_subnet : (s p t : ℕ) (x : Subnet) → s < 32 → SubnetAfter s p t x → Every Proper (subnet s p t) x
 unfolding subnet
 clean_subnet s p t x l r = (
-  ((some_unless_is _ _ _ (cond_is _ _ _ _ _ _ (eq_is s 0) (eq_is x.parent 0) (lt_is x.parent s))).1 (λ e. (r.row.main e).0, r.row.parent), parent_small (eqb s 0) refl),
+  ((some_unless_is _ _ _ (cond_is _ _ _ _ _ _ (Decides-eqb s 0) (Decides-eqb x.parent 0) (Decides-ltb x.parent s))).1 (λ e. (r.row.main e).0, r.row.parent), parent_small (eqb s 0) refl),
   (
-    ((some_unless_is _ _ _ (implies_is _ _ _ _ (eq_is s 0) (eq_is x.type 0))).1 (λ e. (r.row.main e).1), r.row.type),
+    ((some_unless_is _ _ _ (implies_is _ _ _ _ (Decides-eqb s 0) (Decides-eqb x.type 0))).1 (λ e. (r.row.main e).1), r.row.type),
     (
-      ((some_unless_is _ _ _ (and_is _ _ _ _ (le_is 1 x.places) (le_is (p + x.places) max_count))).1 (r.row.places, r.few_places), omega (arith, r.few_places)),
-      (((some_unless_is _ _ _ (and_is _ _ _ _ (le_is 1 x.transitions) (le_is (t + x.transitions) max_count))).1 (r.row.transitions, r.few_transitions), omega (arith, r.few_transitions)), tt),
+      ((some_unless_is _ _ _ (Decides-and _ _ (le_is 1 x.places) (le_is (p + x.places) max_count))).1 (r.row.places, r.few_places), omega (arith, r.few_places)),
+      (((some_unless_is _ _ _ (Decides-and _ _ (le_is 1 x.transitions) (le_is (t + x.transitions) max_count))).1 (r.row.transitions, r.few_transitions), omega (arith, r.few_transitions)), tt),
     ),
   ),
 )
@@ -46,7 +47,7 @@ clean_subnet s p t x l r = (
 clean_place : (s : ℕ) (x : Place) → PlaceRow s x → Every Proper (place s) x
 unfolding place
 clean_place s x r = (
-  ((some_unless_is _ _ _ (implies_is _ _ _ _ (eq_is s 0) (eq_is x.kind normal))).1 r.main, omega (arith, r.kind)),
+  ((some_unless_is _ _ _ (implies_is _ _ _ _ (Decides-eqb s 0) (Decides-eqb x.kind normal))).1 r.main, omega (arith, r.kind)),
   (
     ((some_unless_is _ _ _ (le_is 1 x.capacity)).1 r.positive, omega (arith, r.capacity)),
     (((some_unless_is _ _ _ (le_is x.tokens x.capacity)).1 r.tokens, omega (arith, r.tokens, r.capacity)), tt),
@@ -56,7 +57,7 @@ clean_place s x r = (
 clean_transition : (v g : ℕ) (x : Transition) → g ≤ max_signals → TransitionRow v g x → Every Proper (transition v g) x
 unfolding transition
 clean_transition v g x l r = (
-  ((some_unless_is _ _ _ (lt_is x.signal g)).1 r.signal, omega (arith, r.signal)),
+  ((some_unless_is _ _ _ (Decides-ltb x.signal g)).1 r.signal, omega (arith, r.signal)),
   (((some_unless_is _ _ _ (le_is 1 x.arcs)).1 r.positive, omega (arith, r.arcs)), ((refl, r.rank), tt)),
 )
 

@@ -105,11 +105,6 @@ table_get from (suc n) f d (suc i) l = table_get (suc from) n f d i (omega arith
 pub table_at : {A : Type 0} (n : ℕ) (f : ℕ → A) (d : A) (i : ℕ) → i < n → get_or (table 0 n f) i d ≡ f i
 table_at n f d i l = table_get 0 n f d i l ∙ ap f (zero-add i)
 
--- lists
-pub map_length : {A B : Type 0} (f : A → B) (xs : List A) → length (map f xs) ≡ length xs
-map_length f [] = refl
-map_length f (x ∷ xs) = ap suc (map_length f xs)
-
 -- all members
 pub all_append : {A : Type 0} (P : A → Type 0) (xs ys : List A) → All P xs → All P ys → All P (xs ++ ys)
 all_append P [] ys h k = k

@@ -1,44 +1,18 @@
 -- What the slices of tables hold: the rows by number, and their counts. Assumes nothing.
-use Prim.Native.Nat.{ℕ, ◌/◌, ◌^◌, ◌≤◌, ◌<◌}
-use mathlib.Core.Path.{◌≡◌, refl, sym, ap, ◌∙◌}
-use mathlib.Core.Bool.{Bool, true, false, ◌&&◌, not}
+use Prim.Native.Nat.{ℕ, ◌/◌, ◌≤◌, ◌<◌}
+use mathlib.Core.Path.{◌≡◌, ap}
+use mathlib.Core.Bool.{◌&&◌}
 use mathlib.Core.List.{List}
 use native.Mathlib.Omega.{arith}
 use lib.ListN.{length, get_or}
-use lib.Dec.{ltb, eqb}
-use borrow.Author.Tests.{ltb-true, lt-ltb}
+use lib.Dec.{eqb}
 use Rattle.card.specs.Finite.{sum_to}
 use Rattle.card.specs.Card.{Card, Subnet, Transition, subnet_at, place_at, transition_at, first_place, first_transition, first_arc, no_arc, subnet_fields, place_fields, transition_fields, arc_fields}
 use Rattle.card.specs.Writing.{counted}
 use Rattle.card.specs.Rows.{entry, subnet_in, place_in, transition_in, arc_in, tables_in}
-use Rattle.card.specs.inner.Runs.{column_sum, Tells, HeaderFits}
-use Rattle.card.specs.inner.Layout.{width_at}
-use Rattle.card.specs.declared.layout.Phase.TheVariants.{Version, SubnetCount, SignalCount, Limit, Scale}
+use Rattle.card.specs.inner.Runs.{column_sum}
 use Rattle.card.specs.declared.Head.{Head}
 use Rattle.card.proofs.Sums.{table_length, table_at, sum_same}
-
-pub not_false : (b : Bool) → not b ≡ false → b ≡ true
-not_false true e = refl
-not_false false e = sym e
-
-pub not_true : (b : Bool) → not b ≡ true → b ≡ false
-not_true true e = sym e
-not_true false e = refl
-
-pub no_yes : {P : Type 0} → false ≡ true → P
-no_yes z = absurd (let y : ◌≡◌ {A = ℕ} 0 1 = cc in omega arith)
-
--- an answer no, because of a part or of a number; and what it takes for a yes
-pub tells_not : {P Q : Type 0} (b : Bool) → Tells b Q → b ≡ false → (P → Q) → Tells false P
-tells_not b t e f = (no_yes, λ p. sym e ∙ t.1 (f p))
-
-pub tells_no : {P : Type 0} → (P → ◌≤◌ 1 0) → Tells false P
-tells_no f = (no_yes, λ p. absurd (omega (arith, f p)))
-
-pub tells_header : (h : Head) (s n : ℕ) → h.version < 2 ^ width_at Version h.version → h.signals < 2 ^ width_at SignalCount h.version → h.limit < 2 ^ width_at Limit h.version
-    → h.scale < 2 ^ width_at Scale h.version → n ≡ 2 ^ width_at SubnetCount h.version → Tells (ltb s n) (HeaderFits h s)
-tells_header h s n a b d f e =
-    (λ t. record { version = a; subnets = rw e at (ltb-true s n t); signals = b; limit = d; scale = f }, λ x. lt-ltb s n (rw (← e) at x.subnets))
 
 module _ (head : Head) (subnets places transitions arcs : List ℕ) where
   abbrev c : Card

@@ -16,12 +16,11 @@ use Rattle.card.specs.inner.Runs.{Tells, ValuesFit, Leads, TablesInside, Gathere
 use Rattle.card.specs.Spelling.{Lines, IsSpelt}
 use Rattle.card.specs.declared.FormatFault.TheVariants.{BadTable}
 use Rattle.card.specs.declared.FormatRefusal.{FormatRefusal}
-use Rattle.card.specs.declared.writer.Spelt.{Spelt}
 use Rattle.std.specs.Prelude.{Result, Err}
+use Rattle.std.proofs.lemmas.Bool.{cases_lt}
+use Rattle.std.proofs.lemmas.Bool.Decides.{Decides-eqb, Decides-and}
 use Rattle.card.specs.declared.Head.{Head}
 use Rattle.card.specs.Tables.{table_size}
-use Rattle.card.proofs.Decides.{and_is, eq_is}
-use Rattle.card.proofs.BitLaws.{lt_or_ge}
 use Rattle.card.proofs.RoundTrip.{counted_is}
 use Rattle.card.proofs.Prefix.{Counted}
 use Rattle.card.proofs.TableLaws.{subnet_count, place_count, transition_count, arc_count, place_sum, transition_sum, arc_sum}
@@ -29,7 +28,7 @@ use Rattle.card.proofs.FitLaws.{Whole, fits_fields, fields_fit}
 use Rattle.card.proofs.NumberLaws.{numbers_runs}
 
 pub leads_gathered : (xs numbers : List ℕ) (m : ℕ) → length numbers ≡ table_size → Leads xs numbers m → Gathered xs numbers
-leads_gathered xs numbers m e h = record { entries = λ i l k. go i l k (lt_or_ge i m) }
+leads_gathered xs numbers m e h = record { entries = λ i l k. go i l k (cases_lt i m) }
   where
     go : (i : ℕ) → i < table_size → i < length xs → (i < m) ⊎ (m ≤ i) → get_or numbers i 0 ≡ get_or xs i 0
     go i l k (inl a) = h.same i a
@@ -45,7 +44,7 @@ module _ (head : Head) (subnets places transitions arcs : List ℕ) where
   pub whole_is : whole_rows subnets places transitions arcs ≡ true → Whole subnets places transitions arcs
   unfolding whole_rows
   whole_is e =
-      let x = (and_is _ _ _ _ (and_is _ _ _ _ (and_is _ _ _ _ (eq_is (length subnets % subnet_fields) 0) (eq_is (length places % place_fields) 0)) (eq_is (length transitions % transition_fields) 0)) (eq_is (length arcs % arc_fields) 0)).0 e in
+      let x = (Decides-and _ _ (Decides-and _ _ (Decides-and _ _ (Decides-eqb (length subnets % subnet_fields) 0) (Decides-eqb (length places % place_fields) 0)) (Decides-eqb (length transitions % transition_fields) 0)) (Decides-eqb (length arcs % arc_fields) 0)).0 e in
       record { subnets_end = x.0.0.0; places_end = x.0.0.1; transitions_end = x.0.1; arcs_end = x.1 }
 
   pub tables_inside : Counted c → TablesInside subnets places transitions arcs
@@ -58,16 +57,16 @@ module _ (head : Head) (subnets places transitions arcs : List ℕ) where
       record { place_rows = omega (arith, a); transition_rows = omega (arith, b); arc_rows = rw (← b) (omega (arith, d)) }
 
   -- 17
-  abbrev unfit : Result Spelt FormatRefusal
+  abbrev unfit : Result (List ℕ) FormatRefusal
   unfit = Err (record { fault = BadTable; bit = 0 })
 
   pub rows_ragged : whole_rows subnets places transitions arcs ≡ false → IsSpelt (read_rows head subnets places transitions arcs) unfit
   unfolding read_rows
-  rows_ragged e = rw e (record { answer = refl; bytes = λ d m z. tt })
+  rows_ragged e = rw e refl
 
   pub rows_uncounted : whole_rows subnets places transitions arcs ≡ true → counted c ≡ false → IsSpelt (read_rows head subnets places transitions arcs) unfit
   unfolding read_rows read_tables
-  rows_uncounted e k = rw (e, k) (record { answer = refl; bytes = λ d m z. tt })
+  rows_uncounted e k = rw (e, k) refl
 
   pub rows_unfit : whole_rows subnets places transitions arcs ≡ true → counted c ≡ true → (b : Bool) → Tells b (ValuesFit head subnets places transitions arcs) → b ≡ false
       → IsSpelt (read_rows head subnets places transitions arcs) unfit
@@ -75,7 +74,7 @@ module _ (head : Head) (subnets places transitions arcs : List ℕ) where
   rows_unfit e k b t q = go (all_fit (fields card c)) refl
     where
       go : (x : Bool) → all_fit (fields card c) ≡ x → IsSpelt (cond (whole_rows subnets places transitions arcs) (cond (counted c && all_fit (fields card c)) (read_card (encode c)) (Rattle.card.specs.Parsing.refused (number BadTable) 0)) (Rattle.card.specs.Parsing.refused (number BadTable) 0)) unfit
-      go false p = rw (e, k, p) (record { answer = refl; bytes = λ d m z. tt })
+      go false p = rw (e, k, p) refl
       go true p = absurd (let z = sym q ∙ t.1 (fields_fit head subnets places transitions arcs ((counted_is c).0 k) (whole_is e) p) in let y : ◌≡◌ {A = ℕ} 0 1 = cc in omega arith)
 
   -- else the card
@@ -85,7 +84,7 @@ module _ (head : Head) (subnets places transitions arcs : List ℕ) where
       let q = numbers_runs head subnets places transitions arcs n in
       record { counts = k; fit = fits_fields head subnets places transitions arcs n f; entries = λ i l m. h.entries i l (rw q at m) ∙ ap (λ xs. get_or xs i 0) (sym q) }
 
-  pub rows_spelt : whole_rows subnets places transitions arcs ≡ true → counted c ≡ true → all_fit (fields card c) ≡ true → (r : Result Spelt FormatRefusal) → IsSpelt (read_card (encode c)) r
+  pub rows_spelt : whole_rows subnets places transitions arcs ≡ true → counted c ≡ true → all_fit (fields card c) ≡ true → (r : Result (List ℕ) FormatRefusal) → IsSpelt (read_card (encode c)) r
       → IsSpelt (read_rows head subnets places transitions arcs) r
   unfolding read_rows read_tables
   rows_spelt e k f r h = rw (e, k, f) h

@@ -1,5 +1,5 @@
 -- A turn of the loop that reads a card, over plain values. Assumes nothing.
-use Prim.Native.Nat.{ℕ, zero, suc, ◌+◌, ◌-◌, ◌*◌, ◌/◌, ◌≤◌, ◌<◌}
+use Prim.Native.Nat.{ℕ, zero, suc, ◌+◌, ◌-◌, ◌*◌, ◌/◌, ◌^◌, ◌≤◌, ◌<◌}
 use mathlib.Core.Path.{◌≡◌, refl, sym, ap, subst, ◌∙◌}
 use mathlib.Core.Logic.{◌⊎◌, inl, inr}
 use mathlib.Core.Bool.{Bool, true, false, cond}
@@ -146,6 +146,29 @@ zero_in zero i = refl
 zero_in (suc n) zero = refl
 zero_in (suc n) (suc i) = zero_in n i
 
+-- a layout waits for a field of w bits
+pub waits_for : (l : Layout) (w : ℕ) → w ≡ width_of l → denote l ≡ get w (λ u. 0) (fault_at l.phase l) (next_of (denote l))
+waits_for l w e = waits l.phase l ∙ ap (λ (k : ℕ). get k (λ u. 0) (fault_at l.phase l) (next_of (denote l))) (sym e)
+
+-- so there is room for one more number on the card and in the largest card's table, and what is left behind it
+module _ (l : Layout) (at n w : ℕ) (budget : Budget (denote l) (table_size - n) (card_bits - at)) (low : at ≤ card_bits) (ew : w ≡ width_of l) where
+  waited : Budget (get w (λ u. 0) (fault_at l.phase l) (next_of (denote l))) (table_size - n) (card_bits - at)
+  waited = subst (λ (m : Format One Counts). Budget m (table_size - n) (card_bits - at)) (waits_for l w ew) budget
+
+  pub budget_room : (n < table_size) × (at + w ≤ card_bits)
+  budget_room = go (table_size - n) refl waited
+    where
+      go : (k : ℕ) → table_size - n ≡ k → Budget (get w (λ u. 0) (fault_at l.phase l) (next_of (denote l))) k (card_bits - at) → (n < table_size) × (at + w ≤ card_bits)
+      go zero e b = absurd b
+      go (suc k) e b = (omega arith, omega (arith, b.0, low))
+
+  pub budget_spent : (v : ℕ) → v < 2 ^ w → fault_at l.phase l v ≡ none → Budget (next_of (denote l) v) (table_size - (n + 1)) (card_bits - (at + w))
+  budget_spent v fits e =
+      let q : table_size - n ≡ suc (table_size - (n + 1)) = omega (arith, budget_room.0) in
+      let p : card_bits - at - w ≡ card_bits - (at + w) = omega arith in
+      let b : Budget (get w (λ u. 0) (fault_at l.phase l) (next_of (denote l))) (suc (table_size - (n + 1))) (card_bits - at) = rw q at waited in
+      rw p at (b.1 v fits e)
+
 module _ (bytes : List ℕ) (size : ℕ) where
   -- reading what is left from here ends as reading all; the numbers so far stand in the table, and zeros behind them
   pub record Left (l : Layout) (at n : ℕ) (numbers : List ℕ) : Type 0 where
@@ -178,19 +201,9 @@ module _ (bytes : List ℕ) (size : ℕ) where
       }
 
   module _ (l : Layout) (at n : ℕ) (t : List ℕ) (w : ℕ) (h : Left l at n t) (ew : w ≡ width_of l) where
-    wait : denote l ≡ get w (λ u. 0) (fault_at l.phase l) (next_of (denote l))
-    wait = waits l.phase l ∙ ap (λ (k : ℕ). get k (λ u. 0) (fault_at l.phase l) (next_of (denote l))) (sym ew)
-
-    waited : Budget (get w (λ u. 0) (fault_at l.phase l) (next_of (denote l))) (table_size - n) (card_bits - at)
-    waited = subst (λ (m : Format One Counts). Budget m (table_size - n) (card_bits - at)) wait h.budget
-
     -- there is room on the card, and in the largest card's table
     pub left_room : (n < table_size) × (at + w ≤ card_bits)
-    left_room = go (table_size - n) refl waited
-      where
-        go : (k : ℕ) → table_size - n ≡ k → Budget (get w (λ u. 0) (fault_at l.phase l) (next_of (denote l))) k (card_bits - at) → (n < table_size) × (at + w ≤ card_bits)
-        go zero e b = absurd b
-        go (suc k) e b = (omega arith, omega (arith, b.0, h.low))
+    left_room = budget_room l at n w h.budget h.low ew
 
     -- there is room in the table
     pub left_fits : at + w ≤ 8 * length bytes → n < size
@@ -201,7 +214,7 @@ module _ (bytes : List ℕ) (size : ℕ) where
         go (inr m) = omega (arith, h.ahead, ew, spare_width l.phase l.version)
 
     waiting : read bytes (get w (λ u. 0) (fault_at l.phase l) (next_of (denote l))) at ≡ read bytes card_s 0
-    waiting = ap (λ (m : Format One Counts). read bytes m at) (sym wait) ∙ h.answer
+    waiting = ap (λ (m : Format One Counts). read bytes m at) (sym (waits_for l w ew)) ∙ h.answer
 
     pub left_ends : 8 * length bytes < at + w → read bytes card_s 0 ≡ refused (number Truncated) at
     unfolding read
@@ -221,7 +234,7 @@ module _ (bytes : List ℕ) (size : ℕ) where
       more_values : (k : Format One Counts) → next_of (denote l) v ≡ k → take (n + 1) (set t n v) ++ numbers_in bytes k (at + w) ≡ numbers_in bytes card_s 0
       more_values k e =
           let a : numbers_in bytes (denote l) at ≡ v ∷ numbers_in bytes k (at + w) =
-          ap (λ (m : Format One Counts). numbers_in bytes m at) wait ∙ rw (← ev, e) in
+          ap (λ (m : Format One Counts). numbers_in bytes m at) (waits_for l w ew) ∙ rw (← ev, e) in
           rw (add-one, take-suc-set t n v (omega (arith, h.long, left_fits g))) (append_snoc (take n t) v (numbers_in bytes k (at + w)) ∙ ap (λ xs. take n t ++ xs) (sym a) ∙ h.values)
 
       more_zeros : (i : ℕ) → n + 1 ≤ i → get_or (set t n v) i 0 ≡ 0
@@ -238,18 +251,12 @@ module _ (bytes : List ℕ) (size : ℕ) where
             room = h.room;
             ahead = omega (arith, h.ahead, ew, spare_step l m v (sym er ∙ e));
             sane = sane_step l m v h.sane (sym er ∙ e);
-            budget = subst (λ (x : Format One Counts). Budget x (table_size - (n + 1)) (card_bits - (at + w))) k.1 (spent k.0);
+            budget = subst (λ (x : Format One Counts). Budget x (table_size - (n + 1)) (card_bits - (at + w))) k.1
+                (budget_spent l at n w h.budget h.low ew v (rw ev (field_small (bit bytes) (bit_small bytes) at w)) k.0);
             low = left_room.1;
             inside = g;
             few = omega (arith, left_room.0);
           }
-        where
-          spent : fault_at l.phase l v ≡ none → Budget (next_of (denote l) v) (table_size - (n + 1)) (card_bits - (at + w))
-          spent e =
-              let q : table_size - n ≡ suc (table_size - (n + 1)) = omega (arith, left_room.0) in
-              let p : card_bits - at - w ≡ card_bits - (at + w) = omega arith in
-              let b : Budget (get w (λ u. 0) (fault_at l.phase l) (next_of (denote l))) (suc (table_size - (n + 1))) (card_bits - at) = rw q at waited in
-              rw p at (b.1 v (rw ev (field_small (bit bytes) (bit_small bytes) at w)) e)
 
       pub left_done : (k : Counts) → r ≡ Ok (Done k) → (read bytes card_s 0 ≡ whole k (at + w)) × (take (n + 1) (set t n v) ≡ numbers_in bytes card_s 0) × (length (set t n v) ≡ size)
           × ((i : ℕ) → n + 1 ≤ i → get_or (set t n v) i 0 ≡ 0)

@@ -9,13 +9,13 @@ use native.Mathlib.Nat.{add-zero}
 use lib.ListN.{length}
 use lib.Dec.{eqb}
 use borrow.Author.Tests.{lt-ltb, le-ltb, eqb-true, eqb-false}
+use Rattle.std.proofs.lemmas.Bool.Decides.{Decides-ltb, Decides-and}
 use Rattle.card.specs.Finite.{table}
 use Rattle.card.specs.Bits.{bit, bit_field}
 use Rattle.card.specs.Format.{Format, done, get, of, each, ◌>>=◌}
 use Rattle.card.specs.Parsing.{Parsing, whole, read, unless_fault}
 use Rattle.card.specs.Writing.{Field, fields, all_fit}
 use Rattle.card.specs.declared.FormatFault.{FormatFault}
-use Rattle.card.proofs.Decides.{and_is, lt_is}
 use Rattle.card.proofs.Sums.{total}
 use Rattle.card.proofs.Yields.{not_whole}
 
@@ -135,7 +135,7 @@ pub all_fits : {U A : Type 0} (m : Format U A) (u : U) → all_fit (fields m u) 
 unfolding fields all_fit
 all_fits (done a) u h = tt
 all_fits (get w value fault next) u h =
-    let x = (and_is _ _ _ _ (lt_is (value u) (2 ^ w)) (λ (e : all_fit (fields (next (value u)) u) ≡ true). e, λ (e : all_fit (fields (next (value u)) u) ≡ true). e)).0 h in
+    let x = (Decides-and _ _ (Decides-ltb (value u) (2 ^ w)) (λ (e : all_fit (fields (next (value u)) u) ≡ true). e, λ (e : all_fit (fields (next (value u)) u) ≡ true). e)).0 h in
     (x.0, all_fits (next (value u)) u x.1)
 
 -- READING WHAT IS SPELT

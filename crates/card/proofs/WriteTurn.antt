@@ -1,18 +1,18 @@
 -- A turn of the loop that spells a card, over plain values. Assumes nothing.
-use Prim.Native.Nat.{ℕ, zero, suc, ◌+◌, ◌-◌, ◌*◌, ◌/◌, ◌^◌, ◌≤◌, ◌<◌}
+use Prim.Native.Nat.{ℕ, ◌+◌, ◌-◌, ◌*◌, ◌/◌, ◌^◌, ◌≤◌, ◌<◌}
 use mathlib.Core.Path.{◌≡◌, refl, sym, ap, subst, ◌∙◌}
 use mathlib.Core.Logic.{◌⊎◌, inl, inr}
-use mathlib.Core.Bool.{Bool, true, false, ◌&&◌}
+use mathlib.Core.Bool.{true}
 use mathlib.Core.List.{List, [], ◌∷◌, ◌++◌, map}
 use mathlib.Core.Option.{Option, none}
 use native.Mathlib.Omega.{arith}
 use native.Mathlib.Nat.{add-zero, zero-div}
-use lib.ListN.{length, get_or, replicate, length-append, length-replicate}
-use lib.Seq.{ext_get_or, append_snoc}
+use lib.ListN.{length, get_or, take, drop, replicate, length-append, length-drop, length-replicate}
+use lib.Seq.{ext_get_or, append_snoc, get_or-take, get_or-drop, length-take-le}
 use lib.Dec.{ltb}
 use borrow.Author.Tests.{ltb-true}
 use Rattle.card.specs.Numbers.{number}
-use Rattle.card.specs.Finite.{table}
+use Rattle.card.specs.inner.Rooms.{IsFilled}
 use Rattle.card.specs.Bits.{bit, bit_field}
 use Rattle.card.specs.inner.Spans.{Put}
 use Rattle.card.specs.Card.{Card}
@@ -21,25 +21,24 @@ use Rattle.card.specs.Grammar.{card}
 use Rattle.card.specs.Parsing.{refused, whole, read_card}
 use Rattle.card.specs.Writing.{Field, fields, encode, all_fit, counted}
 use Rattle.card.specs.Tables.{numbers_of, table_size, card_bits, card_bytes}
-use Rattle.card.specs.Spelling.{Lines, IsSpelt, bytes_of}
+use Rattle.card.specs.Spelling.{Lines, IsSpelt}
 use Rattle.card.specs.Spelling
 use Rattle.card.specs.inner.Layout.{width_of, fault_at, start_of, Move, step_of, Sane}
 use Rattle.card.specs.declared.FormatFault.{FormatFault}
 use Rattle.card.specs.declared.layout.Layout.{Layout}
 use Rattle.card.specs.declared.Counts.{Counts}
 use Rattle.card.specs.declared.layout.Next.TheVariants.{More, Done}
-use Rattle.card.specs.declared.FormatRefusal.{FormatRefusal}
-use Rattle.card.specs.declared.writer.Spelt as Writer
-use Rattle.std.specs.Prelude.{Result, Ok, Err}
-use Rattle.card.proofs.Sums.{total_append, table_length, table_at}
+use Rattle.std.specs.Prelude.{Ok, Err}
+use Rattle.std.proofs.lemmas.Bool.{cases_lt, and_parts}
+use Rattle.card.proofs.Sums.{total_append}
 use Rattle.card.proofs.Walk.{bits, walk, Spelt}
-use Rattle.card.proofs.BitLaws.{field_local, byte_field, lt_or_ge}
+use Rattle.card.proofs.BitLaws.{field_local, byte_field}
 use Rattle.card.proofs.Pack.{spell_fill, spell_length, spell_bytes, spell_spelt}
 use Rattle.card.proofs.RoundTrip.{read_encode, spelt_same, counted_is, walk_whole}
 use Rattle.card.proofs.Shape.{One, erase, counts_of, erase_card}
-use Rattle.card.proofs.Simulates.{denote, next_of, waits, denote_start}
+use Rattle.card.proofs.Simulates.{denote, next_of, denote_start}
 use Rattle.card.proofs.Bounds.{Budget, budget_card, sane_step, sane_start}
-use Rattle.card.proofs.Turn.{Leads, leads, zero_in}
+use Rattle.card.proofs.Turn.{Leads, leads, zero_in, waits_for, budget_room, budget_spent}
 
 -- what is still to be spelt of c: a format, whose shape the layout has, and the fields that are spelt
 pub record Rest (c : Card) (l : Layout) (at n : ℕ) (bytes : List ℕ) : Type 0 where
@@ -79,14 +78,10 @@ module _ (numbers : List ℕ) where
     pub wide : bits front ≡ at
     pub spelt : Spelt bytes 0 front
 
-and_split : (a b : Bool) → a && b ≡ true → (a ≡ true) × (b ≡ true)
-and_split true b e = (refl, e)
-and_split false b e = absurd (let z : ◌≡◌ {A = ℕ} 0 1 = cc in omega arith)
-
 fit_front : (front back : List Field) (f : Field) → all_fit (front ++ (f ∷ back)) ≡ true → f.value < 2 ^ f.width
 unfolding all_fit
-fit_front [] back f e = ltb-true f.value (2 ^ f.width) (and_split (ltb f.value (2 ^ f.width)) (all_fit back) e).0
-fit_front (x ∷ front) back f e = fit_front front back f (and_split (ltb x.value (2 ^ x.width)) (all_fit (front ++ (f ∷ back))) e).1
+fit_front [] back f e = ltb-true f.value (2 ^ f.width) (and_parts (ltb f.value (2 ^ f.width)) (all_fit back) e).0
+fit_front (x ∷ front) back f e = fit_front front back f (and_parts (ltb x.value (2 ^ x.width)) (all_fit (front ++ (f ∷ back))) e).1
 
 value_front : (front back : List Field) (f : Field) → get_or (map (λ x. x.value) (front ++ (f ∷ back))) (length front) 0 ≡ f.value
 value_front [] back f = refl
@@ -101,9 +96,6 @@ module _ (numbers : List ℕ) (c : Card) (k : Lines c numbers) (l : Layout) (at 
   unfolding fields numbers_of
   next_of_rest r = go r.format r.shape r.walks r.joined
     where
-      wait : denote l ≡ get w (λ u. 0) (fault_at l.phase l) (next_of (denote l))
-      wait = waits l.phase l ∙ ap (λ (i : ℕ). get i (λ u. 0) (fault_at l.phase l) (next_of (denote l))) (sym ew)
-
       here : (value : Card → ℕ) (fault : ℕ → Option FormatFault) (after : ℕ → Format Card Card) → fault ≡ fault_at l.phase l → (λ x. erase counts_of (after x)) ≡ next_of (denote l)
           → walk (get w value fault after) c at ≡ walk card c 0 → r.front ++ (record { width = w; value = value c } ∷ fields (after (value c)) c) ≡ fields card c → Next numbers c l at n bytes w v
       here value fault after ef ea x j =
@@ -130,9 +122,9 @@ module _ (numbers : List ℕ) (c : Card) (k : Lines c numbers) (l : Layout) (at 
           }
 
       go : (m : Format Card Card) → erase counts_of m ≡ denote l → walk m c at ≡ walk card c 0 → r.front ++ fields m c ≡ fields card c → Next numbers c l at n bytes w v
-      go (done a) e x j = absurd (let y = e ∙ wait in let z : ◌≡◌ {A = ℕ} 0 1 = cc in omega arith)
+      go (done a) e x j = absurd (let y = e ∙ waits_for l w ew in let z : ◌≡◌ {A = ℕ} 0 1 = cc in omega arith)
       go (get u value fault after) e x j =
-          let y : get u (λ z. 0) fault (λ z. erase counts_of (after z)) ≡ get w (λ z. 0) (fault_at l.phase l) (next_of (denote l)) = e ∙ wait in
+          let y : get u (λ z. 0) fault (λ z. erase counts_of (after z)) ≡ get w (λ z. 0) (fault_at l.phase l) (next_of (denote l)) = e ∙ waits_for l w ew in
           let eu : u ≡ w = cc in
           let ef : fault ≡ fault_at l.phase l = cc in
           let ea : (λ z. erase counts_of (after z)) ≡ next_of (denote l) = cc in
@@ -157,12 +149,30 @@ behind_start numbers =
       rest = λ c k. record { format = card; shape = erase_card ∙ sym denote_start; walks = refl; front = []; joined = refl; count = refl; wide = refl; spelt = tt };
     }
 
+-- zeros stand behind the byte of the last bit
+module _ (bytes : List ℕ) (end : ℕ) (low : end ≤ card_bits) (long : length bytes ≡ card_bytes) (small : (i : ℕ) → get_or bytes i 0 < 256) (zeros : (i : ℕ) → end ≤ i → bit bytes i ≡ 0) where
+  zero_byte : (i : ℕ) → end ≤ 8 * i → get_or bytes i 0 ≡ 0
+  zero_byte i h =
+      byte_field bytes small i
+      ∙ field_local (bit bytes) (bit (replicate 0 0)) (8 * i) 8 (λ j a b. zeros j (omega arith) ∙ sym (zero_bit 0 j))
+      ∙ sym (byte_field (replicate 0 0) (λ j. omega arith) i)
+      ∙ zero_in 0 i
+
+  zeros_behind : IsFilled card_bytes bytes ((end + 7) / 8)
+  zeros_behind = record {
+    fits = omega (arith, low);
+    long = long;
+    zeros =
+        ext_get_or 0 (drop ((end + 7) / 8) bytes) (replicate (card_bytes - (end + 7) / 8) 0) (length-drop ((end + 7) / 8) bytes ∙ ap (λ (m : ℕ). m - (end + 7) / 8) long ∙ sym (length-replicate {A = ℕ} (card_bytes - (end + 7) / 8) 0))
+        (λ i l. get_or-drop ((end + 7) / 8) bytes i 0 ∙ zero_byte ((end + 7) / 8 + i) (omega arith) ∙ sym (zero_in (card_bytes - (end + 7) / 8) i));
+  }
+
 -- bytes that spell the fields of c, with zeros behind, are the bytes of its card
-module _ (c : Card) (bytes : List ℕ) (end : ℕ) (k : all_fit (fields card c) ≡ true) (e : end ≡ bits (fields card c))
+module _ (c : Card) (bytes : List ℕ) (end : ℕ) (k : all_fit (fields card c) ≡ true) (e : end ≡ bits (fields card c)) (low : end ≤ card_bits)
     (long : length bytes ≡ card_bytes) (small : (i : ℕ) → get_or bytes i 0 < 256) (zeros : (i : ℕ) → end ≤ i → bit bytes i ≡ 0) (s : Spelt bytes 0 (fields card c)) where
   whole_bit : (i : ℕ) → bit bytes i ≡ bit (encode c) i
   unfolding encode
-  whole_bit i = go (lt_or_ge i end)
+  whole_bit i = go (cases_lt i end)
     where
       go : (i < end) ⊎ (end ≤ i) → bit bytes i ≡ bit (encode c) i
       go (inl h) = spelt_same bytes (encode c) 0 (fields card c) s (spell_spelt (fields card c) k) i (omega arith) (omega arith)
@@ -175,19 +185,17 @@ module _ (c : Card) (bytes : List ℕ) (end : ℕ) (k : all_fit (fields card c) 
       ∙ field_local (bit bytes) (bit (encode c)) (8 * i) 8 (λ j a b. whole_bit j)
       ∙ sym (byte_field (encode c) (spell_bytes (fields card c)) i)
 
-  whole_bytes : bytes ≡ table 0 card_bytes (λ i. get_or (encode c) i 0)
-  whole_bytes =
-      ext_get_or 0 bytes (table 0 card_bytes (λ i. get_or (encode c) i 0)) (long ∙ sym (table_length 0 card_bytes (λ i. get_or (encode c) i 0)))
-      (λ i l. whole_byte i ∙ sym (table_at card_bytes (λ j. get_or (encode c) j 0) 0 i (omega (arith, long))))
-
-  pub whole_spelt : counted c ≡ true → (d : Card) → walk card c 0 ≡ whole d end → (r : Writer.Spelt) → r.length ≡ (end + 7) / 8 → r.bytes ≡ bytes → IsSpelt (read_card (encode c)) (Ok r)
+  whole_bytes : take ((end + 7) / 8) bytes ≡ encode c
   unfolding encode
-  whole_spelt n d w r ea eb =
+  whole_bytes =
+      let cut : length (take ((end + 7) / 8) bytes) ≡ (end + 7) / 8 = length-take-le ((end + 7) / 8) bytes (omega (arith, low, long)) in
+      ext_get_or 0 (take ((end + 7) / 8) bytes) (encode c) (cut ∙ omega (arith, e, spell_length (fields card c)))
+      (λ i l. get_or-take ((end + 7) / 8) bytes i 0 (omega (arith, cut)) ∙ whole_byte i)
+
+  pub whole_spelt : counted c ≡ true → (d : Card) → walk card c 0 ≡ whole d end → (s : List ℕ) → s ≡ take ((end + 7) / 8) bytes → IsSpelt (read_card (encode c)) (Ok s)
+  whole_spelt n d w s es =
       let q : d ≡ c = (walk_whole c d end ((counted_is c).0 n) w).0 in
-      rw (read_encode c k, w, q) (record {
-        answer = rw ea (ap Spelling.whole (omega (arith, spell_length (fields card c))));
-        bytes = λ x m z. eb ∙ whole_bytes ∙ ap bytes_of (let y : c ≡ x = cc in y);
-      })
+      rw (read_encode c k, w, q) (ap Spelling.whole (es ∙ whole_bytes))
 
 -- a field more
 spelt_keep : (old new : List ℕ) (at : ℕ) (fs : List Field) → ((i : ℕ) → i < at + bits fs → bit new i ≡ bit old i) → Spelt old at fs → Spelt new at fs
@@ -202,22 +210,12 @@ spelt_snoc bytes at (x ∷ fs) f s e =
     (s.0, spelt_snoc bytes (at + x.width) fs f s.1 (ap (λ (i : ℕ). bit_field (bit bytes) i f.width) (sym q) ∙ e))
 
 module _ (numbers : List ℕ) (l : Layout) (at n : ℕ) (bytes : List ℕ) (w v : ℕ) (b : Behind numbers l at n bytes) (ew : w ≡ width_of l) where
-  wait : denote l ≡ get w (λ u. 0) (fault_at l.phase l) (next_of (denote l))
-  wait = waits l.phase l ∙ ap (λ (i : ℕ). get i (λ u. 0) (fault_at l.phase l) (next_of (denote l))) (sym ew)
-
-  waited : Budget (get w (λ u. 0) (fault_at l.phase l) (next_of (denote l))) (table_size - n) (card_bits - at)
-  waited = subst (λ (m : Format One Counts). Budget m (table_size - n) (card_bits - at)) wait b.budget
-
   pub behind_room : (n < table_size) × (at + w ≤ card_bits)
-  behind_room = go (table_size - n) refl waited
-    where
-      go : (k : ℕ) → table_size - n ≡ k → Budget (get w (λ u. 0) (fault_at l.phase l) (next_of (denote l))) k (card_bits - at) → (n < table_size) × (at + w ≤ card_bits)
-      go zero e h = absurd h
-      go (suc k) e h = (omega arith, omega (arith, h.0, b.low))
+  behind_room = budget_room l at n w b.budget b.low ew
 
   -- a number that does not fit is none of a card's
-  pub behind_wide : v ≡ get_or numbers n 0 → 2 ^ w ≤ v → (c : Card) → Lines c numbers → (r : Result Writer.Spelt FormatRefusal) → IsSpelt (read_card (encode c)) r
-  behind_wide ev h c k r = let x = next_of_rest numbers c k l at n bytes w v behind_room.0 ew ev (b.rest c k) in absurd (omega (arith, x.fits))
+  pub behind_wide : v ≡ get_or numbers n 0 → 2 ^ w ≤ v → (c : Card) → Lines c numbers → ⊥
+  behind_wide ev h c k = let x = next_of_rest numbers c k l at n bytes w v behind_room.0 ew ev (b.rest c k) in omega (arith, x.fits)
 
   module _ (r : Move) (new : List ℕ) (ev : v ≡ get_or numbers n 0) (fits : v < 2 ^ w) (put : Put bytes at w v new) (er : r ≡ step_of l v) where
     next : (c : Card) → Lines c numbers → Next numbers c l at n bytes w v
@@ -228,7 +226,7 @@ module _ (numbers : List ℕ) (l : Layout) (at n : ℕ) (bytes : List ℕ) (w v 
         let x = next c k in
         let y = subst (Leads l v) e (leads l v r er) in
         let q : walk card c 0 ≡ refused (number f) at = sym x.walks ∙ rw (x.right, x.faults, y) in
-        rw (read_encode c k.fit, q) (record { answer = refl; bytes = λ d m z. tt })
+        rw (read_encode c k.fit, q) refl
 
     -- the number is spelt behind the others
     abbrev field : Field
@@ -244,7 +242,7 @@ module _ (numbers : List ℕ) (l : Layout) (at n : ℕ) (bytes : List ℕ) (w v 
         let y = subst (Leads l v) e (leads l v r er) in
         record {
           sane = sane_step l m v b.sane (sym er ∙ e);
-          budget = subst (λ (x : Format One Counts). Budget x (table_size - (n + 1)) (card_bits - (at + w))) y.1 (spent y.0);
+          budget = subst (λ (x : Format One Counts). Budget x (table_size - (n + 1)) (card_bits - (at + w))) y.1 (budget_spent l at n w b.budget b.low ew v fits y.0);
           low = behind_room.1;
           few = omega (arith, behind_room.0);
           long = put.long ∙ b.long;
@@ -253,13 +251,6 @@ module _ (numbers : List ℕ) (l : Layout) (at n : ℕ) (bytes : List ℕ) (w v 
           rest = λ c k. rest_more c (next c k) y.0 y.1;
         }
       where
-        spent : fault_at l.phase l v ≡ none → Budget (next_of (denote l) v) (table_size - (n + 1)) (card_bits - (at + w))
-        spent e =
-            let q : table_size - n ≡ suc (table_size - (n + 1)) = omega (arith, behind_room.0) in
-            let p : card_bits - at - w ≡ card_bits - (at + w) = omega arith in
-            let x : Budget (get w (λ u. 0) (fault_at l.phase l) (next_of (denote l))) (suc (table_size - (n + 1))) (card_bits - at) = rw q at waited in
-            rw p at (x.1 v fits e)
-
         rest_more : (c : Card) (x : Next numbers c l at n bytes w v) → fault_at l.phase l v ≡ none → next_of (denote l) v ≡ denote m → Rest c m (at + w) (n + 1) new
         rest_more c x p q =
             record {
@@ -274,9 +265,12 @@ module _ (numbers : List ℕ) (l : Layout) (at n : ℕ) (bytes : List ℕ) (w v 
             }
 
     -- the last number: what is spelt is the card
-    pub behind_done : (m : Counts) → r ≡ Ok (Done m) → (c : Card) → Lines c numbers → (s : Writer.Spelt) → s.length ≡ (at + w + 7) / 8 → s.bytes ≡ new → IsSpelt (read_card (encode c)) (Ok s)
+    pub behind_filled : IsFilled card_bytes new ((at + w + 7) / 8)
+    behind_filled = zeros_behind new (at + w) behind_room.1 (put.long ∙ b.long) (put.small b.small) (λ i h. put.outside i (inr h) ∙ b.zeros i (omega arith))
+
+    pub behind_done : (m : Counts) → r ≡ Ok (Done m) → (c : Card) → Lines c numbers → (s : List ℕ) → s ≡ take ((at + w + 7) / 8) new → IsSpelt (read_card (encode c)) (Ok s)
     unfolding fields
-    behind_done m e c k s ea eb = go (x.after v) refl
+    behind_done m e c k s es = go (x.after v) refl
       where
         x : Next numbers c l at n bytes w v
         x = next c k
@@ -289,5 +283,9 @@ module _ (numbers : List ℕ) (l : Layout) (at n : ℕ) (bytes : List ℕ) (w v 
         go (done d) q =
             let all : x.front ++ (field ∷ []) ≡ fields card c = rw q at x.joined in
             let end : at + w ≡ bits (fields card c) = rw (← all) (sym (total_append (λ f. f.width) x.front (field ∷ []) ∙ omega (arith, x.wide))) in
-            whole_spelt c new (at + w) k.fit end (put.long ∙ b.long) (put.small b.small) (λ i h. put.outside i (inr h) ∙ b.zeros i (omega arith))
-            (rw (← all) (more_spelt x.front x.wide x.spelt)) k.counts d (sym x.walks ∙ rw (x.right, x.faults, y.0, q)) s ea eb
+            whole_spelt c new (at + w) k.fit end behind_room.1 (put.long ∙ b.long) (put.small b.small) (λ i h. put.outside i (inr h) ∙ b.zeros i (omega arith))
+            (rw (← all) (more_spelt x.front x.wide x.spelt)) k.counts d (sym x.walks ∙ rw (x.right, x.faults, y.0, q)) s es
+
+-- a field is still to be spelt, so that a table's numbers are not all behind
+pub behind_all : (numbers : List ℕ) (l : Layout) (at n : ℕ) (bytes : List ℕ) → Behind numbers l at n bytes → table_size ≤ n → ⊥
+behind_all numbers l at n bytes b h = omega (arith, behind_room numbers l at n bytes (width_of l) 0 b refl)

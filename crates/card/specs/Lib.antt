@@ -12,5 +12,7 @@ pub mod Index
 pub mod Tables
 pub mod Spelling
 pub mod Rows
+pub mod RowList
 pub mod View
+pub mod Text
 pub mod inner

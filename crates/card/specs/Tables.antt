@@ -1,5 +1,5 @@
 -- A card's numbers in one table, as the reader leaves them for the layers above.
-use Rattle.std.specs.Prelude.{ℕ, ◌+◌, ◌*◌, ◌/◌, ◌≤◌, ◌≡◌, Bool, true, false, cond, List, map, length, get_or, leb, Result, Ok, Err, IfOk}
+use Rattle.std.specs.Prelude.{ℕ, ◌+◌, ◌*◌, ◌/◌, ◌≤◌, ◌≡◌, Bool, true, false, cond, List, map, length, replicate, get_or, leb, Result, Ok, Err, IfOk}
 use Rattle.card.specs.Finite.{table}
 use Rattle.card.specs.Numbers.{number}
 use Rattle.card.specs.Card.{Card, header_fields, subnet_fields, place_fields, transition_fields, arc_fields}
@@ -8,7 +8,7 @@ use Rattle.card.specs.Parsing.{Parsing}
 use Rattle.card.specs.Writing.{fields}
 use Rattle.card.specs.Index.{starts_of}
 use Rattle.card.specs.declared.FormatRefusal.{FormatRefusal}
-use Rattle.card.specs.declared.reader.CardRead.{CardRead}
+use Rattle.card.specs.declared.index.CardIndex.{CardIndex}
 
 -- the most fields of a card: those of its header, and of so many subnets, places, and transitions with their arcs
 abbrev pub table_size : ℕ
@@ -30,7 +30,7 @@ pub data ReadOutcome : Type 0 where
   whole : (subnets places transitions : ℕ) → ReadOutcome
   refused : (number bit : ℕ) → ReadOutcome
 
-abbrev pub read_outcome : Result CardRead FormatRefusal → ReadOutcome
+abbrev pub read_outcome : Result CardIndex FormatRefusal → ReadOutcome
 read_outcome (Ok r) = whole r.counts.subnets r.counts.places r.counts.transitions
 read_outcome (Err e) = refused (number e.fault) e.bit
 
@@ -51,7 +51,7 @@ table_of size (Parsing.whole c end) = numbers_table size c
 table_of size (Parsing.refused n at) = zeros size
 
 -- the answer, and where the rows of a card that is whole begin
-pub record IsRead (x : Parsing Card) (r : Result CardRead FormatRefusal) : Type 0 where
+pub record IsRead (x : Parsing Card) (r : Result CardIndex FormatRefusal) : Type 0 where
   pub answer : read_outcome r ≡ outcome_of x
   pub starts : (c : Card) (end : ℕ) → x ≡ Parsing.whole c end → IfOk r (λ k. k.starts ≡ starts_of c)
 
@@ -59,6 +59,19 @@ pub record IsRead (x : Parsing Card) (r : Result CardRead FormatRefusal) : Type 
 -- bits stand on a card, fields with more bits than one stand before them.)
 abbrev pub has_room : (bytes size : ℕ) → Bool
 has_room bytes size = cond (leb table_size size) true (leb bytes (size / 8))
+
+-- how many numbers a table for a card of so many bytes has: one for each bit of a small card, as a robot's is, and else those of the largest
+abbrev pub small_card : ℕ
+small_card = 256
+
+abbrev pub room_for : (bytes : ℕ) → ℕ
+room_for bytes = cond (leb bytes small_card) (8 * small_card) table_size
+
+-- such a table, cleared: there is room in it for the numbers of any card of so many bytes
+pub record IsRoomFor (bytes : ℕ) (numbers : List ℕ) : Type 0 where
+  pub clear : numbers ≡ replicate (room_for bytes) 0
+  pub room : has_room bytes (length numbers) ≡ true
+  pub small : length numbers ≤ table_size
 
 -- a table of so many numbers that was filled, and has room for all of them
 pub record IsTable (x : Parsing Card) (size : ℕ) (numbers : List ℕ) : Type 0 where

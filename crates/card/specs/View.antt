@@ -1,15 +1,14 @@
 -- A card as its two tables hold it: what the layers above work on.
-use Rattle.std.specs.Prelude.{ℕ, suc, ◌<◌, ◌*◌, ◌+◌, ◌≤◌, ◌≡◌, List, length, get_or}
-use Rattle.card.specs.Card.{Subnet, Place, Transition, Arc, Card, arc_fields, transition_at, arc_at}
+use Rattle.std.specs.Prelude.{ℕ, zero, suc, ◌+◌, ◌≤◌, ◌≡◌, List, length, get_or}
+use Rattle.card.specs.Card.{Subnet, Place, Transition, Arc, Card, subnet_at, place_at, transition_at, arc_at, first_place}
+use Rattle.card.specs.Finite.{table}
 use Rattle.card.specs.Format.{Format, done, get}
 use Rattle.card.specs.Grammar.{card}
 use Rattle.card.specs.Tables.{numbers_of}
 use Rattle.card.specs.Wellformed.{Wellformed}
 use Rattle.card.specs.Index.{Loaded}
-use Rattle.card.specs.Writing.{encode}
-use Rattle.card.specs.Spelling.{bytes_of}
 use Rattle.card.specs.declared.Counts.{Counts}
-use Rattle.card.specs.declared.writer.Spelt.{Spelt}
+use Rattle.card.specs.declared.index.CardIndex.{CardIndex}
 use Rattle.card.specs.declared.view.Direction.{Direction}
 use Rattle.card.specs.declared.view.Direction.TheVariants.{Draws, Fills}
 use Rattle.card.specs.declared.view.Kind.{Kind}
@@ -34,13 +33,13 @@ pub record IsCounted (c : Card) (k : Counts) : Type 0 where
   pub places : k.places ≡ length c.places
   pub transitions : k.transitions ≡ length c.transitions
 
--- the two tables are those of a well-formed card, which has so many rows
-pub record Holds (c : Card) (numbers starts : List ℕ) (k : Counts) : Type 0 where
+-- the numbers are those of a well-formed card, and the index is theirs
+pub record Holds (c : Card) (numbers : List ℕ) (i : CardIndex) : Type 0 where
   pub wellformed : Wellformed c
   pub fits : length (numbers_of c) ≤ length numbers
   pub entries : (i : ℕ) → get_or numbers i 0 ≡ get_or (numbers_of c) i 0
-  pub loaded : Loaded c numbers starts
-  pub counts : IsCounted c k
+  pub loaded : Loaded c numbers i.starts
+  pub counts : IsCounted c i.counts
 
 -- the numbers that a card has for kinds and directions ('The card')
 abbrev pub kind_number : Kind → ℕ
@@ -52,6 +51,17 @@ kind_number InOut = 3
 abbrev pub direction_number : Direction → ℕ
 direction_number Draws = 0
 direction_number Fills = 1
+
+-- what has a number; no card has a larger one
+abbrev pub kind_from : ℕ → Kind
+kind_from zero = Normal
+kind_from (suc zero) = In
+kind_from (suc (suc zero)) = Out
+kind_from (suc (suc (suc n))) = InOut
+
+abbrev pub direction_from : ℕ → Direction
+direction_from zero = Draws
+direction_from (suc n) = Fills
 
 -- rows that the code holds, as rows of a card
 abbrev pub subnet_in : HeldSubnet → Subnet
@@ -66,16 +76,17 @@ transition_in t = record { signal = t.signal; arcs = t.arcs; rank = t.rank }
 abbrev pub arc_in : HeldArc → Arc
 arc_in a = record { direction = direction_number a.direction; subnet = a.subnet; place = a.place; weight = a.weight }
 
--- the bytes of a card, with zeros behind them
-pub record IsEncoded (c : Card) (s : Spelt) : Type 0 where
-  pub bytes : s.bytes ≡ bytes_of c
-  pub length : s.length ≡ length (encode c)
+-- the rows that the code makes of their numbers
+abbrev pub place_from : (numbers : List ℕ) → HeldPlace
+place_from numbers = record { kind = kind_from (get_or numbers 0 0); capacity = get_or numbers 1 0; tokens = get_or numbers 2 0 }
 
--- numbers hold the arcs of a transition, field after field
-pub record HoldsArcs (c : Card) (t : ℕ) (numbers : List ℕ) : Type 0 where
-  pub long : arc_fields * (transition_at c t).arcs ≤ length numbers
-  pub direction : (j : ℕ) → j < (transition_at c t).arcs → get_or numbers (arc_fields * j) 0 ≡ (arc_at c t j).direction
-  pub subnet : (j : ℕ) → j < (transition_at c t).arcs → get_or numbers (arc_fields * j + 1) 0 ≡ (arc_at c t j).subnet
-  pub place : (j : ℕ) → j < (transition_at c t).arcs → get_or numbers (arc_fields * j + 2) 0 ≡ (arc_at c t j).place
-  pub weight : (j : ℕ) → j < (transition_at c t).arcs → get_or numbers (arc_fields * j + 3) 0 ≡ (arc_at c t j).weight
-  pub known : (j : ℕ) → j < (transition_at c t).arcs → (arc_at c t j).direction ≤ 1
+abbrev pub arc_from : (numbers : List ℕ) → HeldArc
+arc_from numbers =
+    record { direction = direction_from (get_or numbers 0 0); subnet = get_or numbers 1 0; place = get_or numbers 2 0; weight = get_or numbers 3 0 }
+
+-- the places of a subnet, and the arcs of a transition; past the last one none
+unfoldable pub places_of : Card → (s : ℕ) → List Place
+places_of c s = table 0 (subnet_at c s).places (λ n. place_at c (first_place c s + n))
+
+unfoldable pub arcs_of : Card → (t : ℕ) → List Arc
+arcs_of c t = table 0 (transition_at c t).arcs (arc_at c t)

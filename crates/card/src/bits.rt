@@ -4,10 +4,10 @@ ghost use Rattle.card.specs.Bits.{bit, bit_field};
 ghost use Rattle.card.specs.inner.Spans.{Span, patch, Put};
 
 // Byte k, and 0 past the end.
-fn byte_at(card: &[u8], k: usize) -> u32
-    ensures { (result ≡ get_or card.now k 0) × (result < 256) }
+fn byte_at(card: &[u8], k: usize) -> u8
+    ensures { result ≡ get_or card.now k 0 }
 {
-    card.get(k).copied().unwrap_or(0) as u32
+    card.get(k).copied().unwrap_or(0)
 }
 
 pub fn pow2(n: usize) -> u32
@@ -26,17 +26,24 @@ pub fn too_wide(value: u16, width: usize) -> bool
 }
 
 // The three bytes from byte k on as one number. Nearly always they are all there, and then one test is enough.
+#[tactic(auto, unfolding(crate::specs::inner::Spans::span))]
 fn span_at(card: &[u8], k: usize) -> u32
     requires { k ≤ length card.now }
     ensures { Span card.now k result }
 {
     match &card[k..] {
-        [a, b, c, ..] => 65536 * (*a as u32) + (256 * (*b as u32) + *c as u32),
-        _ => 65536 * byte_at(card, k) + (256 * byte_at(card, k + 1) + byte_at(card, k + 2)),
+        [a, b, c, ..] => u32::from_be_bytes([0, *a, *b, *c]),
+        _ => u32::from_be_bytes([
+            0,
+            byte_at(card, k),
+            byte_at(card, k + 1),
+            byte_at(card, k + 2),
+        ]),
     }
 }
 
 // The field of width bits from bit at on.
+#[tactic(auto, using(crate::proofs::BitLaws::field_read))]
 pub fn bit_field(card: &[u8], at: usize, width: usize) -> u16
     requires inside { at + width ≤ 8 * length card.now }
     requires narrow { width ≤ 16 }
@@ -46,17 +53,17 @@ pub fn bit_field(card: &[u8], at: usize, width: usize) -> u16
     (x / pow2(24 - (at % 8 + width)) % pow2(width)) as u16
 }
 
-// Stores byte k; past the end it stores nothing.
-fn put_byte(out: &mut [u8], k: usize, b: u32)
-    requires { b < 256 }
-    ensures { out.new ≡ set out.old k b }
+// Stores entry i of a slice; past its end it stores nothing.
+pub fn put_entry<T: Copy>(slice: &mut [T], i: usize, v: T)
+    ensures { slice.new ≡ set slice.old i v }
 {
-    if k < out.len() {
-        out[k] = b as u8;
+    if i < slice.len() {
+        slice[i] = v;
     }
 }
 
 // The span x with the width bits above its low bits replaced by value.
+#[tactic(auto, using(crate::proofs::Patch::patch_is, crate::proofs::Patch::patch_fits, crate::proofs::Patch::sum_fits, crate::proofs::Patch::times_fits))]
 fn patched(x: u32, low: usize, width: usize, value: u16) -> u32
     requires { (x < 2 ^ 24) × (low + width ≤ 24) × (value < 2 ^ width) }
     ensures { (result ≡ patch x low width value) × (result < 2 ^ 24) }
@@ -74,7 +81,8 @@ pub fn put_field(out: &mut [u8], at: usize, width: usize, value: u16)
 {
     let k = at / 8;
     let y = patched(span_at(out, k), 24 - (at % 8 + width), width, value);
-    put_byte(out, k, y / 65536);
-    put_byte(out, k + 1, y / 256 % 256);
-    put_byte(out, k + 2, y % 256);
+    let [_, a, b, c] = y.to_be_bytes();
+    put_entry(out, k, a);
+    put_entry(out, k + 1, b);
+    put_entry(out, k + 2, c);
 }

@@ -8,13 +8,28 @@ ghost use Rattle.card.specs.Index.{Laid, starts_of};
 ghost use Rattle.card.specs.inner.Indexing.{Moved, OnCard, put_subnet, AtSubnet, TransitionsIndexed};
 ghost use Rattle.card.specs.inner.Runs.{Tells};
 
-use crate::layout::{
-    arc_fields, arc_width, header_fields, header_width, place_fields, place_width, subnet_fields,
-    subnet_width, transition_fields, transition_width,
-};
+use crate::bits::put_entry;
+use crate::layout::{ARC, HEADER, PLACE, SUBNET, TRANSITION, row_width};
 use crate::{
-    FIRST_PLACES, FIRST_TRANSITIONS, STARTS, SUBNET_BITS, TRANSITION_BITS, TRANSITION_ROWS,
+    ARC_FIELDS, Counts, FIRST_PLACES, FIRST_TRANSITIONS, HEADER_FIELDS, PLACE_FIELDS, STARTS,
+    SUBNET_BITS, SUBNET_FIELDS, TRANSITION_BITS, TRANSITION_FIELDS, TRANSITION_ROWS,
 };
+
+// Where a card's rows begin, among its numbers and on the card, and how many it has.
+#[derive(Clone, Copy)]
+pub struct CardIndex {
+    pub(crate) counts: Counts,
+    pub(crate) starts: [u32; STARTS],
+}
+
+impl CardIndex {
+    // Two wrong answers that this rules out: one that mixes up places and transitions, and one that counts the flat card's one subnet.
+    pub fn counts(&self) -> Counts
+        ensures { result ≡ self.now.counts }
+    {
+        self.counts
+    }
+}
 
 // Where a row begins: at which number, and at which bit.
 #[derive(Clone, Copy)]
@@ -45,24 +60,26 @@ impl Position {
     }
 
     // Behind a transition and its arcs.
+    #[tactic(auto, unfolding(crate::specs::Format::count, crate::specs::Format::size, crate::specs::Grammar::transition, crate::specs::Grammar::arc, crate::specs::Grammar::since))]
     fn after_transition(self, version: u16, arcs: u16) -> Position
         requires { OnCard self }
         ensures { Moved self result (count (transition 0 0) + count arc * arcs) (size (transition version 0) + size arc * arcs) }
     {
         self.after(
-            transition_fields() + arc_fields() * arcs as u32,
-            transition_width(version) + arc_width() * arcs as u32,
+            TRANSITION_FIELDS as u32 + ARC_FIELDS as u32 * arcs as u32,
+            row_width(&TRANSITION, version) + row_width(&ARC, version) * arcs as u32,
         )
     }
 
     // Behind a subnet's row and its places.
+    #[tactic(auto, unfolding(crate::specs::Format::count, crate::specs::Format::size, crate::specs::Grammar::subnet, crate::specs::Grammar::place))]
     fn after_places(self, places: u16) -> Position
         requires { OnCard self }
         ensures { Moved self result (count (subnet 0 0 0) + count (place 0) * places) (size (subnet 0 0 0) + size (place 0) * places) }
     {
         self.after(
-            subnet_fields() + place_fields() * places as u32,
-            subnet_width() + place_width() * places as u32,
+            SUBNET_FIELDS as u32 + PLACE_FIELDS as u32 * places as u32,
+            row_width(&SUBNET, 0) + row_width(&PLACE, 0) * places as u32,
         )
     }
 }
@@ -99,24 +116,15 @@ fn arc_count(numbers: &[u16], row: u32) -> u16
     number_at(numbers, row as usize + 1)
 }
 
-// Stores entry i of a slice; past its end it stores nothing.
-fn put_start(starts: &mut [u32], i: usize, v: u32)
-    ensures { starts.new ≡ set starts.old i v }
-{
-    if i < starts.len() {
-        starts[i] = v;
-    }
-}
-
 // Stores where subnet s begins, and the flat numbers of its first place and transition.
 fn put_subnet(starts: &mut [u32], s: u16, p: Position, place: u32, transition: u32)
     ensures { starts.new ≡ put_subnet starts.old s p.row p.bit place transition }
 {
     let i = s as usize;
-    put_start(starts, i, p.row);
-    put_start(starts, SUBNET_BITS + i, p.bit);
-    put_start(starts, FIRST_PLACES + i, place);
-    put_start(starts, FIRST_TRANSITIONS + i, transition);
+    put_entry(starts, i, p.row);
+    put_entry(starts, SUBNET_BITS + i, p.bit);
+    put_entry(starts, FIRST_PLACES + i, place);
+    put_entry(starts, FIRST_TRANSITIONS + i, transition);
 }
 
 // Stores where transitions begin, from transition first on, and says where the last one ends.
@@ -138,21 +146,21 @@ fn index_transitions(
         if !p.is_on_card() {
             return p;
         }
-        put_start(starts, TRANSITION_ROWS + t as usize, p.row);
-        put_start(starts, TRANSITION_BITS + t as usize, p.bit);
+        put_entry(starts, TRANSITION_ROWS + t as usize, p.row);
+        put_entry(starts, TRANSITION_BITS + t as usize, p.bit);
         p = p.after_transition(version(numbers), arc_count(numbers, p.row));
     }
     p
 }
 
-// Where the rows of a card begin whose numbers the table holds. The table of starts is that of specs/Index.antt.
-pub fn index(numbers: &[u16], subnets: u16) -> [u32; STARTS]
+// The table of starts (specs/Index.antt) of a card whose numbers the table holds.
+fn starts_of(numbers: &[u16], subnets: u16) -> [u32; STARTS]
     ensures { (c : Card) → Wellformed c → Laid c numbers.now → subnets ≡ length c.subnets → result ≡ starts_of c }
 {
     let mut starts = [0; STARTS];
     let mut p = Position {
-        row: header_fields(),
-        bit: header_width(version(numbers)),
+        row: HEADER_FIELDS as u32,
+        bit: row_width(&HEADER, version(numbers)),
     };
     let mut place = 0;
     let mut transition = 0;
@@ -169,4 +177,15 @@ pub fn index(numbers: &[u16], subnets: u16) -> [u32; STARTS]
     }
     put_subnet(&mut starts, subnets, p, place, transition);
     starts
+}
+
+// The index of a card that has so many rows, and whose numbers the table holds.
+pub fn index(numbers: &[u16], counts: Counts) -> CardIndex
+    ensures counts { result.counts ≡ counts }
+    ensures starts { (c : Card) → Wellformed c → Laid c numbers.now → counts.subnets ≡ length c.subnets → result.starts ≡ starts_of c }
+{
+    CardIndex {
+        counts,
+        starts: starts_of(numbers, counts.subnets),
+    }
 }

@@ -1,17 +1,12 @@
 // The order of a card's fields, as a machine that reader and writer share: what comes next, how wide it is, where its number leads.
-ghost use Rattle.std.specs.Prelude.{◌≡◌, true, ℕ, ◌+◌, ◌^◌, ◌<◌, ◌≤◌, Ok, Some};
-ghost use Rattle.card.specs.Format.{count, size, size_from};
+ghost use Rattle.std.specs.Prelude.{◌≡◌, true, ℕ, ◌+◌, ◌^◌, ◌<◌, ◌≤◌, length, Ok, Some};
 ghost use Rattle.card.specs.Grammar;
-ghost use Rattle.card.specs.Grammar.{header, subnet, place, transition, arc};
-ghost use Rattle.card.specs.inner.Layout.{start_of, width_at, width_of, to, step_at, step_of, Sane};
+ghost use Rattle.card.specs.inner.Layout.{start_of, width_at, width_of, row_width, to, step_at, step_of, Sane};
 ghost use Rattle.card.specs.declared.layout.Next.TheVariants.{More};
 ghost use Rattle.card.specs.declared.layout.Layout.{Layout};
 ghost use Rattle.card.specs.declared.layout.Phase.TheVariants.{Version, SubnetCount, SignalCount, Limit, Scale, Parent, SubnetType, PlaceCount, TransitionCount, Kind, Capacity, Tokens, Signal, ArcCount, Rank, Direction, ArcSubnet, ArcPlace, Weight};
 
-use crate::{
-    ARC_FIELDS, Counts, FormatFault, HEADER_FIELDS, MAX_COUNT, MAX_SUBNETS, MAX_VERSION,
-    PLACE_FIELDS, SUBNET_FIELDS, TRANSITION_FIELDS,
-};
+use crate::{Counts, FormatFault, MAX_COUNT, MAX_SUBNETS, MAX_VERSION};
 
 #[derive(Clone, Copy)]
 pub enum Phase {
@@ -36,6 +31,33 @@ pub enum Phase {
     Weight,
 }
 
+// The fields of the header and of each row, in their order.
+pub const HEADER: [Phase; 5] = [
+    Phase::Version,
+    Phase::SubnetCount,
+    Phase::SignalCount,
+    Phase::Limit,
+    Phase::Scale,
+];
+
+pub const SUBNET: [Phase; 4] = [
+    Phase::Parent,
+    Phase::SubnetType,
+    Phase::PlaceCount,
+    Phase::TransitionCount,
+];
+
+pub const PLACE: [Phase; 3] = [Phase::Kind, Phase::Capacity, Phase::Tokens];
+
+pub const TRANSITION: [Phase; 3] = [Phase::Signal, Phase::ArcCount, Phase::Rank];
+
+pub const ARC: [Phase; 4] = [
+    Phase::Direction,
+    Phase::ArcSubnet,
+    Phase::ArcPlace,
+    Phase::Weight,
+];
+
 // The field that comes next, and what the fields before it say of those behind it: the version; how many signals there are; how many subnets
 // come after this one, and its number; how many places and transitions are listed so far; how many rows of each kind come after this one;
 // the capacity of the place at hand. The phase stands last, so that in Next it does not lie over a count of Counts: else the compiled
@@ -55,7 +77,7 @@ pub struct Layout {
     pub phase: Phase,
 }
 
-// What comes behind a field: another, or nothing, and then so much was listed.
+// What comes behind a field: another, or nothing, and then so much was listed. An enum of its own and no `ControlFlow`: neither case is an early end.
 #[derive(Clone, Copy)]
 pub enum Next {
     More(Layout),
@@ -81,6 +103,7 @@ pub fn start() -> Layout
 }
 
 // The width of a field that a version brings, and none below that version.
+#[tactic(auto, unfolding(crate::specs::Grammar::since))]
 fn since(first: u16, width: usize, version: u16) -> usize
     ensures { (result ≡ Grammar.since first width version) × (result ≤ width) }
 {
@@ -88,6 +111,7 @@ fn since(first: u16, width: usize, version: u16) -> usize
 }
 
 // No field is wider than 16 bits, which is what a field of bytes can be read and written as (bits.rt).
+#[tactic(auto, unfolding(crate::specs::Grammar::header, crate::specs::Grammar::subnet, crate::specs::Grammar::place, crate::specs::Grammar::transition, crate::specs::Grammar::arc))]
 pub fn width_at(p: Phase, version: u16) -> usize
     ensures { (result ≡ width_at p version) × (result ≤ 16) }
 {
@@ -155,83 +179,23 @@ pub fn arc_step(l: Layout) -> Option<Layout>
     }
 }
 
+// How wide a row's fields are together. Of a constant row the compiler makes a constant.
+pub fn row_width(row: &[Phase], version: u16) -> u32
+    requires { length row.now ≤ 8 }
+    ensures { result ≡ row_width row.now version }
+{
+    row.iter().map(|p| width_at(*p, version) as u32).sum()
+}
+
 // How wide an arc's fields before the weight are. Nothing tests them, so that they may be read at once.
 pub fn arc_head_width() -> usize
     ensures { result ≡ width_at Direction 0 + (width_at ArcSubnet 0 + width_at ArcPlace 0) }
 {
-    width_at(Phase::Direction, 0) + (width_at(Phase::ArcSubnet, 0) + width_at(Phase::ArcPlace, 0))
+    row_width(&ARC[..3], 0) as usize
 }
 
-// How many fields the header and a row have, and how many bits.
-pub fn header_fields() -> u32
-    ensures { (result ≡ count header) × (result ≤ 8) }
-{
-    HEADER_FIELDS as u32
-}
-
-pub fn header_width(version: u16) -> u32
-    ensures { (result ≡ size_from version header) × (result ≤ 64) }
-{
-    (width_at(Phase::Version, version)
-        + width_at(Phase::SubnetCount, version)
-        + width_at(Phase::SignalCount, version)
-        + width_at(Phase::Limit, version)
-        + width_at(Phase::Scale, version)) as u32
-}
-
-pub fn subnet_fields() -> u32
-    ensures { (result ≡ count (subnet 0 0 0)) × (result ≤ 8) }
-{
-    SUBNET_FIELDS as u32
-}
-
-pub fn subnet_width() -> u32
-    ensures { (result ≡ size (subnet 0 0 0)) × (result ≤ 32) }
-{
-    (width_at(Phase::Parent, 0)
-        + width_at(Phase::SubnetType, 0)
-        + width_at(Phase::PlaceCount, 0)
-        + width_at(Phase::TransitionCount, 0)) as u32
-}
-
-pub fn place_fields() -> u32
-    ensures { (result ≡ count (place 0)) × (result ≤ 8) }
-{
-    PLACE_FIELDS as u32
-}
-
-pub fn place_width() -> u32
-    ensures { (result ≡ size (place 0)) × (result ≤ 32) }
-{
-    (width_at(Phase::Kind, 0) + width_at(Phase::Capacity, 0) + width_at(Phase::Tokens, 0)) as u32
-}
-
-pub fn transition_fields() -> u32
-    ensures { (result ≡ count (transition 0 0)) × (result ≤ 8) }
-{
-    TRANSITION_FIELDS as u32
-}
-
-pub fn transition_width(version: u16) -> u32
-    ensures { (result ≡ size (transition version 0)) × (result ≤ 64) }
-{
-    (width_at(Phase::Signal, version)
-        + width_at(Phase::ArcCount, version)
-        + width_at(Phase::Rank, version)) as u32
-}
-
-pub fn arc_fields() -> u32
-    ensures { (result ≡ count arc) × (result ≤ 8) }
-{
-    ARC_FIELDS as u32
-}
-
-pub fn arc_width() -> u32
-    ensures { (result ≡ size arc) × (result ≤ 32) }
-{
-    (arc_head_width() + width_at(Phase::Weight, 0)) as u32
-}
-
+// What comes behind each field whose number is tested. The tests stand here one by one: with one function that answers the fault, and `?`, small
+// cards were read up to a tenth slower.
 #[tactic(auto, unfolding(crate::specs::Grammar::header))]
 fn after_version(l: Layout, v: u16) -> Result<Next, FormatFault>
     ensures { result ≡ step_at Version l v }
@@ -450,7 +414,7 @@ fn then(l: Layout, phase: Phase) -> Result<Next, FormatFault>
     Ok(Next::More(Layout { phase, ..l }))
 }
 
-// Where the number v of the next field leads.
+// Where the number v of the next field leads. One `match` over the phases, of which each field has its own: no table of functions would be plainer.
 #[tactic(auto, unfolding(crate::specs::Grammar::header, crate::specs::Grammar::transition, crate::specs::Grammar::arc))]
 pub fn step(l: Layout, v: u16) -> Result<Next, FormatFault>
     requires { Sane l × (v < 2 ^ width_of l) }

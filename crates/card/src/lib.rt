@@ -6,7 +6,10 @@ pub mod fields;
 pub mod index;
 mod layout;
 pub mod reader;
+pub mod room;
+pub mod row;
 mod rows;
+pub mod text;
 pub mod view;
 pub mod writer;
 
@@ -34,15 +37,15 @@ pub const MOST_SIGNALS: usize = 63;
 pub const MOST_ARCS: usize = 31;
 
 // How many numbers the header and a row have.
-pub const HEADER_FIELDS: usize = 5;
+pub const HEADER_FIELDS: usize = layout::HEADER.len();
 
-pub const SUBNET_FIELDS: usize = 4;
+pub const SUBNET_FIELDS: usize = layout::SUBNET.len();
 
-pub const PLACE_FIELDS: usize = 3;
+pub const PLACE_FIELDS: usize = layout::PLACE.len();
 
-pub const TRANSITION_FIELDS: usize = 3;
+pub const TRANSITION_FIELDS: usize = layout::TRANSITION.len();
 
-pub const ARC_FIELDS: usize = 4;
+pub const ARC_FIELDS: usize = layout::ARC.len();
 
 // The most numbers of a card.
 pub const TABLE: usize = HEADER_FIELDS
@@ -107,7 +110,8 @@ pub enum FormatFault {
 }
 
 impl FormatFault {
-    // The paper's number of a fault.
+    // The paper's number of a fault. Two wrong tables that this rules out: one that numbers a bad table 10, as the first fault of the check, and one
+    // that gives two faults the same number.
     pub fn number(self) -> u64
         ensures { result ≡ number self }
     {

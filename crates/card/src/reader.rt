@@ -6,18 +6,11 @@ ghost use Rattle.card.specs.inner.Reader.{excess_of, arc_head_width, IsArcHead, 
 ghost use Rattle.card.specs.declared.layout.Phase.TheVariants.{Direction};
 
 use crate::bits::{bit_field, pow2};
-use crate::index::index;
+use crate::index::{CardIndex, index};
 use crate::layout::{
     Layout, Next, Phase, arc_head_width, arc_next, arc_step, start, step, width, width_at,
 };
-use crate::{Counts, FormatFault, FormatRefusal, STARTS, TABLE};
-
-// A card that was read: how many subnets, places and transitions it has, and where its rows begin among its numbers (see view.rt).
-#[derive(Clone, Copy)]
-pub struct CardRead {
-    pub counts: Counts,
-    pub starts: [u32; STARTS],
-}
+use crate::{Counts, FormatFault, FormatRefusal, TABLE};
 
 // What follows a card that ends before bit end: its first nonzero fill bit, else the first bit of a further byte.
 fn excess_at(card: &[u8], end: usize) -> Option<usize>
@@ -25,18 +18,12 @@ fn excess_at(card: &[u8], end: usize) -> Option<usize>
     ensures { excess_of result ≡ excess card.now end }
 {
     let bytes = (end + 7) / 8;
-    for i in end..8 * bytes {
-        if bit_field(card, i, 1) == 1 {
-            return Some(i);
-        }
-    }
-    if bytes < card.len() {
-        return Some(8 * bytes);
-    }
-    None
+    (end..8 * bytes)
+        .find(|i| bit_field(card, *i, 1) == 1)
+        .or((bytes < card.len()).then_some(8 * bytes))
 }
 
-// An arc's fields before the weight.
+// An arc's fields before the weight, as the numbers that they are on the card: they go straight into its table.
 #[derive(Clone, Copy)]
 pub struct ArcHead {
     pub direction: u16,
@@ -45,6 +32,7 @@ pub struct ArcHead {
 }
 
 // Says yes only where an arc comes next and all of its fields before the weight are there. Where these say no, the reader goes by `step`.
+#[tactic(auto, unfolding(crate::specs::Grammar::arc))]
 fn arc_ahead(l: Layout, at: usize, bytes: usize) -> bool
     requires { at ≤ card_bits }
     ensures { result ≡ true → (l.phase ≡ Direction) × (at + arc_head_width ≤ 8 * bytes) }
@@ -84,7 +72,9 @@ fn ended(card: &[u8], end: usize, counts: Counts) -> Result<Counts, FormatRefusa
     }
 }
 
-// Reads the fields of a card into a lent table of zeros. Of a card that is refused some numbers may stand there.
+// Reads the fields of a card into a lent table of zeros. Of a card that is refused some numbers may stand there. The numbers are counted by hand:
+// three fields of an arc are read at once, and the loop ends where the card does.
+#[tactic(auto, using(crate::proofs::Turn::left_room, crate::proofs::Turn::left_fits, crate::proofs::Turn::arc_room), unfolding(crate::specs::Grammar::arc))]
 fn read_fields(card: &[u8], numbers: &mut [u16]) -> Result<Counts, FormatRefusal>
     requires { (numbers.old ≡ replicate (length numbers.old) 0) × (has_room (length card.now) (length numbers.old) ≡ true) }
     ensures numbers_len_unchanged { length numbers.new ≡ length numbers.old }
@@ -114,26 +104,17 @@ fn read_fields(card: &[u8], numbers: &mut [u16]) -> Result<Counts, FormatRefusal
                 });
             }
             let v = bit_field(card, at, w);
-            if let Some(m) = arc_step(l) {
-                numbers[n] = v;
-                l = m;
-                at += w;
-                n += 1;
-            } else {
-                match step(l, v) {
-                    Ok(Next::More(m)) => {
-                        numbers[n] = v;
-                        l = m;
-                        at += w;
-                        n += 1;
-                    }
-                    Ok(Next::Done(counts)) => {
-                        numbers[n] = v;
-                        return ended(card, at + w, counts);
-                    }
+            numbers[n] = v;
+            l = match arc_step(l) {
+                Some(m) => m,
+                None => match step(l, v) {
+                    Ok(Next::More(m)) => m,
+                    Ok(Next::Done(counts)) => return ended(card, at + w, counts),
                     Err(fault) => return Err(FormatRefusal { fault, bit: at }),
-                }
-            }
+                },
+            };
+            at += w;
+            n += 1;
         }
     }
 }
@@ -150,7 +131,7 @@ pub fn has_room(bytes: usize, size: usize) -> bool
 }
 
 // Reads a card into a lent table that has room for it.
-fn read_into(card: &[u8], numbers: &mut [u16]) -> Result<CardRead, FormatRefusal>
+fn read_into(card: &[u8], numbers: &mut [u16]) -> Result<CardIndex, FormatRefusal>
     requires { has_room (length card.now) (length numbers.old) ≡ true }
     ensures numbers_len_unchanged { length numbers.new ≡ length numbers.old }
     ensures read { IsRead (read_card card.now) result }
@@ -158,10 +139,7 @@ fn read_into(card: &[u8], numbers: &mut [u16]) -> Result<CardRead, FormatRefusal
 {
     numbers.fill(0);
     match read_fields(card, numbers) {
-        Ok(counts) => Ok(CardRead {
-            counts,
-            starts: index(numbers, counts.subnets),
-        }),
+        Ok(counts) => Ok(index(numbers, counts)),
         Err(refusal) => {
             numbers.fill(0);
             Err(refusal)
@@ -170,9 +148,10 @@ fn read_into(card: &[u8], numbers: &mut [u16]) -> Result<CardRead, FormatRefusal
 }
 
 // Reads a card, and leaves its numbers in a lent table, field after field with zeros behind them; of a refused card, zeros. A table that may be
-// too small is left as it was. Two wrong readers that this rules out: one that does not look at the fill bits, and one that leaves gaps
+// too small is left as it was. (The choice of the table is written out: of a function that is lent the step, a caller would have to be told what
+// the step wrote in either.) Two wrong readers that this rules out: one that does not look at the fill bits, and one that leaves gaps
 // between the numbers.
-pub fn read(card: &[u8], numbers: &mut [u16]) -> Result<CardRead, FormatRefusal>
+pub fn read(card: &[u8], numbers: &mut [u16]) -> Result<CardIndex, FormatRefusal>
     ensures numbers_len_unchanged { length numbers.new ≡ length numbers.old }
     ensures read { IsRead (read_card card.now) result }
     ensures lent { IsLent (read_card card.now) (has_room (length card.now) (length numbers.old)) numbers.old numbers.new }

@@ -3,11 +3,12 @@ ghost use Rattle.std.specs.Prelude.{◌≡◌, ℕ, ◌+◌, ◌/◌, ◌<◌, L
 ghost use Rattle.card.specs.Card.{subnet_fields};
 ghost use Rattle.card.specs.declared.Head.{Head};
 ghost use Rattle.card.specs.Rows.{on_rows, tables_in, whole_rows};
+ghost use Rattle.card.specs.inner.Layout.{widths};
 ghost use Rattle.card.specs.inner.Runs.{column_sum, RowsFit, Tells, HeaderFits, ValuesFit, Leads, arcs_before, transition_run, runs, RunsInside, subnet_run, TablesInside, Gathered, in_order};
 ghost use Rattle.card.specs.Writing.{counted};
 
 use crate::bits::{pow2, too_wide};
-use crate::layout::{Phase, width_at};
+use crate::layout::{ARC, PLACE, Phase, SUBNET, TRANSITION, width_at};
 use crate::{ARC_FIELDS, Head, PLACE_FIELDS, SUBNET_FIELDS, TABLE, TRANSITION_FIELDS};
 
 // A card's tables: the numbers of each slice, row after row.
@@ -25,8 +26,8 @@ fn adds_up(rows: &[u16], width: usize, column: usize, total: usize) -> bool
     ensures { result ≡ eqb total (column_sum rows.now width column) }
 {
     let mut left = total;
-    for i in 0..rows.len() / width {
-        let Some(rest) = left.checked_sub(rows[width * i + column] as usize) else {
+    for row in rows.chunks_exact(width) {
+        let Some(rest) = left.checked_sub(usize::from(row[column])) else {
             return false;
         };
         left = rest;
@@ -34,16 +35,16 @@ fn adds_up(rows: &[u16], width: usize, column: usize, total: usize) -> bool
     left == 0
 }
 
-// Whether the numbers of rows fit the widths of their columns.
-fn rows_fit(rows: &[u16], widths: &[usize]) -> bool
-    requires { (0 < length widths.now) × ((k : ℕ) → get_or widths.now k 0 < 32) }
-    ensures { Tells result (RowsFit rows.now widths.now) }
+// Whether the numbers of rows fit their fields.
+#[tactic(auto, using(crate::proofs::RowLaws::column_width))]
+fn rows_fit(rows: &[u16], row: &[Phase], version: u16) -> bool
+    requires { 0 < length row.now }
+    ensures { Tells result (RowsFit rows.now (widths row.now version)) }
 {
-    rows.iter()
-        .enumerate()
-        .all(|(i, v)| !too_wide(*v, widths[i % widths.len()]))
+    rows.iter().enumerate().all(|(i, v)| !too_wide(*v, width_at(row[i % row.len()], version)))
 }
 
+// The header has a test of its own: the number of subnets may be one of more than 16 bits.
 fn header_fits(h: Head, subnets: usize) -> bool
     ensures { Tells result (HeaderFits h subnets) }
 {
@@ -77,7 +78,8 @@ struct Cursor {
 }
 
 impl Rows<'_> {
-    // Whether each slice ends with a row.
+    // Whether each slice ends with a row. Two wrong tests that this rules out: one that lets the arcs end inside a row, and one that looks at the
+    // places alone.
     #[tactic(auto, unfolding(crate::specs::Rows::whole_rows))]
     pub fn is_whole(&self) -> bool
         ensures { result ≡ on_rows whole_rows self.now }
@@ -88,7 +90,8 @@ impl Rows<'_> {
             && self.arcs.len() % ARC_FIELDS == 0
     }
 
-    // Whether there are as many rows as the counts say.
+    // Whether there are as many rows as the counts say. Two wrong tests that this rules out: one that adds up another column, and one that does not
+    // count the arcs.
     #[tactic(auto, using(crate::proofs::TableLaws::counted_sums))]
     pub fn counts_match(&self) -> bool
         ensures { (h : Head) → result ≡ counted (on_rows (tables_in h) self.now) }
@@ -101,41 +104,21 @@ impl Rows<'_> {
             && adds_up(self.transitions, TRANSITION_FIELDS, 1, arcs)
     }
 
-    // Whether each number of the tables fits its field.
+    // Whether each number of the tables fits its field. Two wrong tests that this rules out: one that holds arcs against the widths of subnets, and
+    // one that leaves the header out.
     pub fn values_fit(&self, head: Head) -> bool
         ensures { Tells result (on_rows (ValuesFit head) self.now) }
     {
         let v = head.version;
-        let subnet = [
-            width_at(Phase::Parent, v),
-            width_at(Phase::SubnetType, v),
-            width_at(Phase::PlaceCount, v),
-            width_at(Phase::TransitionCount, v),
-        ];
-        let place = [
-            width_at(Phase::Kind, v),
-            width_at(Phase::Capacity, v),
-            width_at(Phase::Tokens, v),
-        ];
-        let transition = [
-            width_at(Phase::Signal, v),
-            width_at(Phase::ArcCount, v),
-            width_at(Phase::Rank, v),
-        ];
-        let arc = [
-            width_at(Phase::Direction, v),
-            width_at(Phase::ArcSubnet, v),
-            width_at(Phase::ArcPlace, v),
-            width_at(Phase::Weight, v),
-        ];
         header_fits(head, self.subnets.len() / SUBNET_FIELDS)
-            && rows_fit(self.subnets, &subnet)
-            && rows_fit(self.places, &place)
-            && rows_fit(self.transitions, &transition)
-            && rows_fit(self.arcs, &arc)
+            && rows_fit(self.subnets, &SUBNET, v)
+            && rows_fit(self.places, &PLACE, v)
+            && rows_fit(self.transitions, &TRANSITION, v)
+            && rows_fit(self.arcs, &ARC, v)
     }
 
-    // Puts transitions, each with its arcs, behind what a table holds.
+    // Puts transitions, each with its arcs, behind what a table holds. Rows are taken by their numbers: an iterator over them would be no plainer,
+    // since which rows of the other slices are theirs is a sum that is carried along all the same.
     fn push_transitions(
         &self,
         numbers: &mut [u16],
@@ -166,7 +149,7 @@ impl Rows<'_> {
         c
     }
 
-    // Puts subnets, each with its places and its transitions, behind the n numbers that a table holds.
+    // Puts subnets, each with its places and its transitions, behind the n numbers that a table holds. By their numbers too, for the same reason.
     fn push_subnets(&self, numbers: &mut [u16], n: usize) -> usize
         requires { on_rows TablesInside self.now }
         ensures numbers_len_unchanged { length numbers.new ≡ length numbers.old }
@@ -195,7 +178,8 @@ impl Rows<'_> {
         m
     }
 
-    // The numbers of tables in the order of the card, as many as a card can have.
+    // The numbers of tables in the order of the card, as many as a card can have. Two wrong ones that this rules out: one that writes the limit for
+    // the signals, and one that leaves the header out.
     pub fn gather(&self, h: Head) -> [u16; TABLE]
         requires tables_inside { on_rows TablesInside self.now }
         requires few_subnets { length self.now.subnets.now / subnet_fields < 65536 }

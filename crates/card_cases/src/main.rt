@@ -14,7 +14,7 @@ use crate::tables::Tables;
 use crate::writers::put_writers;
 use card::reader::read;
 use card::{Counts, TABLE};
-use console::cases::{numbers_in, read_lead, read_rest};
+use console::cases::{EndOfRun, numbers_in, read_lead, read_rest};
 use console::put;
 use hierarchy::CardRefusal;
 use hierarchy::check::check;
@@ -28,9 +28,6 @@ enum Kind {
     Card,
     Tables,
 }
-
-#[derive(Clone, Copy)]
-struct EndOfRun;
 
 impl TryFrom<u8> for Kind {
     type Error = EndOfRun;
@@ -61,8 +58,8 @@ fn put_card_case(rt: &HostRuntime, card: &[u8]) -> io::Result<()> {
     put_answer(rt, b"check", check(card))?;
     let mut numbers = [0; TABLE];
     match read(card, &mut numbers) {
-        Ok(read) => {
-            put_answer(rt, b"read", Ok(read.counts))?;
+        Ok(index) => {
+            put_answer(rt, b"read", Ok(index.counts()))?;
             let rows = CardRows::of_card(rt.alloc(), &numbers)?;
             put_writers(rt, rows.tables(card.len()))
         }

@@ -2,12 +2,10 @@
 use crate::lines::{put_bytes, put_length, put_refusal};
 use crate::tables::Tables;
 use card::writer::{put_card, spell};
+use console::cases::FILLER;
 use console::{put, put_text};
 use hierarchy::write::write;
 use std::io;
-
-// What the buffers are filled with.
-const FILLER: u8 = 165;
 
 // The length of a card, whether the buffer has room for it, and the buffer.
 fn put_into(rt: &HostRuntime, card: &[u8], room: usize) -> io::Result<()> {
@@ -24,11 +22,7 @@ fn put_into(rt: &HostRuntime, card: &[u8], room: usize) -> io::Result<()> {
 fn put_spelt(rt: &HostRuntime, t: Tables) -> io::Result<()> {
     put(rt, b"spell")?;
     match spell(t.head, &t.rows) {
-        // That the length is not past the end follows from no single contract, so it is tested.
-        Ok(spelt) => match spelt.bytes.get(..spelt.length) {
-            Some(card) => put_into(rt, card, t.room),
-            None => Ok(()),
-        },
+        Ok(card) => put_into(rt, card.as_slice(), t.room),
         Err(refusal) => put_refusal(rt, refusal.fault.number(), refusal.bit),
     }?;
     put(rt, b"\n")

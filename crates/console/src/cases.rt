@@ -6,7 +6,14 @@ ghost use Rattle.console.specs.Cases.{number_at, IsNumbers, IsLead};
 
 use crate::read_input;
 
-// A case's kind and length.
+// A kind that ends the run.
+#[derive(Clone, Copy)]
+pub struct EndOfRun;
+
+// What the buffers that answers are written into are filled with.
+pub const FILLER: u8 = 165;
+
+// A case's kind and length. The kind is a number here: each of the two programs that read cases has kinds of its own.
 #[derive(Clone, Copy)]
 pub struct Lead {
     pub kind: u8,

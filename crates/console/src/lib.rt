@@ -1,7 +1,8 @@
 // Standard input, standard output and files, as the programs read and write them; cases.rt has the cases of the tests. No contract can say
 // which bytes the operating system hands over or takes. So that of a read is about lengths: it answers how many bytes it has put at the
-// buffer's start, which is at most the buffer's length, and that length is kept. A function that only writes has none; its error is handed on to
-// `main`, so that a program ends where nobody reads on. "Ruled out" names wrong programs that a contract refuses.
+// buffer's start, which is at most the buffer's length, and that length is kept. It hands out no slice of the buffer: what a buffer holds that is
+// lent on takes a clause that is proved by hand. A function that only writes has none; its error is handed on to `main`, so that a program ends
+// where nobody reads on. "Ruled out" names wrong programs that a contract refuses.
 #![tactic(auto)]
 
 pub mod cases;

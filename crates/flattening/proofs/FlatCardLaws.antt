@@ -13,7 +13,6 @@ use Rattle.card.specs.Index.{Loaded, starts_of}
 use Rattle.card.specs.Parsing.{Parsing, read_card}
 use Rattle.card.specs.Tables.{numbers_of, numbers_table, has_room, IsTable}
 use Rattle.card.specs.View.{card_in, IsCounted}
-use Rattle.card.proofs.Sums.{map_length}
 use Rattle.card.proofs.ReadLaws.{blank_table, tables_loaded}
 use Rattle.card.proofs.ViewLaws.{card_in_table, table_holds}
 use Rattle.hierarchy.specs.Check.{Found, check}
@@ -21,15 +20,16 @@ use Rattle.hierarchy.specs.Numbers.{check_outcome}
 use Rattle.hierarchy.specs.Judgement.{Judgement, accepted, refused, checked, judged, judge, answer, outcome_of, counts_of, IsChecked, IsAccepted}
 use Rattle.hierarchy.specs.declared.CardRefusal.{CardRefusal}
 use Rattle.std.specs.Prelude.{Result, Ok, Err, IfOk}
-use Rattle.hierarchy.specs.declared.check.CheckedCard.{CheckedCard}
+use Rattle.card.specs.declared.index.CardIndex.{CardIndex}
 use Rattle.hierarchy.proofs.Accepted.{not_accepted, accepted_meets}
 use Rattle.hierarchy.specs.Conditions.{Meets}
-use Rattle.flattening.specs.Flattening.{flat_place_row, flatten}
-use Rattle.flattening.specs.FlatCards.{flat_table, one_subnet, IsFlatTable, IsFlatCard, IsFlattened, flat_room, IsLentFlat}
+use Rattle.flattening.specs.Flattening.{flatten}
+use Rattle.flattening.specs.FlatCards.{flat_table, IsFlatTable, IsFlatCard, IsFlattened, flat_room, IsLentFlat}
 use Rattle.flattening.specs.inner.FlatNumbers.{FlatTables}
 use Rattle.flattening.specs.declared.FlatCard.{FlatCard}
 use Rattle.flattening.proofs.FlatLaws.{flat_meets}
 use Rattle.flattening.proofs.FlatNumberLaws.{flat_few}
+use Rattle.hierarchy.proofs.CheckLaws.{accepted_same}
 
 pub flat_room_is : (bytes n m : ℕ) → flat_room bytes n m ≡ true → (has_room bytes n ≡ true) × (n ≡ m)
 flat_room_is bytes n m e = go (has_room bytes n) refl e
@@ -53,27 +53,24 @@ module _ (bytes : List ℕ) (size : ℕ) (numbers : List ℕ) (tables : IsTable 
       go (Parsing.whole d end) p q = found d end (check d) p q
 
 -- what the check says of a card
-module _ (bytes : List ℕ) (r : Result CheckedCard CardRefusal) (h : IsChecked bytes r) where
-  told : (y : Result CheckedCard CardRefusal) → r ≡ y → check_outcome (counts_of y) ≡ answer bytes
-  told y e = sym (ap (λ (z : Result CheckedCard CardRefusal). check_outcome (counts_of z)) e) ∙ h.answer
+module _ (bytes : List ℕ) (r : Result CardIndex CardRefusal) (h : IsChecked bytes r) where
+  told : (y : Result CardIndex CardRefusal) → r ≡ y → check_outcome (counts_of y) ≡ answer bytes
+  told y e = sym (ap (λ (z : Result CardIndex CardRefusal). check_outcome (counts_of z)) e) ∙ h.answer
 
   pub flat_refused : (e : CardRefusal) (n : ℕ) (flat : List ℕ) → r ≡ Err e → flat ≡ replicate n 0 → IsFlatCard bytes (Err e) × IsFlatTable (judge bytes) n flat
-  flat_refused e n flat q z = (record { answer = told (Err e) q; starts = λ c j. tt; flat = λ c j. tt }, go (judge bytes) (told (Err e) q))
+  flat_refused e n flat q z = (record { answer = told (Err e) q; starts = λ c j. tt; flat = λ c j. tt; flat_counts = λ c j. tt }, go (judge bytes) (told (Err e) q))
     where
       go : (j : Judgement) → check_outcome (Err e) ≡ outcome_of j → IsFlatTable j n flat
       go (refused m i) p = z ∙ blank_table n
       go (accepted c) p = absurd (let z : ◌≡◌ {A = ℕ} 0 1 = cc in omega arith)
 
-same_card : (c d : Card) → accepted c ≡ accepted d → c ≡ d
-same_card c d e = cc
-
 -- THE TABLES OF AN ACCEPTED CARD, AND THOSE OF ITS FLAT CARD, ARE VIEWS
-module _ (bytes : List ℕ) (k : CheckedCard) (numbers : List ℕ) (a : IsAccepted bytes numbers k) (d : Card) (is : d ≡ card_in numbers) (flat starts : List ℕ) (same : length flat ≡ length numbers) (t : FlatTables d flat starts) where
+module _ (bytes : List ℕ) (k : CardIndex) (numbers : List ℕ) (a : IsAccepted bytes numbers k) (d : Card) (is : d ≡ card_in numbers) (flat : List ℕ) (i : CardIndex) (same : length flat ≡ length numbers) (t : FlatTables d flat i) where
   abbrev c : Card
   c = card_in numbers
 
   abbrev whole : FlatCard
-  whole = record { counts = k.counts; starts = k.starts; flat_starts = starts }
+  whole = record { card = k; flat = i }
 
   meets : Meets c
   meets = accepted_meets bytes c a.judged
@@ -81,18 +78,14 @@ module _ (bytes : List ℕ) (k : CheckedCard) (numbers : List ℕ) (a : IsAccept
   room : length (numbers_of (flatten c)) ≤ length flat
   room = omega (arith, flat_few c meets, a.holds.fits, same)
 
-  tables : FlatTables c flat starts
-  tables = subst (λ (x : Card). FlatTables x flat starts) is t
+  tables : FlatTables c flat i
+  tables = subst (λ (x : Card). FlatTables x flat i) is t
 
   flat_is : flat ≡ numbers_table (length flat) (flatten c)
   flat_is = tables.numbers meets room
 
-  starts_are : starts ≡ starts_of (flatten c)
+  starts_are : i.starts ≡ starts_of (flatten c)
   starts_are = tables.rows meets room
-
-  counts : IsCounted (flatten c) (one_subnet k.counts)
-  unfolding flatten
-  counts = record { subnets = refl; places = a.holds.counts.places ∙ sym (map_length flat_place_row c.places); transitions = a.holds.counts.transitions }
 
   read : card_in flat ≡ flatten c
   read = ap card_in flat_is ∙ card_in_table (length flat) (flatten c) (flat_meets c meets).wellformed room
@@ -103,19 +96,23 @@ module _ (bytes : List ℕ) (k : CheckedCard) (numbers : List ℕ) (a : IsAccept
         judged = a.judged;
         holds = a.holds;
         flattened = read;
-        flat_holds = rw read (rw (flat_is, starts_are) (table_holds (length flat) (flatten c) (one_subnet k.counts) (flat_meets c meets).wellformed room counts));
+        flat_holds = rw read (rw (flat_is, starts_are) (table_holds (length flat) (flatten c) i.counts (flat_meets c meets).wellformed room tables.counts));
       }
 
   pub flat_filled : (n : ℕ) → length flat ≡ n → IsFlatTable (judge bytes) n flat
   flat_filled n e = flat_is ∙ ap (λ (i : ℕ). numbers_table i (flatten c)) e ∙ ap (flat_table n) (sym a.judged)
 
-  pub flat_told : (r : Result CheckedCard CardRefusal) → IsChecked bytes r → r ≡ Ok k → IsFlatCard bytes (Ok whole)
+  pub flat_told : (r : Result CardIndex CardRefusal) → IsChecked bytes r → r ≡ Ok k → IsFlatCard bytes (Ok whole)
   flat_told r h e =
       record {
         answer = told bytes r h (Ok k) e;
-        starts = λ x j. subst (λ (y : Result CheckedCard CardRefusal). IfOk y (λ z. z.starts ≡ starts_of x)) e (h.starts x j);
-        flat = λ x j. starts_are ∙ ap (λ (y : Card). starts_of (flatten y)) (same_card c x (sym a.judged ∙ j));
+        starts = λ x j. subst (λ (y : Result CardIndex CardRefusal). IfOk y (λ z. z.starts ≡ starts_of x)) e (h.starts x j);
+        flat = λ x j. starts_are ∙ ap (λ (y : Card). starts_of (flatten y)) (accepted_same c x (sym a.judged ∙ j));
+        flat_counts = λ x j. subst (λ (y : Card). IsCounted (flatten y) i.counts) (accepted_same c x (sym a.judged ∙ j)) tables.counts;
       }
+
+  pub flat_accepted : (r : Result CardIndex CardRefusal) → IsChecked bytes r → r ≡ Ok k → (n : ℕ) → length flat ≡ n → IsFlatCard bytes (Ok whole) × IsFlatTable (judge bytes) n flat
+  flat_accepted r h e n l = (flat_told r h e, flat_filled n l)
 
 -- both lent tables are filled, or as they were
 pub lent_flat : (bytes : List ℕ) (room : Bool) (n n' f f' : List ℕ) → room ≡ true → IsTable (read_card bytes) (length n) n' → IsFlatTable (judge bytes) (length f) f' → IsLentFlat bytes room n n' f f'
@@ -124,18 +121,15 @@ lent_flat bytes room n n' f f' e h g = rw e (h, g)
 pub lent_flat_kept : (bytes : List ℕ) (room : Bool) (n f : List ℕ) → room ≡ false → IsLentFlat bytes room n n f f
 lent_flat_kept bytes room n f e = rw e (refl, refl)
 
-pub lent_flat_is : (bytes : List ℕ) (room : Bool) (n n' f f' : List ℕ) → IsLentFlat bytes room n n' f f' → room ≡ true → IsTable (read_card bytes) (length n) n' × IsFlatTable (judge bytes) (length f) f'
-lent_flat_is bytes _ n n' f f' h e = subst (λ (b : Bool). IsLentFlat bytes b n n' f f') e h
-
 -- `flat_loaded`: THE TWO TABLES HOLD THE FLAT CARD'S ROWS
 pub flat_loaded : (bytes : List ℕ) (r : Result FlatCard CardRefusal) (size n : ℕ) (numbers flat : List ℕ) → IsFlatCard bytes r → IsTable (read_card bytes) size numbers → IsFlatTable (judge bytes) n flat → size ≡ n
-    → (c : Card) → judge bytes ≡ accepted c → IfOk r (λ k. Loaded (flatten c) flat k.flat_starts)
+    → (c : Card) → judge bytes ≡ accepted c → IfOk r (λ k. Loaded (flatten c) flat k.flat.starts)
 flat_loaded bytes r size n numbers flat h t f same c e = go r (h.flat c e)
   where
     m : Meets c
     m = accepted_meets bytes c e
 
-    go : (y : Result FlatCard CardRefusal) → IfOk y (λ k. k.flat_starts ≡ starts_of (flatten c)) → IfOk y (λ k. Loaded (flatten c) flat k.flat_starts)
+    go : (y : Result FlatCard CardRefusal) → IfOk y (λ k. k.flat.starts ≡ starts_of (flatten c)) → IfOk y (λ k. Loaded (flatten c) flat k.flat.starts)
     go (Ok k) b =
         let a : flat ≡ numbers_table n (flatten c) = f ∙ ap (flat_table n) e in
         rw (a, b) (tables_loaded n (flatten c) (flat_meets c m).wellformed (omega (arith, accepted_fits bytes size numbers t c e, flat_few c m, same)))

@@ -6,11 +6,12 @@ use mathlib.Core.List.{List, [], ◌∷◌, map}
 use native.Mathlib.Omega.{arith}
 use native.Mathlib.Nat.{zero-add}
 use lib.ListN.{length, get_or, get_or-map}
+use Rattle.std.proofs.lemmas.List.{length-map}
 use Rattle.card.specs.Finite.{sum_to}
 use Rattle.card.specs.Card.{Place, Arc, Card, subnet_at, place_at, transition_at, arc_at, first_place, first_transition, first_arc, flat_place, place_of, no_place, no_arc}
 use Rattle.card.specs.Writing.{encode}
 use Rattle.card.specs.Wellformed.{SubnetRow, PlaceRow, ArcRow, Rows}
-use Rattle.card.proofs.Sums.{sum_owner, sum_below, sum_unique, map_length, all_map, all_of, all_at}
+use Rattle.card.proofs.Sums.{sum_owner, sum_below, sum_unique, all_map, all_of, all_at}
 use Rattle.hierarchy.specs.Conditions.{IsPlace, Sees, Weighted, Repeats, SelfLoop, TransitionConditions, Conditions, Meets}
 use Rattle.hierarchy.specs.Judgement.{accepted, judge, judge_tables}
 use Rattle.hierarchy.proofs.Accepted.{accepted_meets, meets_accepted, meets_written}
@@ -62,7 +63,7 @@ arcs_again c d (a ∷ xs) = rw (zero-add, arcs_again c d xs)
 
 pub flatten_again : (c : Card) → flatten (flatten c) ≡ flatten c
 unfolding flatten
-flatten_again c = rw (map_length flat_place_row c.places, places_again c.places, arcs_again c (flatten c) c.arcs)
+flatten_again c = rw (length-map c.places flat_place_row, places_again c.places, arcs_again c (flatten c) c.arcs)
 
 pub flatten_bytes : (c : Card) → encode (flatten (flatten c)) ≡ encode (flatten c)
 flatten_bytes c = ap encode (flatten_again c)
@@ -202,10 +203,10 @@ module _ (c : Card) (m : Meets c) where
   unfolding flatten first_place first_transition first_arc sum_to
   flat_rows =
       record {
-        place_count = map_length flat_place_row c.places ∙ sym (zero-add (length c.places));
+        place_count = length-map c.places flat_place_row ∙ sym (zero-add (length c.places));
         transition_count = sym (zero-add (length c.transitions));
-        arc_count = map_length (flat_arc c) c.arcs ∙ rows.arc_count;
-        few_places = omega (arith, map_length flat_place_row c.places, rows.few_places);
+        arc_count = length-map c.arcs (flat_arc c) ∙ rows.arc_count;
+        few_places = omega (arith, length-map c.places flat_place_row, rows.few_places);
         few_transitions = rows.few_transitions;
         subnet = λ s l. let e : s ≡ 0 = omega arith in rw e flat_subnet;
         place = λ s p l a b. let e : s ≡ 0 = omega arith in rw e (flat_place_fits p (rw (e, zero-add) at b));

@@ -1,28 +1,44 @@
 -- What the numbers of the flat card are, position by position, and one more row of them stored. Assumes nothing.
 use Prim.Native.Nat.{ℕ, zero, suc, ◌+◌, ◌-◌, ◌≤◌, ◌<◌}
-use mathlib.Core.Path.{◌≡◌, refl, sym, ap, ◌∙◌}
+use mathlib.Core.Path.{◌≡◌, refl, sym, ap, subst, ◌∙◌}
 use mathlib.Core.Logic.{◌⊎◌, inl, inr}
 use mathlib.Core.List.{List, [], ◌∷◌, ◌++◌}
 use native.Mathlib.Omega.{arith}
 use native.Mathlib.Nat.{zero-add}
-use lib.ListN.{length, get_or, take, drop, length-append, length-drop}
-use lib.Seq.{get_or-take, get_or-drop, length-take-le}
-use Rattle.std.proofs.lemmas.List.{get_or_append_left, get_or-append_right}
+use lib.ListN.{length, get_or, set, take, drop, length-append, length-drop, length-set, get_or-eq_default}
+use lib.Seq.{get_or-take, get_or-drop, get_or-set_same, get_or-set_other, length-take-le}
+use Rattle.std.proofs.lemmas.List.{get_or_append_left, get_or-append_right, length-map}
+use Rattle.std.proofs.lemmas.Bool.{cases_lt}
 use Rattle.card.specs.Finite.{sum_to}
 use Rattle.card.specs.Card.{Card, place_at, transition_at, arc_at, first_place, first_transition, first_arc, flat_place}
 use Rattle.card.specs.Format.{count}
 use Rattle.card.specs.Grammar.{header, subnet, place, transition, arc}
-use Rattle.card.specs.Index.{subnet_row, transition_row, place_field, arc_field, PlaceThere, TransitionThere, ArcThere, Lists, Laid}
+use Rattle.card.specs.Index.{subnet_row, transition_row, place_field, arc_field, first_place_start, PlaceThere, TransitionThere, ArcThere, Lists, Laid, Loaded}
 use Rattle.card.specs.Tables.{numbers_of}
 use Rattle.card.specs.Wellformed.{Wellformed}
-use Rattle.card.proofs.BitLaws.{lt_or_ge}
-use Rattle.card.proofs.Sums.{map_length}
 use Rattle.card.proofs.RowNumbers.{numbers_rows}
 use Rattle.card.proofs.Positions.{counted, laid, numbers_long}
 use Rattle.hierarchy.specs.Conditions.{Meets}
 use Rattle.flattening.specs.Flattening.{flat_place_row, flat_arc, flatten}
 use Rattle.flattening.specs.inner.FlatNumbers.{flat_number, place_position, transition_position, arc_position, stored, Filled}
-use Rattle.flattening.proofs.FlatLaws.{place_flat, arc_flat, transition_flat, flat_meets}
+use Rattle.flattening.proofs.FlatLaws.{place_flat, arc_flat, transition_flat, there, flat_below, flat_meets}
+
+-- ONE MORE NUMBER IS STORED; past the table's end none is, and none is owed
+pub fill : (c : Card) (n k : ℕ) (out : List ℕ) (v : ℕ) → Filled c n out → k ≡ n + 1 → v ≡ flat_number c n → Filled c k (set out n v)
+fill c n k out v h ek ev =
+    record {
+      room = omega (arith, h.room, length-set out n v);
+      stored = λ i l. at i (omega arith) (cases_lt i n);
+      empty = λ i l. get_or-set_other out n i v 0 (λ e. omega arith) ∙ h.empty i (omega arith);
+    }
+  where
+    there : (n < length out) ⊎ (length out ≤ n) → get_or (set out n v) n 0 ≡ flat_number c n
+    there (inl l) = get_or-set_same out n v 0 l ∙ ev
+    there (inr l) = get_or-eq_default (set out n v) 0 (omega (arith, length-set out n v)) ∙ sym (get_or-eq_default (numbers_of (flatten c)) 0 (omega (arith, h.room)))
+
+    at : (i : ℕ) → i < n + 1 → (i < n) ⊎ (n ≤ i) → get_or (set out n v) i 0 ≡ flat_number c i
+    at i l (inl b) = get_or-set_other out n i v 0 (λ e. omega arith) ∙ h.stored i b
+    at i l (inr b) = let e : n ≡ i = omega arith in subst (λ (j : ℕ). get_or (set out n v) j 0 ≡ flat_number c j) e (there (cases_lt n (length out)))
 
 -- a row's numbers, from its number i on, are those of the flat card from position n + i on
 abbrev pub Row : (c : Card) → (n i : ℕ) → (row : List ℕ) → Type 0
@@ -59,8 +75,8 @@ module _ (c : Card) (n k : ℕ) (row out : List ℕ) (h : Filled c n out) (r : R
       ∙ get_or-drop (n + length row) out (i - n - length row) 0 ∙ ap (λ (j : ℕ). get_or out j 0) (let e : n + length row + (i - n - length row) ≡ i = omega arith in e)
       ∙ h.empty i (omega arith)
 
-  pub fill : (after : List ℕ) → (n + length row ≤ length out → after ≡ stored row n out) → Filled c k after
-  fill after e = rw (e (omega (arith, room))) (record { room = omega (arith, h.room, as_long); stored = λ i l. at i l (lt_or_ge i n); empty = behind })
+  pub fill_row : (after : List ℕ) → (n + length row ≤ length out → after ≡ stored row n out) → Filled c k after
+  fill_row after e = rw (e (omega (arith, room))) (record { room = omega (arith, h.room, as_long); stored = λ i l. at i l (cases_lt i n); empty = behind })
     where
       at : (i : ℕ) → i < k → (i < n) ⊎ (n ≤ i) → get_or (stored row n out) i 0 ≡ flat_number c i
       at i l (inl b) = below i b
@@ -131,6 +147,23 @@ module _ (c : Card) (m : Meets c) where
         ),
       )
 
+  pub record HeadNumbers : Type 0 where
+    pub version : c.version ≡ flat_number c 0
+    pub subnets : 1 ≡ flat_number c 1
+    pub signals : c.signals ≡ flat_number c 2
+    pub limit : c.limit ≡ flat_number c 3
+    pub scale : c.scale ≡ flat_number c 4
+    pub parent : 0 ≡ flat_number c 5
+    pub type : 0 ≡ flat_number c 6
+    pub places : length c.places ≡ flat_number c 7
+    pub transitions : length c.transitions ≡ flat_number c 8
+
+  pub head_numbers : HeadNumbers
+  head_numbers =
+      let h = header_row in
+      let r = main_numbers in
+      record { version = h.0; subnets = h.1.0; signals = h.1.1.0; limit = h.1.1.1.0; scale = h.1.1.1.1.0; parent = r.0; type = r.1.0; places = r.1.1.0; transitions = r.1.1.1.0 }
+
   -- a place
   module _ (p : ℕ) (l : p < length c.places) where
     place_there : PlaceThere (numbers_of (flatten c)) (subnet_row (flatten c) 0) p (flat_place_row (place_at c p))
@@ -175,10 +208,23 @@ module _ (c : Card) (m : Meets c) where
   flat_long =
       let e = numbers_long (flatten c) (counted (flatten c) whole) in
       let s : length (flatten c).subnets ≡ 1 = (unfold flatten in refl) in
-      let p : length (flatten c).places ≡ length c.places = (unfold flatten in map_length flat_place_row c.places) in
+      let p : length (flatten c).places ≡ length c.places = (unfold flatten in length-map c.places flat_place_row) in
       let t : length (flatten c).transitions ≡ length c.transitions = (unfold flatten in refl) in
-      let a : length (flatten c).arcs ≡ length c.arcs = (unfold flatten in map_length (flat_arc c) c.arcs) in
+      let a : length (flatten c).arcs ≡ length c.arcs = (unfold flatten in length-map c.arcs (flat_arc c)) in
       omega (arith, e, s, p, t, a, m.wellformed.rows.arc_count)
+
+-- the flat number of an arc's place, out of the card's two tables
+pub flat_number_is : (c : Card) → Meets c → (numbers starts : List ℕ) → Loaded c numbers starts → (i t row j : ℕ) → Lists c i t → row ≡ transition_row c i t → j < (transition_at c t).arcs
+    → (a f q r : ℕ) → a ≡ get_or numbers (arc_field row j 1) 0 → f ≡ get_or starts (first_place_start a) 0 → q ≡ get_or numbers (arc_field row j 2) 0 → (f + q < 65536 → r ≡ f + q)
+    → r ≡ flat_place c (arc_at c t j)
+flat_number_is c m numbers starts h i t row j l er b a f q r ea ef eq e =
+    let sees = (m.conditions.transitions i t l.subnet l.first l.last).sees j b in
+    let y = h.laid.arc i t j l b in
+    let x : a ≡ (arc_at c t j).subnet = ea ∙ rw er y.subnet in
+    let z : q ≡ (arc_at c t j).place = eq ∙ rw er y.place in
+    let w : f ≡ first_place c (arc_at c t j).subnet = ef ∙ rw x (h.indexed.first_place (arc_at c t j).subnet (omega (arith, (there c m i _ _ l.subnet sees).0))) in
+    let n : f + q ≡ flat_place c (arc_at c t j) = rw (w, z) in
+    e (omega (arith, n, flat_below c m i _ _ l.subnet sees, m.wellformed.rows.few_places)) ∙ n
 
 -- the flat card has no more numbers than the card
 pub flat_few : (c : Card) → Meets c → length (numbers_of (flatten c)) ≤ length (numbers_of c)

@@ -1,30 +1,34 @@
 -- Writing the bytes of the flat card is flattening. Assumes nothing.
-use Prim.Native.Nat.{ℕ, ◌≤◌}
+use Prim.Native.Nat.{ℕ}
 use mathlib.Core.Path.{◌≡◌, refl, sym, ap, ◌∙◌}
-use mathlib.Core.Bool.{Bool, true, false, cond}
 use mathlib.Core.List.{List}
 use native.Mathlib.Omega.{arith}
-use lib.ListN.{length, get_or, take}
-use lib.Seq.{ext_get_or, get_or-take, length-take-le}
-use lib.Dec.{leb}
-use Rattle.std.specs.Prelude.{Result, Ok, Err}
+use Rattle.std.specs.Prelude.{Result, Err}
 use Rattle.card.specs.Card.{Card}
-use Rattle.card.specs.Spelling.{put_into}
-use Rattle.card.specs.Tables.{card_bytes}
-use Rattle.card.specs.View.{card_in, IsEncoded}
+use Rattle.card.specs.Rows.{tables_in, on_slices, rows_of}
+use Rattle.card.specs.View.{card_in}
 use Rattle.card.specs.Writing.{encode}
-use Rattle.card.specs.declared.writer.Spelt.{Spelt}
-use Rattle.card.proofs.Length.{bytes_few}
-use Rattle.card.proofs.Sums.{table_length, table_at}
-use Rattle.hierarchy.specs.Judgement.{Judgement, accepted, refused, judge, outcome_of}
-use Rattle.hierarchy.specs.Numbers.{number, check_outcome, write_outcome}
-use Rattle.hierarchy.specs.Output.{fitted, delivered, IsWritten}
+use Rattle.card.proofs.SliceLaws.{rows_tables, read_rows_is}
+use Rattle.hierarchy.specs.Conditions.{Meets}
+use Rattle.hierarchy.specs.Judgement.{Judgement, accepted, refused, judged, judge, judge_tables, outcome_of}
+use Rattle.hierarchy.specs.Numbers.{number, check_outcome}
+use Rattle.hierarchy.specs.Output.{written, delivered, write_rows, IsWritten}
 use Rattle.hierarchy.specs.declared.CardRefusal.{CardRefusal}
 use Rattle.hierarchy.specs.declared.WriteRefusal.{WriteRefusal}
-use Rattle.hierarchy.specs.declared.WriteRefusal.TheVariants.{Card as Turned, Short}
+use Rattle.hierarchy.specs.declared.WriteRefusal.TheVariants.{Card as Turned}
 use Rattle.flattening.specs.Flattening.{flatten, flatten_call}
+use Rattle.flattening.proofs.FlatLaws.{flat_taken}
 use Rattle.flattening.specs.FlatCards.{flat_counts, IsFlatCard, IsFlattened}
 use Rattle.flattening.specs.declared.FlatCard.{FlatCard}
+
+-- THE ROWS OF THE FLAT CARD ARE ITS TABLES,
+pub flat_tables : (c : Card) → on_slices tables_in (rows_of (flatten c)) ≡ flatten c
+flat_tables c = rows_tables (flatten c)
+
+-- and writing them is delivering the flat card's bytes
+pub flat_written : (c : Card) → Meets c → (buffer : List ℕ) → on_slices write_rows (rows_of (flatten c)) buffer ≡ delivered (accepted c) (λ d. encode (flatten d)) buffer
+unfolding write_rows judge_tables
+flat_written c m buffer = ap (λ (j : Judgement). delivered j encode buffer) (ap judged (read_rows_is (flatten c)) ∙ flat_taken c m)
 
 pub flatten_refused : (bytes buffer : List ℕ) (e : CardRefusal) (r : Result FlatCard CardRefusal) → IsFlatCard bytes r → r ≡ Err e → IsWritten (flatten_call bytes buffer) (Err (Turned e)) buffer
 unfolding flatten_call
@@ -38,39 +42,7 @@ flatten_refused bytes buffer e r h q = go (judge bytes) (sym (ap (λ (z : Result
     go (accepted d) q = absurd (let z : ◌≡◌ {A = ℕ} 0 1 = cc in omega arith)
 
 -- THE BYTES OF THE FLAT CARD, IN THE BUFFER
-module _ (bytes numbers flat : List ℕ) (k : FlatCard) (h : IsFlattened bytes numbers flat k) (v : Card) (is : v ≡ card_in flat) (s : Spelt) (spelt : IsEncoded v s) where
-  abbrev f : Card
-  f = flatten (card_in numbers)
-
-  spells : IsEncoded f s
-  spells = rw (is ∙ h.flattened) at spelt
-
-  long : length s.bytes ≡ card_bytes
-  long = ap length spells.bytes ∙ table_length 0 card_bytes (λ i. get_or (encode f) i 0)
-
-  few : length (encode f) ≤ card_bytes
-  few = bytes_few f (rw h.flattened at h.flat_holds.wellformed)
-
-  pub inside : s.length ≤ length s.bytes
-  inside = omega (arith, long, few, spells.length)
-
-  pub cut : s.length ≡ length (take s.length s.bytes)
-  cut = sym (length-take-le s.length s.bytes inside)
-
-  front : take s.length s.bytes ≡ encode f
-  front =
-      ap (λ (n : ℕ). take n s.bytes) spells.length
-      ∙ (
-      let same = length-take-le (length (encode f)) s.bytes (omega (arith, long, few)) in
-      ext_get_or 0 (take (length (encode f)) s.bytes) (encode f) same
-      (λ i l. get_or-take (length (encode f)) s.bytes i 0 (omega (arith, same)) ∙ ap (λ xs. get_or xs i 0) spells.bytes ∙ table_at card_bytes (λ i. get_or (encode f) i 0) 0 i (omega (arith, same, few)))
-      )
-
-  pub flatten_done : (buffer out : List ℕ) (x : Bool) (r : Result ℕ WriteRefusal) → x ≡ leb (length (take s.length s.bytes)) (length buffer) → out ≡ put_into (take s.length s.bytes) buffer
-      → r ≡ cond x (Ok s.length) (Err (Short s.length)) → IsWritten (flatten_call bytes buffer) r out
-  unfolding flatten_call
-  flatten_done buffer out x r ex eo er = rw h.judged (record { answer = fits (leb (length (encode f)) (length buffer)) (ex ∙ rw front); bytes = eo ∙ rw front })
-    where
-      fits : (y : Bool) → x ≡ y → write_outcome r ≡ fitted y (length (encode f))
-      fits true p = rw (er, p, spells.length)
-      fits false p = rw (er, p, spells.length)
+pub flatten_done : (bytes numbers flat : List ℕ) (k : FlatCard) → IsFlattened bytes numbers flat k → (v : Card) → v ≡ card_in flat → (text : List ℕ) → text ≡ encode v
+    → (buffer out : List ℕ) (r : Result ℕ WriteRefusal) → IsWritten (written text buffer) r out → IsWritten (flatten_call bytes buffer) r out
+unfolding flatten_call
+flatten_done bytes numbers flat k h v is text spelt buffer out r w = rw (h.judged, ← (spelt ∙ ap encode (is ∙ h.flattened))) w

@@ -4,7 +4,7 @@ use Rattle.card.specs.Card.{Card}
 use Rattle.card.specs.Index.{starts_of}
 use Rattle.card.specs.Parsing.{read_card}
 use Rattle.card.specs.Tables.{numbers_table, zeros, has_room, IsTable}
-use Rattle.card.specs.View.{card_in, Holds}
+use Rattle.card.specs.View.{card_in, IsCounted, Holds}
 use Rattle.hierarchy.specs.Numbers.{check_outcome}
 use Rattle.hierarchy.specs.Judgement.{Judgement, accepted, refused, judge, answer}
 use Rattle.flattening.specs.Flattening.{flatten}
@@ -21,14 +21,15 @@ abbrev pub IsFlatTable : Judgement → (size : ℕ) → (numbers : List ℕ) →
 IsFlatTable j size numbers = numbers ≡ flat_table size j
 
 abbrev pub flat_counts : Result FlatCard CardRefusal → Result Counts CardRefusal
-flat_counts (Ok r) = Ok r.counts
+flat_counts (Ok r) = Ok r.card.counts
 flat_counts (Err e) = Err e
 
--- the check's answer, and where the rows of an accepted card and those of its flat card begin
+-- the check's answer, and the indexes of an accepted card and of its flat card
 pub record IsFlatCard (bytes : List ℕ) (r : Result FlatCard CardRefusal) : Type 0 where
   pub answer : check_outcome (flat_counts r) ≡ answer bytes
-  pub starts : (c : Card) → judge bytes ≡ accepted c → IfOk r (λ k. k.starts ≡ starts_of c)
-  pub flat : (c : Card) → judge bytes ≡ accepted c → IfOk r (λ k. k.flat_starts ≡ starts_of (flatten c))
+  pub starts : (c : Card) → judge bytes ≡ accepted c → IfOk r (λ k. k.card.starts ≡ starts_of c)
+  pub flat : (c : Card) → judge bytes ≡ accepted c → IfOk r (λ k. k.flat.starts ≡ starts_of (flatten c))
+  pub flat_counts : (c : Card) → judge bytes ≡ accepted c → IfOk r (λ k. IsCounted (flatten c) k.flat.counts)
 
 -- The flat card has no more numbers than the card: a table for its numbers is as long as the one for the card's.
 abbrev pub flat_room : (bytes size flat_size : ℕ) → Bool
@@ -39,13 +40,9 @@ abbrev pub IsLentFlat : (bytes : List ℕ) → (room : Bool) → (before after f
 IsLentFlat bytes true before after flat_before flat_after = IsTable (read_card bytes) (length before) after × IsFlatTable (judge bytes) (length flat_before) flat_after
 IsLentFlat bytes false before after flat_before flat_after = (after ≡ before) × (flat_after ≡ flat_before)
 
--- the counts of a flat card: all places and transitions are in one subnet
-abbrev pub one_subnet : Counts → Counts
-one_subnet k = record { subnets = 1; places = k.places; transitions = k.transitions }
-
 -- The tables that were lent are views: of the card that was accepted, and of its flat card.
 pub record IsFlattened (bytes numbers flat : List ℕ) (k : FlatCard) : Type 0 where
   pub judged : judge bytes ≡ accepted (card_in numbers)
-  pub holds : Holds (card_in numbers) numbers k.starts k.counts
+  pub holds : Holds (card_in numbers) numbers k.card
   pub flattened : card_in flat ≡ flatten (card_in numbers)
-  pub flat_holds : Holds (card_in flat) flat k.flat_starts (one_subnet k.counts)
+  pub flat_holds : Holds (card_in flat) flat k.flat

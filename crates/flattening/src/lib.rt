@@ -3,51 +3,28 @@
 
 mod tables;
 
-ghost use Rattle.std.specs.Prelude.{◌≡◌, ◌≤◌, true, length, IfOk};
+ghost use Rattle.std.specs.Prelude.{◌≡◌, true, length, IfOk};
 ghost use Rattle.card.specs.Parsing.{read_card};
-ghost use Rattle.card.specs.Tables.{table_size, has_room, IsTable};
-ghost use Rattle.card.specs.View.{card_in, Holds};
+ghost use Rattle.card.specs.Tables.{IsTable, IsRoomFor};
 ghost use Rattle.hierarchy.specs.Judgement.{judge};
 ghost use Rattle.hierarchy.specs.Output.{IsWritten};
 ghost use Rattle.flattening.specs.Flattening.{flatten_call};
-ghost use Rattle.flattening.specs.FlatCards.{flat_room, one_subnet, IsFlatCard, IsFlatTable, IsLentFlat, IsFlattened};
+ghost use Rattle.flattening.specs.FlatCards.{flat_room, IsFlatCard, IsFlatTable, IsLentFlat, IsFlattened};
 
+use card::TABLE;
+use card::index::CardIndex;
 use card::reader::has_room;
-use card::view::CardView;
-use card::writer::{Spelt, put_card};
-use card::{Counts, SMALL_CARD, SMALL_TABLE, STARTS, TABLE};
-use hierarchy::check::{CheckedCard, load};
+use card::room::with_table;
+use hierarchy::check::load;
+use hierarchy::write::put_written;
 use hierarchy::{CardRefusal, WriteRefusal};
 use tables::flat_tables;
 
-// An accepted card with its flat card: how many subnets, places and transitions the card has, and where the rows of both begin.
+// The indexes of an accepted card and of its flat card.
 #[derive(Clone, Copy)]
 pub struct FlatCard {
-    pub counts: Counts,
-    pub starts: [u32; STARTS],
-    pub flat_starts: [u32; STARTS],
-}
-
-impl FlatCard {
-    // The card, with the table that holds its numbers.
-    pub fn card<'a>(&'a self, numbers: &'a [u16]) -> CardView<'a>
-        requires { Holds (card_in numbers.now) numbers.now self.now.starts self.now.counts }
-        ensures { result ≡ card_in numbers.now }
-    {
-        CardView::new(numbers, &self.starts, self.counts)
-    }
-
-    // The flat card, with the table that holds its numbers.
-    pub fn flat<'a>(&'a self, numbers: &'a [u16]) -> CardView<'a>
-        requires { Holds (card_in numbers.now) numbers.now self.now.flat_starts (one_subnet self.now.counts) }
-        ensures { result ≡ card_in numbers.now }
-    {
-        let counts = Counts {
-            subnets: 1,
-            ..self.counts
-        };
-        CardView::new(numbers, &self.flat_starts, counts)
-    }
+    pub card: CardIndex,
+    pub flat: CardIndex,
 }
 
 // Whether two tables of these lengths have room for the numbers of any card of so many bytes, and for those of its flat card.
@@ -72,18 +49,17 @@ fn load_flat_into(
     ensures flattened { IfOk result (IsFlattened card.now numbers.new flat.new) }
 {
     flat.fill(0);
-    let CheckedCard { counts, starts } = load(card, numbers)?;
-    let flat_starts = flat_tables(&CardView::new(numbers, &starts, counts), flat);
+    let index = load(card, numbers)?;
     Ok(FlatCard {
-        counts,
-        starts,
-        flat_starts,
+        card: index,
+        flat: flat_tables(&index.view(numbers), flat),
     })
 }
 
 // Loads a card, and makes the two tables of its flat card: no bytes are written or read in between, and the card's own tables are kept. Tables that
-// may be too small, or are not of one length, are left as they were. Two wrong ones that this rules out: one that makes a flat card of a
+// may be too small, or are not of one length, are left as they were. (The choice of the tables is written out, as in `read`.) Two wrong ones that this rules out: one that makes a flat card of a
 // refused card, and one that leaves an arc's place counted in its subnet.
+#[tactic(auto, using(crate::proofs::FlatCardLaws::lent_flat, crate::proofs::FlatCardLaws::lent_flat_kept))]
 pub fn load_flat(
     card: &[u8],
     numbers: &mut [u16],
@@ -103,20 +79,26 @@ pub fn load_flat(
     load_flat_into(card, &mut own, &mut own_flat)
 }
 
-// Flattens a card whose numbers, and those of its flat card, have room in tables of this size.
-fn flatten_in<const SIZE: usize>(card: &[u8], out: &mut [u8]) -> Result<usize, WriteRefusal>
-    requires room { has_room (length card.now) SIZE ≡ true }
-    requires few { SIZE ≤ table_size }
+// Flattens a card, with tables for its numbers and those of its flat card that have room for them.
+fn flatten_in(
+    card: &[u8],
+    out: &mut [u8],
+    numbers: &mut [u16],
+    flat: &mut [u16],
+) -> Result<usize, WriteRefusal>
+    requires { flat_room (length card.now) (length numbers.old) (length flat.old) ≡ true }
     ensures { IsWritten (flatten_call card.now out.old) result out.new }
 {
-    let mut numbers = [0; SIZE];
-    let mut flat = [0; SIZE];
-    let loaded = load_flat_into(card, &mut numbers, &mut flat)?;
-    let Spelt { bytes, length } = loaded.flat(&flat).encode();
-    if !put_card(&bytes[..length], out) {
-        return Err(WriteRefusal::Short(length));
-    }
-    Ok(length)
+    let loaded = load_flat_into(card, numbers, flat)?;
+    put_written(loaded.flat.view(flat).encode().as_slice(), out)
+}
+
+// The same, with a table for the card's numbers: the flat card's is as large.
+fn flatten_beside(card: &[u8], out: &mut [u8], numbers: &mut [u16]) -> Result<usize, WriteRefusal>
+    requires { IsRoomFor (length card.now) numbers.old }
+    ensures { IsWritten (flatten_call card.now out.old) result out.new }
+{
+    with_table(card.len(), &mut |flat| flatten_in(card, out, numbers, flat))
 }
 
 // Flattens a card into a lent buffer. Two wrong flattenings that this rules out: one that leaves an arc's place counted in its subnet, and
@@ -124,9 +106,8 @@ fn flatten_in<const SIZE: usize>(card: &[u8], out: &mut [u8]) -> Result<usize, W
 pub fn flatten(card: &[u8], out: &mut [u8]) -> Result<usize, WriteRefusal>
     ensures { IsWritten (flatten_call card.now out.old) result out.new }
 {
-    if card.len() <= SMALL_CARD {
-        flatten_in::<SMALL_TABLE>(card, out)
-    } else {
-        flatten_in::<TABLE>(card, out)
-    }
+    with_table(
+        card.len(),
+        &mut |numbers| flatten_beside(card, out, numbers),
+    )
 }

@@ -2,12 +2,11 @@
 // the table has room.
 ghost use Rattle.std.specs.Prelude.{◌≡◌, ℕ, suc, ◌+◌, ◌≤◌, ◌<◌, length, replicate};
 ghost use Rattle.card.specs.Card.{arc_at};
-ghost use Rattle.card.specs.View.{direction_number};
 ghost use Rattle.flattening.specs.inner.FlatNumbers.{place_position, transition_position, stored, Fills, FlatTables};
 
-use card::index::index;
-use card::view::{CardView, Direction};
-use card::{ARC_FIELDS, HEADER_FIELDS, PLACE_FIELDS, STARTS, SUBNET_FIELDS, TRANSITION_FIELDS};
+use card::index::{CardIndex, index};
+use card::view::CardView;
+use card::{ARC_FIELDS, Counts, HEADER_FIELDS, PLACE_FIELDS, SUBNET_FIELDS, TRANSITION_FIELDS};
 
 // Where the places begin: behind the header and the row of the one subnet.
 const PLACES: usize = HEADER_FIELDS + SUBNET_FIELDS;
@@ -38,29 +37,20 @@ fn put_head(card: &CardView<'_>, out: &mut [u16])
 }
 
 // The places of all subnets.
+#[tactic(auto, using(crate::proofs::FlatPut::fills_none, crate::proofs::FlatPut::fills_to, crate::proofs::FlatPut::no_place_before, crate::proofs::FlatPut::place_after, crate::proofs::FlatPut::all_places))]
 fn put_places(card: &CardView<'_>, out: &mut [u16])
     ensures { Fills card.now (place_position 0) (place_position (length card.now.places)) out.old out.new }
 {
     for s in 0..card.subnets() {
-        for n in 0..card.subnet(s).places {
-            let place = card.place(s, n);
-            let at = PLACES + PLACE_FIELDS * (card.first_place(s) as usize + n as usize);
+        for (n, place) in card.places_of(s).enumerate() {
+            let at = PLACES + PLACE_FIELDS * (card.first_place(s) as usize + n);
             put(out, at, &[0, place.capacity, place.tokens]);
         }
     }
 }
 
-// The number that a card has for a direction.
-fn number_of(direction: Direction) -> u16
-    ensures { result ≡ direction_number direction }
-{
-    match direction {
-        Direction::Draws => 0,
-        Direction::Fills => 1,
-    }
-}
-
 // Transition t with its arcs, from position at on. The answer is where the next one goes.
+#[tactic(auto, using(crate::proofs::FlatPut::fills_to, crate::proofs::FlatPut::next_transition))]
 fn put_transition(card: &CardView<'_>, t: u16, at: usize, out: &mut [u16]) -> usize
     requires position { at ≡ transition_position card.now t }
     requires small { at ≤ 100000000 }
@@ -72,18 +62,17 @@ fn put_transition(card: &CardView<'_>, t: u16, at: usize, out: &mut [u16]) -> us
     let row = [transition.signal, transition.arcs, transition.rank];
     put(out, at, &row);
     let first = at + TRANSITION_FIELDS;
-    let arcs = card.arcs(t);
-    for j in 0..transition.arcs {
-        let arc = arcs.get(j);
+    for (j, arc) in card.arcs(t).enumerate() {
         // No flat number is too large; the other arm is for a card that does not meet the conditions.
         let place = u16::try_from(card.flat_place(arc)).unwrap_or(0);
-        let row = [number_of(arc.direction), 0, place, arc.weight];
-        put(out, first + ARC_FIELDS * j as usize, &row);
+        let row = [u16::from(arc.direction), 0, place, arc.weight];
+        put(out, first + ARC_FIELDS * j, &row);
     }
     first + ARC_FIELDS * transition.arcs as usize
 }
 
 // All transitions.
+#[tactic(auto, using(crate::proofs::FlatPut::fills_none, crate::proofs::FlatPut::no_arc_before))]
 fn put_transitions(card: &CardView<'_>, out: &mut [u16])
     ensures { Fills card.now (transition_position card.now 0) (transition_position card.now (length card.now.transitions)) out.old out.new }
 {
@@ -93,12 +82,16 @@ fn put_transitions(card: &CardView<'_>, out: &mut [u16])
     }
 }
 
-// Stores the numbers of the flat card in a lent table of zeros, and says where its rows begin.
-pub fn flat_tables(card: &CardView<'_>, out: &mut [u16]) -> [u32; STARTS]
+// Stores the numbers of the flat card in a lent table of zeros, and answers its index: all places and transitions are in one subnet.
+pub fn flat_tables(card: &CardView<'_>, out: &mut [u16]) -> CardIndex
     ensures { out.old ≡ replicate (length out.old) 0 → FlatTables card.now out.new result }
 {
     put_head(card, out);
     put_places(card, out);
     put_transitions(card, out);
-    index(out, 1)
+    let counts = Counts {
+        subnets: 1,
+        ..card.counts()
+    };
+    index(out, counts)
 }

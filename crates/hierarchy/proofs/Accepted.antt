@@ -20,7 +20,7 @@ use Rattle.hierarchy.specs.Check.{Found, check}
 use Rattle.hierarchy.specs.Judgement.{Judgement, accepted, refused, checked, judged, judge, judge_tables, outcome_of, counts_of, IsChecked}
 use Rattle.hierarchy.specs.Numbers.{check_outcome}
 use Rattle.hierarchy.specs.declared.CardRefusal.{CardRefusal}
-use Rattle.hierarchy.specs.declared.check.CheckedCard.{CheckedCard}
+use Rattle.card.specs.declared.index.CardIndex.{CardIndex}
 use Rattle.hierarchy.proofs.Agree.{check_is}
 
 pub not_accepted : (n at : ℕ) (c : Card) → refused n at ≡ accepted c → ⊥
@@ -89,17 +89,17 @@ written_accepted c d e = go (read_tables c) refl e
     go (Parsing.whole x end) p q = found x end (check x) p refl q
 
 -- the check's answer to a card's bytes, and the tables that it left
-pub record Checked (j : Judgement) (r : Result CheckedCard CardRefusal) (numbers : List ℕ) : Type 0 where
+pub record Checked (j : Judgement) (r : Result CardIndex CardRefusal) (numbers : List ℕ) : Type 0 where
   pub answer : check_outcome (counts_of r) ≡ outcome_of j
   pub loaded : (c : Card) → j ≡ accepted c → IfOk r (λ k. Loaded c numbers k.starts)
 
 -- `accepted_loaded`: THE TABLES THAT THE CHECK LEAVES HOLD AN ACCEPTED CARD'S ROWS
-pub accepted_loaded : (bytes : List ℕ) (r : Result CheckedCard CardRefusal) (size : ℕ) (numbers : List ℕ) → IsChecked bytes r → IsTable (read_card bytes) size numbers
+pub accepted_loaded : (bytes : List ℕ) (r : Result CardIndex CardRefusal) (size : ℕ) (numbers : List ℕ) → IsChecked bytes r → IsTable (read_card bytes) size numbers
     → Checked (judge bytes) r numbers
 unfolding judge
 accepted_loaded bytes r size numbers h t = record { answer = h.answer; loaded = λ c e. read c (read_card bytes) refl e (h.starts c e) }
   where
-    rows : (c : Card) (end : ℕ) (y : Result CheckedCard CardRefusal) → read_card bytes ≡ Parsing.whole c end → IfOk y (λ k. k.starts ≡ starts_of c) → IfOk y (λ k. Loaded c numbers k.starts)
+    rows : (c : Card) (end : ℕ) (y : Result CardIndex CardRefusal) → read_card bytes ≡ Parsing.whole c end → IfOk y (λ k. k.starts ≡ starts_of c) → IfOk y (λ k. Loaded c numbers k.starts)
     rows c end (Ok k) p s = read_loaded bytes c end size numbers k.starts p s t
     rows c end (Err e) p s = tt
 

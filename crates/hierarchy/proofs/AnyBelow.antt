@@ -1,41 +1,37 @@
--- `any` over a range, against the paper's word. Assumes nothing.
+-- `any` over the rows 0, 1, .., n - 1, against the paper's word. Assumes nothing.
 use Prim.Native.Nat.{ℕ, ◌<◌}
-use mathlib.Core.Path.{◌≡◌, sym, subst, ◌∙◌}
+use mathlib.Core.Path.{◌≡◌, sym}
 use mathlib.Core.Bool.{Bool, true, false}
 use mathlib.Core.List.{List}
-use native.Mathlib.Nat.{zero-add}
 use native.Mathlib.Omega.{arith}
-use lib.ListN.{length, get_or}
+use lib.ListN.{length}
 use denote.Param.Members.{Mut}
 use Rattle.std.specs.Prelude.{Option}
 use Rattle.std.specs.Bool.{MatchBool}
 use Rattle.std.specs.Option.{MatchOption}
 use Rattle.std.specs.Fn.{Called}
 use Rattle.std.specs.Iterator.{YieldsThen}
-use Rattle.std.specs.List.{range_with_len, FoldsTo, AllWithin, HoldsAt}
-use Rattle.std.specs.declared.ops.Range.{Range}
-use Rattle.std.proofs.iter.Yields.{nat_range_steps}
-use Rattle.std.proofs.lemmas.Iterator.{cases_from_any, YieldsList-from_range}
-use Rattle.std.proofs.lemmas.List.FromFn.{length-range_with_len, get_or-range_with_len}
-use Rattle.card.specs.Finite.{any}
+use Rattle.std.specs.List.{FoldsTo, AllWithin, HoldsAt}
+use Rattle.std.proofs.lemmas.Iterator.{YieldsList, cases_from_any}
+use Rattle.card.specs.Finite.{any, table}
+use Rattle.card.proofs.Sums.{table_length, table_at}
 use Rattle.hierarchy.proofs.WalkLaws.{any_one, any_none}
 
-pub any_below : {F : Type 0} {g : Mut F (ℕ × Unit {0}) Bool} {s u : Range ℕ} {f : F} {r : Bool} {m : ℕ} (n : ℕ) (test : ℕ → Bool) → m ≡ n → s ≡ record { start = 0; end = m }
-    → (xs : List ℕ) × (o : Option ℕ) × (j : F) × YieldsThen nat_range_steps s xs o u × FoldsTo (λ p x q. Called g p (x, tt) false q) f xs j × MatchOption o (r ≡ false) (λ x. (r ≡ true) × ((h : F) × Called g j (x, tt) true h))
-    → ((x : ℕ) (b : Bool) (q : F) → Called g f (x, tt) b q → (q ≡ f) × (x < n → b ≡ test x)) → r ≡ any n test
-any_below {u = u} {f = f} {r = r} {m = m} n test same e ran h =
-    go r (cases_from_any u f r (λ x. x < n → test x ≡ true) (λ x. x < n → test x ≡ false) ran (YieldsList-from_range 0 m n e (omega (arith, same)))
-    (λ x q k. λ l. sym ((h x true q k).1 l)) (λ x q k. ((h x false q k).0, λ l. sym ((h x false q k).1 l))))
+pub any_row : {S A B F : Type 0} {steps : S → Option A → S → Type 0} {v : A → B} {g : Mut F (A × Unit {0}) Bool} {s : S} (n : ℕ) (row : ℕ → B) (test : ℕ → Bool) (u : S) (f : F) (r : Bool)
+    → (xs : List A) × (o : Option A) × (j : F) × YieldsThen steps s xs o u × FoldsTo (λ p x q. Called g p (x, tt) false q) f xs j × MatchOption o (r ≡ false) (λ x. (r ≡ true) × ((h : F) × Called g j (x, tt) true h))
+    → YieldsList steps v s (table 0 n row)
+    → ((x : A) (b : Bool) (q : F) → Called g f (x, tt) b q → (q ≡ f) × ((k : ℕ) → k < n → v x ≡ row k → b ≡ test k)) → r ≡ any n test
+any_row {B = B} n row test u f r ran e h =
+    go r (cases_from_any u f r (Is true) (Is false) ran e (λ x q k i l z. sym ((h x true q k).1 i l z)) (λ x q k. ((h x false q k).0, λ i l z. sym ((h x false q k).1 i l z))))
   where
-    item : (k : ℕ) → k < n → get_or (range_with_len 0 n) k 0 ≡ k
-    item k l = get_or-range_with_len 0 n k 0 l ∙ zero-add k
+    Is : Bool → B → Type 0
+    Is b y = (k : ℕ) → k < n → y ≡ row k → test k ≡ b
 
-    go : (b : Bool)
-        → MatchBool b ((k : ℕ) × (k < length (range_with_len 0 n)) × HoldsAt (λ x. x < n → test x ≡ true) (range_with_len 0 n) k)
-        (AllWithin (λ x. x < n → test x ≡ false) (range_with_len 0 n) 0 (length (range_with_len 0 n)))
-        → b ≡ any n test
-    go true w =
-        let l : w.0 < n = omega (arith, w.1, length-range_with_len 0 n) in
-        sym (any_one n w.0 test l (subst (λ (x : ℕ). x < n → test x ≡ true) (item w.0 l) (w.2 0) l))
-    go false w =
-        sym (any_none n n test (λ k l. subst (λ (x : ℕ). x < n → test x ≡ false) (item k l) (w k 0 (omega arith) (omega (arith, l, length-range_with_len 0 n))) l) (omega arith))
+    long : length (table 0 n row) ≡ n
+    long = table_length 0 n row
+
+    go : (b : Bool) → MatchBool b ((k : ℕ) × (k < length (table 0 n row)) × HoldsAt (Is true) (table 0 n row) k) (AllWithin (Is false) (table 0 n row) 0 (length (table 0 n row))) → b ≡ any n test
+    go true (k, m, w) =
+        let l : k < n = omega (arith, m, long) in
+        sym (any_one n k test l (w (row 0) k l (table_at n row (row 0) k l)))
+    go false w = sym (any_none n n test (λ k l. w k (row 0) (omega arith) (omega (arith, l, long)) k l (table_at n row (row 0) k l)) (omega arith))

@@ -1,13 +1,13 @@
 -- What pass two says of a card's arcs. Assumes nothing.
-use Prim.Native.Nat.{ℕ, suc, ◌-◌, ◌≤◌, ◌<◌}
-use mathlib.Core.Path.{◌≡◌, refl, ap}
+use Prim.Native.Nat.{ℕ, suc, ◌+◌, ◌-◌, ◌≤◌, ◌<◌}
+use mathlib.Core.Path.{◌≡◌, refl, sym, ap}
 use mathlib.Core.Bool.{Bool, true, false, not, ◌&&◌, ◌||◌}
 use mathlib.Core.Option.{none, some-ne-none}
 use native.Mathlib.Omega.{arith}
 use lib.ListN.{length, get_or-eq_default}
 use lib.Dec.{ltb, eqb}
-use borrow.Author.Tests.{ltb-true, ltb-false, lt-ltb}
-use Rattle.card.proofs.TableLaws.{no_yes}
+use borrow.Author.Tests.{ltb-true, ltb-false, lt-ltb, le-leb}
+use Rattle.std.proofs.lemmas.Bool.{false≢true}
 use Rattle.card.proofs.ViewLaws.{first_transition_more}
 use Rattle.card.specs.Card.{Arc, Subnet, Card, normal, subnet_at, transition_at, arc_at, first_transition, place_of, no_subnet}
 use Rattle.card.specs.Index.{Lists}
@@ -16,7 +16,7 @@ use Rattle.card.specs.Finite.{sum_to, first_of}
 use Rattle.hierarchy.proofs.FirstLaws.{none_at, Walked, walk_start}
 use Rattle.hierarchy.specs.Conditions.{IsPlace}
 use Rattle.hierarchy.specs.inner.Arcs.{PlacesThere}
-use Rattle.hierarchy.specs.Check.{seen, arc_fault, transition_fault, subnet_fault}
+use Rattle.hierarchy.specs.Check.{seen, self_loop, loop_fits, arc_fault, transition_fault, subnet_fault}
 use Rattle.hierarchy.specs.declared.CardFault.TheVariants.{Unseen}
 
 -- a place that is there is one of a subnet that is there
@@ -47,7 +47,15 @@ seen_place c i a e = go (ltb a.place (subnet_at c a.subnet).places) refl
   where
     go : (b : Bool) → ltb a.place (subnet_at c a.subnet).places ≡ b → IsPlace c a.subnet a.place
     go true p = ltb-true a.place (subnet_at c a.subnet).places p
-    go false p = no_yes (rw p at e)
+    go false p = absurd (false≢true (rw p at e))
+
+-- no subnet there, no place
+pub no_subnet_there : (c : Card) (i : ℕ) (a : Arc) → length c.subnets ≤ a.subnet → false ≡ seen c i a
+no_subnet_there c i a h = go (seen c i a) refl
+  where
+    go : (b : Bool) → seen c i a ≡ b → false ≡ b
+    go true e = absurd (omega (arith, h, place_subnet c a.subnet a.place (seen_place c i a e)))
+    go false e = refl
 
 unfaulted_seen : (c : Card) (i t j : ℕ) → arc_fault c i t j ≡ none → seen c i (arc_at c t j) ≡ true
 unfolding arc_fault
@@ -74,3 +82,12 @@ unfolding subnet_fault first_transition sum_to
 subnet_start c i first end e f =
     let q : (subnet_at c i).transitions ≡ end - first = omega arith in
     rw (← e) (walk_start (transition_fault c i) first (subnet_at c i).transitions end q)
+
+-- 26: a loop whose weights the capacity holds together fits
+pub loop_fits_in : (x : Bool) (k : ℕ) (a b : Arc) → b.weight + a.weight ≤ k → x ≡ (x && loop_fits k b a)
+loop_fits_in x k a b l = sym (rw (le-leb (b.weight + a.weight) k l) (go x (self_loop b a)))
+  where
+    go : (y z : Bool) → (y && (not z || true)) ≡ y
+    go true true = refl
+    go true false = refl
+    go false z = refl

@@ -1,7 +1,7 @@
 -- The children of a subnet by their ordinals: the k-th child is the child whose ordinal is k. Assumes nothing.
 use Prim.Native.Nat.{ℕ, zero, suc, ◌+◌, ◌<◌}
 use mathlib.Core.Path.{◌≡◌, refl, sym, ap, subst, ◌∙◌}
-use mathlib.Core.Bool.{Bool, true, false, not, ◌&&◌, cond, false≢true}
+use mathlib.Core.Bool.{Bool, true, false, not, ◌&&◌, cond}
 use mathlib.Core.List.{List, ◌∷◌}
 use native.Mathlib.Omega.{arith}
 use native.Mathlib.Nat.{zero-add}
@@ -9,10 +9,13 @@ use lib.ListN.{length, get_or}
 use lib.Dec.{ltb, eqb}
 use borrow.Author.Tests.{ltb-true}
 use Rattle.std.specs.List.{filter, range_with_len}
+use Rattle.std.proofs.lemmas.Bool.{and_parts}
+use Rattle.std.proofs.lemmas.Bool.Decides.{Decides-eqb, Decides-and}
+use Rattle.std.specs.Bool.{Decides}
 use Rattle.card.specs.Finite.{sum_to, table, keep}
 use Rattle.card.specs.Card.{Card, subnet_at}
 use Rattle.card.proofs.Sums.{sum_same, sum_front, sum_below}
-use Rattle.card.proofs.Decides.{Decides, Some, and_is, eq_is, any_is}
+use Rattle.card.proofs.Decides.{Some, any_is}
 use Rattle.hierarchy.specs.Conditions.{is_child, children, child}
 use Rattle.card.specs.Finite.{one}
 use Rattle.hierarchy.specs.inner.Ordinals.{ordinal}
@@ -101,10 +104,6 @@ pub child_count : (c : Card) (i : ℕ) → length (children c i) ≡ ordinal c i
 unfolding children
 child_count c i = kept_length (is_child c i) 0 (length c.subnets) ∙ sym (ordinal_passing c i (length c.subnets))
 
-pub and_parts : (a b : Bool) → (a && b) ≡ true → (a ≡ true) × (b ≡ true)
-and_parts true b e = (refl, e)
-and_parts false b e = absurd (false≢true e)
-
 pub child_below : (c : Card) (i j : ℕ) → is_child c i j ≡ true → j < length c.subnets
 child_below c i j e =
     let other : Bool = not (eqb j i) in
@@ -143,8 +142,8 @@ child_is c i k l = go (kept_of (is_child c i) 0 (length c.subnets) k l)
 pub both_kth_is : (c : Card) (r s a b : ℕ) → length (children c r) ≡ length (children c s)
     → both_kth c r s a b ≡ is_child c r a && (is_child c s b && eqb (ordinal c s b) (ordinal c r a))
 both_kth_is c r s a b e =
-    same_test _ _ _ _ (any_is (length (children c r)) _ _ (λ k. and_is _ _ _ _ (eq_is a (child c r k)) (eq_is b (child c s k))))
-    (and_is _ _ _ _ (itself (is_child c r a)) (and_is _ _ _ _ (itself (is_child c s b)) (eq_is (ordinal c s b) (ordinal c r a)))) forth back
+    same_test _ _ _ _ (any_is (length (children c r)) _ _ (λ k. Decides-and _ _ (Decides-eqb a (child c r k)) (Decides-eqb b (child c s k))))
+    (Decides-and _ _ (itself (is_child c r a)) (Decides-and _ _ (itself (is_child c s b)) (Decides-eqb (ordinal c s b) (ordinal c r a)))) forth back
   where
     itself : (t : Bool) → Decides t (t ≡ true)
     itself t = (λ h. h, λ h. h)

@@ -28,6 +28,9 @@ module _ {A : Type 0} {whole : Option A} {f : ℕ → Option A} {end k : ℕ} (h
   unfolding first_of
   walk_end l = let q : end - k ≡ 0 = omega arith in sym (h.left ∙ rw q)
 
+-- the step of such a walk, where it finds something, and its end
+pub ruleset walks = (walk_on, walk_found, walk_end)
+
 -- where a search finds nothing, there is nothing at each number
 pub none_at : {A : Type 0} (from n : ℕ) (f : ℕ → Option A) → first_of from n f ≡ none → (k : ℕ) → from ≤ k → k < from + n → f k ≡ none
 none_at from n f e = (first_of_is from n f (λ k. f k ≡ none) (λ k. (λ h. h, λ h. h))).0 e

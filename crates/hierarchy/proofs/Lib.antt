@@ -5,6 +5,7 @@ pub mod DeadLoopLaws
 pub mod FirstLaws
 pub mod WalkLaws
 pub mod AllBelow
+pub mod LoadedLaws
 pub mod ArcLaws
 pub mod ChildLaws
 pub mod TypeLaws

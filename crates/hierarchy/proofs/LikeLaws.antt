@@ -8,13 +8,14 @@ use native.Mathlib.Omega.{arith}
 use lib.ListN.{length}
 use lib.Dec.{ltb, eqb}
 use borrow.Author.Tests.{ltb-true, ltb-false, eqb-true, eqb-false, eq-eqb}
+use Rattle.std.proofs.lemmas.Bool.{and_parts}
 use Rattle.card.specs.Card.{Card, Arc, subnet_at, transition_at, arc_at, first_transition}
 use Rattle.hierarchy.specs.Conditions.{is_child, children, child, SameType, Alike, AlikeArcs, AlikeTransitions}
 use Rattle.hierarchy.specs.inner.Ordinals.{ordinal}
 use Rattle.hierarchy.specs.Check.{same_type, alike, like_lower}
 use Rattle.hierarchy.proofs.Agree.{same_type_is, alike_is, like_lower_is}
 use Rattle.hierarchy.proofs.WalkLaws.{Below, every_none, every_all}
-use Rattle.hierarchy.proofs.ChildLaws.{and_parts, child_is}
+use Rattle.hierarchy.proofs.ChildLaws.{child_is}
 
 -- no subnet is its own child, and no two of its children are one
 own_no_child : (c : Card) (i : ℕ) → is_child c i i ≡ true → ⊥

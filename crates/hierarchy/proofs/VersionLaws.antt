@@ -21,7 +21,7 @@ use Rattle.card.specs.declared.FormatFault.{FormatFault}
 use Rattle.card.specs.declared.FormatFault.TheVariants.{Truncated}
 use Rattle.card.proofs.BitLaws.{field_local}
 use Rattle.card.proofs.Bounds.{since_none}
-use Rattle.card.proofs.LongInput.{first_same}
+use Rattle.card.proofs.SearchLaws.{first_same}
 use Rattle.card.proofs.Ranges.{read_wellformed}
 use Rattle.card.proofs.Shape.{One, erase, part, read_erase, then_then}
 use Rattle.card.proofs.Yields.{not_whole}

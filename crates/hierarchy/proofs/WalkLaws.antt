@@ -1,13 +1,14 @@
 -- A loop that walks 0, 1, .., with a test at each number: what it knows at the start, after one more number, where it stops early and where
 -- it has passed the last. Assumes nothing.
-use Prim.Native.Nat.{ℕ, zero, suc, ◌+◌, ◌≤◌, ◌<◌}
+use Prim.Native.Nat.{ℕ, zero, suc, ◌≤◌, ◌<◌}
 use mathlib.Core.Path.{◌≡◌, refl, sym, subst}
-use mathlib.Core.Bool.{Bool, true, false, ◌&&◌, ◌||◌}
+use mathlib.Core.Bool.{Bool, true, false, ◌&&◌, ◌||◌, and-false, or-true}
 use mathlib.Core.Option.{Option, none, some}
 use native.Mathlib.Omega.{arith}
 use lib.Dec.{eqb}
 use borrow.Author.Tests.{eqb-true, eqb-false, ne_eqb}
 use Rattle.card.specs.Finite.{every, any, first_of}
+use Rattle.card.proofs.SearchLaws.{first_from, none_from}
 use Rattle.hierarchy.specs.Check.{fault_unless, finding_of}
 use Rattle.hierarchy.specs.declared.CardFault.{CardFault}
 use Rattle.std.specs.Prelude.{Ok, Err}
@@ -16,29 +17,6 @@ use Rattle.std.specs.Prelude.{Ok, Err}
 abbrev pub Below : {A : Type 0} → (n : ℕ) → (ℕ → A) → A → Type 0
 Below n f y = (k : ℕ) → k < n → f k ≡ y
 
-pub below_start : {A : Type 0} (f : ℕ → A) (y : A) → Below 0 f y
-below_start f y k l = absurd (omega arith)
-
-pub below_more : {A : Type 0} (n : ℕ) (f : ℕ → A) (y : A) → Below n f y → f n ≡ y → Below (n + 1) f y
-below_more n f y h e k l = go (eqb k n) refl
-  where
-    go : (t : Bool) → eqb k n ≡ t → f k ≡ y
-    go true q = subst (λ (i : ℕ). f i ≡ y) (sym (eqb-true k n q)) e
-    go false q = h k (omega (arith, eqb-false k n q))
-
--- the other part decides nothing, or all
-pub and_yes : (a : Bool) → (a && true) ≡ a
-and_yes true = refl
-and_yes false = refl
-
-pub or_yes : (a : Bool) → (a || true) ≡ true
-or_yes true = refl
-or_yes false = refl
-
-pub and_no : (a : Bool) → (a && false) ≡ false
-and_no true = refl
-and_no false = refl
-
 -- every
 pub every_none : (n i : ℕ) (f : ℕ → Bool) → i < n → f i ≡ false → every n f ≡ false
 unfolding every
@@ -46,7 +24,7 @@ every_none zero i f l e = absurd (omega arith)
 every_none (suc n) i f l e = go (eqb i n) refl (λ m. every_none n i f m e)
   where
     go : (t : Bool) → eqb i n ≡ t → (i < n → every n f ≡ false) → (every n f && f n) ≡ false
-    go true q w = let z : f n ≡ false = subst (λ (k : ℕ). f k ≡ false) (eqb-true i n q) e in rw z (and_no (every n f))
+    go true q w = let z : f n ≡ false = subst (λ (k : ℕ). f k ≡ false) (eqb-true i n q) e in rw z (and-false (every n f))
     go false q w = rw (w (omega (arith, eqb-false i n q)))
 
 pub every_all : (n i : ℕ) (f : ℕ → Bool) → Below i f true → n ≤ i → every n f ≡ true
@@ -61,7 +39,7 @@ any_one zero i f l e = absurd (omega arith)
 any_one (suc n) i f l e = go (eqb i n) refl (λ m. any_one n i f m e)
   where
     go : (t : Bool) → eqb i n ≡ t → (i < n → any n f ≡ true) → (any n f || f n) ≡ true
-    go true q w = let z : f n ≡ true = subst (λ (k : ℕ). f k ≡ true) (eqb-true i n q) e in rw z (or_yes (any n f))
+    go true q w = let z : f n ≡ true = subst (λ (k : ℕ). f k ≡ true) (eqb-true i n q) e in rw z (or-true (any n f))
     go false q w = rw (w (omega (arith, eqb-false i n q)))
 
 pub any_none : (n i : ℕ) (f : ℕ → Bool) → Below i f false → n ≤ i → any n f ≡ false
@@ -70,23 +48,6 @@ any_none zero i f h l = refl
 any_none (suc n) i f h l = rw (any_none n i f h (omega arith), h n (omega arith))
 
 -- first_of
-first_from : {A : Type 0} (from n i : ℕ) (f : ℕ → Option A) (x : A) → ((k : ℕ) → from ≤ k → k < from + i → f k ≡ none) → i < n → f (from + i) ≡ some x → first_of from n f ≡ some x
-unfolding first_of
-first_from from zero i f x h l e = absurd (omega arith)
-first_from from (suc n) zero f x h l e =
-    let q : from + zero ≡ from = omega arith in
-    let z : f from ≡ some x = subst (λ (k : ℕ). f k ≡ some x) q e in
-    rw z
-first_from from (suc n) (suc i) f x h l e =
-    let q : from + suc i ≡ suc from + i = omega arith in
-    let z : f (suc from + i) ≡ some x = subst (λ (k : ℕ). f k ≡ some x) q e in
-    rw (h from (omega arith) (omega arith)) (first_from (suc from) n i f x (λ k a b. h k (omega arith) (omega arith)) (omega arith) z)
-
-none_from : {A : Type 0} (from n : ℕ) (f : ℕ → Option A) → ((k : ℕ) → from ≤ k → k < from + n → f k ≡ none) → first_of from n f ≡ none
-unfolding first_of
-none_from from zero f h = refl
-none_from from (suc n) f h = rw (h from (omega arith) (omega arith)) (none_from (suc from) n f (λ k a b. h k (omega arith) (omega arith)))
-
 pub first_found : {A : Type 0} (n i : ℕ) (f : ℕ → Option A) (x : A) → Below i f none → i < n → f i ≡ some x → first_of 0 n f ≡ some x
 first_found n i f x h l e = first_from 0 n i f x (λ k a b. h k (omega arith)) l (subst (λ (k : ℕ). f k ≡ some x) (omega arith) e)
 

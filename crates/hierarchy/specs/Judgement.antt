@@ -11,7 +11,7 @@ use Rattle.hierarchy.specs.Check.{Found, check}
 use Rattle.card.specs.View.{card_in, Holds}
 use Rattle.card.specs.declared.Counts.{Counts}
 use Rattle.hierarchy.specs.declared.CardRefusal.{CardRefusal}
-use Rattle.hierarchy.specs.declared.check.CheckedCard.{CheckedCard}
+use Rattle.card.specs.declared.index.CardIndex.{CardIndex}
 
 -- accepted: the card; refused: the paper's number and the bit
 pub data Judgement : Type 0 where
@@ -42,16 +42,16 @@ outcome_of (refused n at) = Numbers.CheckOutcome.refused n at
 abbrev pub answer : (bytes : List ℕ) → CheckOutcome
 answer bytes = outcome_of (judge bytes)
 
-abbrev pub counts_of : Result CheckedCard CardRefusal → Result Counts CardRefusal
+abbrev pub counts_of : Result CardIndex CardRefusal → Result Counts CardRefusal
 counts_of (Ok r) = Ok r.counts
 counts_of (Err e) = Err e
 
 -- what a caller gets beside the table of numbers that it lends: the answer, and where the rows of an accepted card begin
-pub record IsChecked (bytes : List ℕ) (r : Result CheckedCard CardRefusal) : Type 0 where
+pub record IsChecked (bytes : List ℕ) (r : Result CardIndex CardRefusal) : Type 0 where
   pub answer : check_outcome (counts_of r) ≡ answer bytes
   pub starts : (c : Card) → judge bytes ≡ accepted c → IfOk r (λ k. k.starts ≡ starts_of c)
 
 -- beside the table of numbers that a caller lends: the two are a view of the card that was accepted
-pub record IsAccepted (bytes numbers : List ℕ) (k : CheckedCard) : Type 0 where
+pub record IsAccepted (bytes numbers : List ℕ) (i : CardIndex) : Type 0 where
   pub judged : judge bytes ≡ accepted (card_in numbers)
-  pub holds : Holds (card_in numbers) numbers k.starts k.counts
+  pub holds : Holds (card_in numbers) numbers i

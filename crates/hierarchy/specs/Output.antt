@@ -17,9 +17,13 @@ abbrev pub fitted : (fits : Bool) → (length : ℕ) → WriteOutcome
 fitted true n = write_outcome (Ok n)
 fitted false n = write_outcome (Err (Short n))
 
+-- bytes for a lent buffer, once nothing but its length can refuse
+abbrev pub written : (bytes buffer : List ℕ) → WriteOutcome × List ℕ
+written bytes buffer = (fitted (leb (length bytes) (length buffer)) (length bytes), put_into bytes buffer)
+
 -- Flattening and writing test 24 last. A refusal leaves buffers untouched, a short buffer too.
 abbrev pub delivered : Judgement → (Card → List ℕ) → (buffer : List ℕ) → WriteOutcome × List ℕ
-delivered (accepted c) bytes buffer = (fitted (leb (length (bytes c)) (length buffer)) (length (bytes c)), put_into (bytes c) buffer)
+delivered (accepted c) bytes buffer = written (bytes c) buffer
 delivered (refused n at) bytes buffer = (Numbers.WriteOutcome.refused n at, buffer)
 
 -- the writer, with the tables in lent slices, row after row; a slice that ends inside a row is 17 too

@@ -47,7 +47,7 @@ fn weighted(card: &CardView<'_>, a: Arc) -> bool
     1 <= a.weight && a.weight <= card.place(a.subnet, a.place).capacity
 }
 
-// Places differ most often, so they are compared first.
+// Places differ most often, so they are compared first. (A part of the fields, as in the likeness of places and arcs in types.rt: no derive says it.)
 fn same_place(a: Arc, b: Arc) -> bool
     ensures { result ≡ at_same_place (arc_in a) (arc_in b) }
 {
@@ -70,7 +70,7 @@ fn loop_fits(capacity: u16, a: Arc, b: Arc) -> bool
 }
 
 // What the lower arcs of a transition leave of an arc: whether none repeats it, and whether each that is a self-loop with it has its weight within
-// the capacity together with it.
+// the capacity together with it. Two flags and no `Option`: both may be wanting, and which of them is told is the caller's business.
 #[derive(Clone, Copy)]
 struct Beside {
     single: bool,
@@ -78,7 +78,7 @@ struct Beside {
 }
 
 // One walk serves both tests, and finds the transition's row once: on a card with many arcs it is most of pass two.
-#[tactic(auto, unfolding(crate::specs::Check::single, crate::specs::Check::loops_fit, card::specs::Finite::every))]
+#[tactic(auto, using(crate::proofs::FirstLaws::every_more), unfolding(crate::specs::Check::single, crate::specs::Check::loops_fit, card::specs::Finite::every))]
 fn beside_lower(card: &CardView<'_>, t: u16, j: u16) -> Beside
     requires { j < (transition_at card.now t).arcs }
     ensures single_value { result.single ≡ single card.now t j }
@@ -90,9 +90,7 @@ fn beside_lower(card: &CardView<'_>, t: u16, j: u16) -> Beside
         single: true,
         fits: true,
     };
-    let arcs = card.arcs(t);
-    for h in 0..j {
-        let lower = arcs.get(h);
+    for lower in card.arcs(t).take(j as usize) {
         known.single &= !repeats(lower, a);
         known.fits &= loop_fits(capacity, lower, a);
     }
@@ -103,10 +101,8 @@ fn beside_lower(card: &CardView<'_>, t: u16, j: u16) -> Beside
 fn has_unit(card: &CardView<'_>, t: u16) -> bool
     ensures { PlacesThere card.now t → result ≡ has_unit card.now t }
 {
-    (0..card.transition(t).arcs).any(|j| {
-        let a = card.arc(t, j);
-        card.place(a.subnet, a.place).capacity == 1
-    })
+    card.arcs(t)
+        .any(|a| card.place(a.subnet, a.place).capacity == 1)
 }
 
 // The first fault of 10 to 13 and 26 at arc j of transition t of subnet i.
@@ -117,25 +113,26 @@ fn arc_fault(card: &CardView<'_>, i: u16, t: u16, j: u16) -> Result<(), CardRefu
 {
     let a = card.arc(t, j);
     if !seen(card, i, a) {
-        return Err(CardFault::Unseen.at(card.arc_bit(t, j)));
+        return Err(CardFault::Unseen.at(card.arc_bit(u32::from(t), j)));
     }
     if !directed(card, i, a) {
-        return Err(CardFault::Direction.at(card.arc_bit(t, j)));
+        return Err(CardFault::Direction.at(card.arc_bit(u32::from(t), j)));
     }
     if !weighted(card, a) {
-        return Err(CardFault::Weight.at(card.arc_bit(t, j)));
+        return Err(CardFault::Weight.at(card.arc_bit(u32::from(t), j)));
     }
     let lower = beside_lower(card, t, j);
     if !lower.single {
-        return Err(CardFault::Repeated.at(card.arc_bit(t, j)));
+        return Err(CardFault::Repeated.at(card.arc_bit(u32::from(t), j)));
     }
     if !lower.fits {
-        return Err(CardFault::DeadLoop.at(card.arc_bit(t, j)));
+        return Err(CardFault::DeadLoop.at(card.arc_bit(u32::from(t), j)));
     }
     Ok(())
 }
 
-// The first fault of 10 to 14 and 26 at transition t of subnet i.
+// The first fault of 10 to 14 and 26 at transition t of subnet i. By index, which the bit of an arc's fault is found by.
+#[tactic(auto, using(crate::proofs::FirstLaws::walks, crate::proofs::ArcLaws::places_there), unfolding(crate::specs::Check::transition_fault))]
 fn transition_fault(card: &CardView<'_>, i: u16, t: u16) -> Result<(), CardRefusal>
     ensures { Lists card.now i t → finding_of result ≡ transition_fault card.now i t }
 {
@@ -143,12 +140,13 @@ fn transition_fault(card: &CardView<'_>, i: u16, t: u16) -> Result<(), CardRefus
         arc_fault(card, i, t, j)?;
     }
     if !has_unit(card, t) {
-        return Err(CardFault::NoUnit.at(card.transition_bit(t)));
+        return Err(CardFault::NoUnit.at(card.transition_bit(u32::from(t))));
     }
     Ok(())
 }
 
 // The same over the transitions of subnet i.
+#[tactic(auto, using(crate::proofs::FirstLaws::walks, crate::proofs::ArcLaws::lists, crate::proofs::ArcLaws::subnet_start))]
 fn subnet_fault(card: &CardView<'_>, i: u16) -> Result<(), CardRefusal>
     ensures { finding_of result ≡ subnet_fault card.now i }
 {
@@ -160,6 +158,7 @@ fn subnet_fault(card: &CardView<'_>, i: u16) -> Result<(), CardRefusal>
 
 // The first fault of 10 to 14 and 26 over all subnets, by subnet, transition and arc. Wrong passes that this rules out: one that lets a subnet see
 // the interface places of its children's children, one that tests weights before directions, and one that tells of a loop at its first arc.
+#[tactic(auto, using(crate::proofs::FirstLaws::walks))]
 pub fn arcs_fault(card: &CardView<'_>) -> Result<(), CardRefusal>
     ensures { finding_of result ≡ first_of 0 (length card.now.subnets) (subnet_fault card.now) }
 {

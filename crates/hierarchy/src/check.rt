@@ -10,18 +10,13 @@ use crate::CardRefusal;
 use crate::arcs::arcs_fault;
 use crate::interfaces::interfaces_fault;
 use crate::types::types_fault;
+use card::index::CardIndex;
 use card::reader::{has_room, read};
 use card::view::CardView;
-use card::{Counts, SMALL_TABLE, STARTS, TABLE};
-
-// An accepted card: how many subnets, places and transitions it has, and where its rows begin among its numbers (see card::view).
-#[derive(Clone, Copy)]
-pub struct CheckedCard {
-    pub counts: Counts,
-    pub starts: [u32; STARTS],
-}
+use card::{Counts, SMALL_TABLE, TABLE};
 
 // The first fault of pass two.
+#[tactic(auto, using(crate::proofs::CheckLaws::found_first, crate::proofs::CheckLaws::found_later), unfolding(crate::specs::Check::check))]
 fn first_fault(card: &CardView<'_>) -> Result<(), CardRefusal>
     ensures { finding_of result ≡ first_fault card.now }
 {
@@ -31,25 +26,22 @@ fn first_fault(card: &CardView<'_>) -> Result<(), CardRefusal>
 }
 
 // Checks a card in a lent table that has room for it.
-fn load_into(card: &[u8], numbers: &mut [u16]) -> Result<CheckedCard, CardRefusal>
+fn load_into(card: &[u8], numbers: &mut [u16]) -> Result<CardIndex, CardRefusal>
     requires { has_room (length card.now) (length numbers.old) ≡ true }
     ensures numbers_len_unchanged { length numbers.new ≡ length numbers.old }
     ensures checked { IsChecked card.now result }
     ensures table { IsTable (read_card card.now) (length numbers.old) numbers.new }
     ensures accepted { IfOk result (IsAccepted card.now numbers.new) }
 {
-    let read = read(card, numbers)?;
-    first_fault(&CardView::new(numbers, &read.starts, read.counts))?;
-    Ok(CheckedCard {
-        counts: read.counts,
-        starts: read.starts,
-    })
+    let index = read(card, numbers)?;
+    first_fault(&index.view(numbers))?;
+    Ok(index)
 }
 
 // Checks a card, for a caller that goes on with its tables: the numbers that pass one read are left in a lent table, as the reader leaves them, and
 // make a view of an accepted card if the table has room. Two wrong checks that this rules out: one that looks at the types of subnets before
-// their interface places, and one that clears the table of an accepted card.
-pub fn load(card: &[u8], numbers: &mut [u16]) -> Result<CheckedCard, CardRefusal>
+// their interface places, and one that clears the table of an accepted card. The choice of the table is written out, as in `read`.
+pub fn load(card: &[u8], numbers: &mut [u16]) -> Result<CardIndex, CardRefusal>
     ensures numbers_len_unchanged { length numbers.new ≡ length numbers.old }
     ensures checked { IsChecked card.now result }
     ensures lent { IsLent (read_card card.now) (has_room (length card.now) (length numbers.old)) numbers.old numbers.new }
@@ -68,6 +60,6 @@ pub fn check(card: &[u8]) -> Result<Counts, CardRefusal>
 {
     // A larger card is loaded into a table of its own.
     let mut numbers = [0; SMALL_TABLE];
-    let checked = load(card, &mut numbers)?;
-    Ok(checked.counts)
+    let index = load(card, &mut numbers)?;
+    Ok(index.counts())
 }

@@ -12,7 +12,7 @@ use card::view::{CardView, Kind};
 fn has_interface(card: &CardView<'_>, i: u16) -> bool
     ensures { result ≡ has_interface card.now i }
 {
-    (0..card.subnet(i).places).any(|n| card.place(i, n).kind != Kind::Normal)
+    card.places_of(i).any(|p| p.kind != Kind::Normal)
 }
 
 // The first subnet but 0 that owns no interface place.

@@ -29,7 +29,8 @@ pub enum CardFault {
 }
 
 impl CardFault {
-    // The paper's number of a fault.
+    // The paper's number of a fault. Two wrong tables that this rules out: one that numbers a dead loop as a repeated arc, and one that numbers it
+    // 17, behind the others.
     pub fn number(self) -> u64
         ensures { result ≡ number self }
     {
@@ -46,6 +47,7 @@ impl CardFault {
         }
     }
 
+    // Two wrong ones that this rules out: one that refuses at the first bit, and one that tells another fault.
     pub fn at(self, bit: usize) -> CardRefusal
         ensures { result ≡ record { fault = self; bit = bit } }
     {
@@ -79,7 +81,8 @@ pub enum WriteRefusal {
 pub const SHORT_BUFFER: u64 = 24;
 
 impl WriteRefusal {
-    // The paper's number of a refusal.
+    // The paper's number of a refusal. Two wrong tables that this rules out: one that numbers a short buffer as a bad table, and one that gives
+    // each refused card that number.
     pub fn number(self) -> u64
         ensures { result ≡ write_number self }
     {
@@ -89,7 +92,8 @@ impl WriteRefusal {
         }
     }
 
-    // What the paper gives beside the number: the bit, or the length that is needed.
+    // What the paper gives beside the number: the bit, or the length that is needed. Two wrong ones that this rules out: one that leaves the length
+    // out, and one that gives the byte for the bit.
     pub fn value(self) -> usize
         ensures { result ≡ write_value self }
     {

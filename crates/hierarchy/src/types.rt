@@ -31,12 +31,15 @@ fn alike_place(p: Place, q: Place) -> bool
 fn alike_places(card: &CardView<'_>, r: u16, s: u16) -> bool
     ensures { result ≡ places_alike card.now r s }
 {
-    let places = card.subnet(r).places;
-    places == card.subnet(s).places
-        && (0..places).all(|n| alike_place(card.place(r, n), card.place(s, n)))
+    card.subnet(r).places == card.subnet(s).places
+        && card
+            .places_of(r)
+            .zip(card.places_of(s))
+            .all(|(p, q)| alike_place(p, q))
 }
 
 // Whether subnets r and s have as many children, the k-th two of equal nonzero type.
+#[tactic(auto, using(crate::proofs::WalkLaws::counts_differ, crate::proofs::ChildLaws::child_counted))]
 fn alike_children(card: &CardView<'_>, r: u16, s: u16) -> bool
     ensures { result ≡ children_alike card.now r s }
 {
@@ -60,6 +63,7 @@ struct Pair<'a> {
 
 impl<'a> Pair<'a> {
     // Whether subnet a is the k-th child of the lower subnet and b that of the upper one, for one k.
+    #[tactic(auto, using(crate::proofs::WalkLaws::part_fails, crate::proofs::WalkLaws::part_holds, crate::proofs::ChildLaws::both_kth_is))]
     fn both_kth(&self, a: u16, b: u16) -> bool
         ensures { result ≡ both_kth self.now.card.now self.now.lower self.now.upper a b }
     {
@@ -83,9 +87,12 @@ impl<'a> Pair<'a> {
     fn alike_arcs(&self, t: u16, u: u16) -> bool
         ensures { result ≡ alike_transitions self.now.card.now self.now.lower self.now.upper t u }
     {
-        let arcs = self.card.transition(t).arcs;
-        arcs == self.card.transition(u).arcs
-            && (0..arcs).all(|j| self.alike_arc(self.card.arc(t, j), self.card.arc(u, j)))
+        self.card.transition(t).arcs == self.card.transition(u).arcs
+            && self
+                .card
+                .arcs(t)
+                .zip(self.card.arcs(u))
+                .all(|(a, b)| self.alike_arc(a, b))
     }
 
     // Whether both have as many transitions, each two alike.
@@ -110,6 +117,7 @@ impl<'a> Family<'a> {
     fn of(card: &'a CardView<'a>) -> Family<'a>
         ensures { result.card.now ≡ card.now }
     {
+        // By index: no contract of `iter_mut` beside another iterator says what the array has afterwards.
         let mut ordinals = [0; MOST_SUBNETS];
         for j in 0..card.subnets() {
             ordinals[j as usize] = ordinal(card, card.subnet(j).parent, j);
@@ -117,6 +125,7 @@ impl<'a> Family<'a> {
         Family { card, ordinals }
     }
 
+    #[tactic(auto, using(crate::proofs::WalkLaws::part_fails, crate::proofs::WalkLaws::part_holds, crate::proofs::TypeLaws::alike_parts))]
     fn alike(&self, r: u16, s: u16) -> bool
         ensures { result ≡ alike self.now.card.now r s }
     {

@@ -1,7 +1,7 @@
 -- A call on a state in slices is the runners' call on the state that they make. Assumes nothing.
 use Prim.Native.Nat.{ℕ}
 use mathlib.Core.Path.{◌≡◌, refl, sym, ap, subst, ◌∙◌}
-use mathlib.Core.Bool.{Bool, true, false, ◌&&◌, false≢true}
+use mathlib.Core.Bool.{Bool, true, false, ◌&&◌}
 use mathlib.Core.List.{List, map}
 use mathlib.Core.Option.{Option, none, some, some-ne-none}
 use native.Mathlib.Omega.{arith}
@@ -13,10 +13,10 @@ use borrow.Author.Tests.{eqb-true}
 use Rattle.std.specs.Prelude.{Result, Ok, Err}
 use Rattle.std.specs.Array.{IsMapOf}
 use Rattle.std.specs.Fn.{Called}
-use Rattle.std.proofs.lemmas.List.{take-map, get_or-map}
+use Rattle.std.proofs.lemmas.List.{take-map, get_or-map, length-map}
+use Rattle.std.proofs.lemmas.Bool.{and_parts}
 use Rattle.card.specs.Finite.{some_unless, ◌otherwise◌}
 use Rattle.card.specs.Card.{Card}
-use Rattle.card.proofs.Sums.{map_length}
 use Rattle.hierarchy.specs.Conditions.{Meets}
 use Rattle.hierarchy.specs.Numbers as Check
 use Rattle.hierarchy.specs.Judgement.{Judgement, accepted, refused, judge}
@@ -26,14 +26,14 @@ use Rattle.flattening.specs.Flattening.{flatten, flat_place_row}
 use Rattle.runners.specs.Numbers.{RowOutcome, refusal}
 use Rattle.runners.specs.State.{NetState, fresh}
 use Rattle.runners.specs.Rows.{settle, Act, act_of}
-use Rattle.runners.specs.Calls.{view, store, blank, fresh_lent, fresh_of, fresh_call, consistent, valid_in, in_state, valid, Given, lent_call, call_on, flat_call, subnet_call}
+use Rattle.runners.specs.Calls.{view, store, blank, fresh_of, fresh_call, consistent, valid_in, in_state, valid, Given, lent_call, call_on, flat_call, subnet_call}
 use Rattle.runners.specs.Columns.{code_of, transfer_of}
 use Rattle.runners.specs.inner.Counts.{Counts}
 use Rattle.runners.specs.declared.Transfer.{Transfer}
 use Rattle.runners.specs.declared.State.{State as Own}
 use Rattle.runners.specs.declared.Refusal.{Refusal}
 use Rattle.runners.specs.declared.Refusal.TheVariants.{BadCard, BadState, BadOrder, BadRow, BadDegree, Conflict}
-use Rattle.runners.specs.Answers.{IsFresh, IsAccepting}
+use Rattle.runners.specs.Answers.{IsFresh}
 use Rattle.runners.proofs.StateLaws.{consistent_is, Sized, fresh_sized}
 use Rattle.runners.proofs.TraceLaws.{view_store, Good, Keeps, ask_keeps}
 use Rattle.net_runner.specs.declared.told.Told.{Told}
@@ -41,13 +41,14 @@ use Rattle.net_runner.specs.declared.lending.Lent.{Lent}
 use Rattle.net_runner.specs.Told.{row_told, answer_told}
 use Rattle.net_runner.specs.Slices.{Slices, slices, state_of, slices_of, sized, in_slices, fresh_in, fresh_on, flat_on, subnet_on}
 use Rattle.net_runner.specs.Copies.{held, SameSlices, Fits, Lends, IsLent, IsHanded, sized_as, taken_back, handed_back, too_long}
+use Rattle.net_runner.proofs.ToldLaws.{FreshNet, fresh_yes}
 
 -- an array that a function made of another, element by element
 module _ {F A B : Type 0} (g : Mut F (A × Unit {0}) B) (f : A → B) where
   pub mapped : (d : A) (e : B) (p : F) (xs : List A) (ys : List B) (n : ℕ) → IsMapOf g p xs ys n → length xs ≡ n
       → ((p q : F) (x : A) (y : B) → Called g p (x, tt) y q → y ≡ f x) → ys ≡ map f xs
   mapped d e p xs ys n h l each =
-      ext_get_or e ys (map f xs) (h.long ∙ sym l ∙ sym (map_length f xs))
+      ext_get_or e ys (map f xs) (h.long ∙ sym l ∙ sym (length-map xs f))
       (λ i b. let z = h.at i d e (omega (arith, h.long)) in each _ _ _ _ z.2 ∙ sym (get_or-map f xs i d e (omega (arith, h.long, l))))
 
 -- the state that slices make
@@ -83,14 +84,6 @@ refused_back BadRow l x = refl
 refused_back (BadDegree g) l x = refl
 refused_back (Conflict p) l x = refl
 
-and_left : (a b : Bool) → (a && b) ≡ true → a ≡ true
-and_left true b e = refl
-and_left false b e = e
-
-and_right : (a b : Bool) → (a && b) ≡ true → b ≡ true
-and_right true b e = e
-and_right false b e = absurd (false≢true e)
-
 record Lengths (f : Card) (x : Slices) : Type 0 where
   pub places : length x.markings ≡ length f.places
   pub transitions : length x.transfers ≡ length f.transitions
@@ -103,9 +96,9 @@ sized_lengths f x e =
     let b = eqb (length x.transfers) (length f.transitions) in
     let c = eqb (length x.degrees) f.signals in
     record {
-      places = eqb-true _ _ (and_left a b (and_left (a && b) c e));
-      transitions = eqb-true _ _ (and_right a b (and_left (a && b) c e));
-      signals = eqb-true _ _ (and_right (a && b) c e);
+      places = eqb-true _ _ (and_parts a b (and_parts (a && b) c e).0).0;
+      transitions = eqb-true _ _ (and_parts a b (and_parts (a && b) c e).0).1;
+      signals = eqb-true _ _ (and_parts (a && b) c e).1;
     }
 
 none_right : (a b : Option Refusal) → (a otherwise b) ≡ none → b ≡ none
@@ -130,8 +123,8 @@ module _ (x : Slices) (l : Own) (h : Lends x l) where
     unfolding valid_in
     settled v (some why) e = refused_back why l x
     settled v none e =
-        let z = sized_lengths f x (and_left (sized f x) (consistent f s) v) in
-        let g : Good f s = record { consistent = (consistent_is f s).0 (and_right (sized f x) (consistent f s) v); sized = record { markings = z.places; transfers = map_length transfer_of x.transfers ∙ z.transitions; degrees = z.signals } } in
+        let z = sized_lengths f x (and_parts (sized f x) (consistent f s) v).0 in
+        let g : Good f s = record { consistent = (consistent_is f s).0 (and_parts (sized f x) (consistent f s) v).1; sized = record { markings = z.places; transfers = length-map x.transfers transfer_of ∙ z.transitions; degrees = z.signals } } in
         let k = keeps s g (none_right (some_unless ordered BadOrder) (a.refusal s) e) in
         let n : Counts f l = record { places = h.places ∙ z.places; transitions = h.transitions ∙ z.transitions; signals = h.signals ∙ z.signals } in
         ap (λ (y : Slices). (RowOutcome.ok, y)) (taken_store f l (a.next s) x n k.sized h.places h.transitions h.signals)
@@ -161,17 +154,21 @@ subnet_on_is card order x l h r = called_on x l h (judge card) _
 -- slices that are too long for any card
 valid_sized : (f : Card) (x : Slices) → valid_in in_slices f x ≡ true → sized f x ≡ true
 unfolding valid_in
-valid_sized f x e = and_left (sized f x) (consistent f (state_of x)) e
+valid_sized f x e = (and_parts (sized f x) (consistent f (state_of x)) e).0
 
 fits_of : (c : Card) (x : Slices) → Meets c → sized (flatten c) x ≡ true → Fits x
 unfolding flatten
 fits_of c x m e =
     let z = sized_lengths (flatten c) x e in
     record {
-      markings = omega (arith, z.places, map_length flat_place_row c.places, m.wellformed.rows.few_places);
+      markings = omega (arith, z.places, length-map c.places flat_place_row, m.wellformed.rows.few_places);
       transfers = omega (arith, z.transitions, m.wellformed.rows.few_transitions);
       degrees = omega (arith, z.signals, m.wellformed.few_signals);
     }
+
+-- no card's slices are
+pub never_too_long : (c : Card) (x : Slices) → Meets c → (Fits x → ⊥) → sized (flatten c) x ≡ true → ⊥
+never_too_long c x m n e = n (fits_of c x m e)
 
 called_long : (given : Card → Given) (card : List ℕ) (x : Slices) → (Fits x → ⊥) → call_on in_slices (judge card) given x ≡ (too_long (judge card), x)
 called_long given card x n = go (judge card) refl
@@ -182,7 +179,7 @@ called_long given card x n = go (judge card) refl
       where
         tested : (b : Bool) → valid_in in_slices (flatten c) x ≡ b → call_on in_slices (accepted c) given x ≡ (refusal BadState, x)
         tested false q = rw q
-        tested true q = absurd (n (fits_of c x (accepted_meets card c e) (valid_sized (flatten c) x q)))
+        tested true q = absurd (never_too_long c x (accepted_meets card c e) n (valid_sized (flatten c) x q))
 
 flat_long : (card : List ℕ) (x : Slices) (r : List ℕ) → (Fits x → ⊥) → flat_on card x r ≡ (too_long (judge card), x)
 unfolding flat_on
@@ -227,23 +224,9 @@ fresh_no card x e h = go (judge card) h.answer
         rw (en, eb)
     go (accepted c) w = absurd (let z : ◌≡◌ {A = ℕ} 0 1 = cc in omega arith)
 
-record FreshNet (card : List ℕ) (l : Own) : Type 0 where
-  pub net : Card
-  pub meets : Meets net
-  pub is : (x : Slices) → fresh_on card x ≡ fresh_in (accepted net) x
-  pub state : l ≡ fresh_lent (flatten net)
-
-fresh_net : (card : List ℕ) (l : Own) → IsFresh (fresh_call card) (Ok l) → FreshNet card l
-unfolding fresh_call fresh_on
-fresh_net card l h = go (judge card) refl h.answer h.state
-  where
-    go : (j : Judgement) → judge card ≡ j → IsAccepting (fresh_of j).0 → l ≡ (fresh_of j).1 → FreshNet card l
-    go (refused n b) d w z = absurd w
-    go (accepted c) d w z = record { net = c; meets = accepted_meets card c d; is = λ x. ap (λ (j : Judgement). fresh_in j x) d; state = z }
-
 module _ (card : List ℕ) (l : Own) (h : IsFresh (fresh_call card) (Ok l)) (x : Slices) where
   abbrev n : FreshNet card l
-  n = fresh_net card l h
+  n = fresh_yes card l h
 
   same_sizes : sized_as l x ≡ sized (flatten n.net) x
   unfolding sized

@@ -1,26 +1,22 @@
 // The check's answer to a card, with the number of its signals, which a caller needs for a state's last slice.
-ghost use Rattle.std.specs.Prelude.{◌≡◌, ◌≤◌, true, length};
+ghost use Rattle.std.specs.Prelude.{◌≡◌, true, length};
 ghost use Rattle.card.specs.Tables.{has_room};
 ghost use Rattle.hierarchy.specs.Judgement.{judge, answer};
 ghost use Rattle.net_runner.specs.Told.{check_told, counts_told, answer_told};
 ghost use Rattle.net_runner.specs.Copies.{IsCounted};
 
 use crate::told::Told;
-use card::view::CardView;
-use card::{SMALL_CARD, SMALL_TABLE, TABLE};
+use card::room::with_table;
 use hierarchy::CardRefusal;
 use hierarchy::check::load;
 
-// An accepted card's numbers of subnets, places, transitions and signals, with the card's numbers in a table of this size, which has room for
-// them.
-fn counted_in<const SIZE: usize>(card: &[u8]) -> Result<[usize; 4], CardRefusal>
-    requires room { has_room (length card.now) SIZE ≡ true }
-    requires small { SIZE ≤ TABLE }
+// An accepted card's numbers of subnets, places, transitions and signals, with a table for the card's numbers that has room for them.
+fn counted_in(card: &[u8], numbers: &mut [u16]) -> Result<[usize; 4], CardRefusal>
+    requires { has_room (length card.now) (length numbers.old) ≡ true }
     ensures { IsCounted (judge card.now) result }
 {
-    let mut numbers = [0; SIZE];
-    let checked = load(card, &mut numbers)?;
-    let card = CardView::new(&numbers, &checked.starts, checked.counts);
+    let index = load(card, numbers)?;
+    let card = index.view(numbers);
     Ok([
         card.subnets() as usize,
         card.places() as usize,
@@ -32,10 +28,7 @@ fn counted_in<const SIZE: usize>(card: &[u8]) -> Result<[usize; 4], CardRefusal>
 fn counted(card: &[u8]) -> Result<[usize; 4], CardRefusal>
     ensures { IsCounted (judge card.now) result }
 {
-    if card.len() <= SMALL_CARD {
-        return counted_in::<SMALL_TABLE>(card);
-    }
-    counted_in::<TABLE>(card)
+    with_table(card.len(), &mut |numbers| counted_in(card, numbers))
 }
 
 // Stores the numbers of an accepted card.

@@ -122,11 +122,11 @@ impl Lent<'_> {
     pub fn fresh(&mut self, card: &[u8]) -> Result<usize, Told>
         ensures { IsHanded (fresh_on card.now (held self.old)) result self.old self.new }
     {
-        let state = fresh(card)?;
-        if !self.is_sized_as(&state) {
+        let first = fresh(card)?;
+        if !self.is_sized_as(&first.state) {
             return Err(Told::from(Refusal::BadState));
         }
-        self.put(&state);
+        self.put(&first.state);
         Ok(0)
     }
 

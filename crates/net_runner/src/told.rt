@@ -7,6 +7,7 @@ ghost use Rattle.net_runner.specs.Told.{check_told, write_told, row_told, answer
 use hierarchy::{CardRefusal, WriteRefusal};
 use runners::Refusal;
 
+// A number and a value, and no enum, since that is what the C interface carries.
 #[derive(Clone, Copy)]
 pub struct Told {
     pub number: u64,

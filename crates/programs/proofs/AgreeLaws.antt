@@ -7,21 +7,20 @@ use mathlib.Core.List.{List, [], ◌∷◌, ◌++◌, map, head-eq_of_cons-eq, t
 use native.Mathlib.Omega.{arith}
 use native.Mathlib.Nat.{mul-suc, div-eq_of_lt, add-div_left}
 use native.Mathlib.Numerals.{add-one}
-use lib.ListN.{length, get_or, set, take, drop, replicate, length-append}
-use lib.Seq.{take_all, take_at, drop_at, drop-drop, length-take-le}
+use lib.ListN.{length, take, drop, replicate, length-append}
+use lib.Seq.{take_at, drop_at, drop-drop}
 use Rattle.std.specs.Prelude as Std
-use Rattle.std.specs.Prelude.{Some, None, Result, Ok, Err}
+use Rattle.std.specs.Prelude.{Some, None, MatchOption, Ok, Err}
 use Rattle.std.proofs.Common.{rules}
 use Rattle.std.specs.Bool.{Decides}
-use Rattle.std.proofs.lemmas.List.{take_more}
 use Rattle.std.proofs.lemmas.Slice.Eq.{bytes_eq-Decides, slice_eq-Decides}
 use lib.Pointwise.{pointwise}
-use Rattle.card.proofs.Decides.{and_is}
 use Rattle.runners.specs.contracts.TransferPartialEq.TheImpl as transfer_eq
 use Rattle.runners.specs.declared.Transfer.{Transfer}
 use Rattle.runners.specs.declared.Transfer.TheVariants.{Idle, Carrying}
 use lib.Dec.{eqb}
 use borrow.Author.Tests.{not-true, not-false}
+use Rattle.std.proofs.lemmas.Bool.Decides.{Decides-and}
 use Rattle.card.specs.Finite.{table}
 use Rattle.card.specs.Bits.{bytes_for}
 use Rattle.card.specs.Card.{Card}
@@ -39,7 +38,7 @@ use Rattle.runners.specs.Calls.{view, fresh_lent, fresh_of, fresh_call, in_state
 use Rattle.runners.specs.Traces.{Call, trace, observed}
 use Rattle.runners.specs.Answers.{IsRow, IsFresh}
 use Rattle.programs.specs.Files.{file_row}
-use Rattle.programs.proofs.TextLaws.{set_next, front_taken}
+use Rattle.programs.proofs.TextLaws.{front_taken}
 use Rattle.programs.proofs.FileLaws.{row_hollow, row_found, too_many}
 use Rattle.programs.specs.Agreeing.{row_size, call_size, call_of, call_at, calls_of, Agrees, Alike, LeavesBoth, IsBoth, IsAgreed}
 use Rattle.runners.specs.declared.State.{State as Lent}
@@ -72,8 +71,8 @@ pub states_same : (a b : Lent) (ms ns : List ℕ) (ts us : List Transfer) (ds es
     → (r : Bool) → r ≡ ((pointwise eqb ms ns && pointwise (transfer_eq.eq-value).it ts us) && pointwise eqb ds es) → (r ≡ true) ↔ (view a ≡ view b)
 states_same a b ms ns ts us ds es em en et eu ed ee r er =
     let seen = pointwise eqb ms ns && pointwise (transfer_eq.eq-value).it ts us in
-    let moved = and_is (pointwise eqb ms ns) (pointwise (transfer_eq.eq-value).it ts us) (ms ≡ ns) (ts ≡ us) (bytes_eq-Decides ms ns) (slice_eq-Decides transfer_decides ts us _ refl) in
-    let all = and_is seen (pointwise eqb ds es) ((ms ≡ ns) × (ts ≡ us)) (ds ≡ es) moved (bytes_eq-Decides ds es) in (
+    let moved = Decides-and (pointwise eqb ms ns) (pointwise (transfer_eq.eq-value).it ts us) (bytes_eq-Decides ms ns) (slice_eq-Decides transfer_decides ts us _ refl) in
+    let all = Decides-and seen (pointwise eqb ds es) moved (bytes_eq-Decides ds es) in (
       λ t.
           let h = all.0 (sym er ∙ t) in
           let m : (view a).markings ≡ (view b).markings = sym em ∙ h.0.0 ∙ en in
@@ -88,37 +87,11 @@ states_same a b ms ns ts us ds es em en et eu ed ee r er =
           ),
     )
 
--- the order of a call
-pub order_start : (bytes : List ℕ) → replicate 32 0 ≡ take 0 bytes ++ replicate (32 - 0) 0
-order_start bytes = refl
-
-pub order_more : (bytes o : List ℕ) (i v : ℕ) → o ≡ take i bytes ++ replicate (32 - i) 0 → i < length bytes → length bytes ≤ 32 → v ≡ get_or bytes i 0
-    → set o i v ≡ take (i + 1) bytes ++ replicate (32 - (i + 1)) 0
-order_more bytes o i v e l few r =
-    ap (λ (xs : List ℕ). set xs i v) e ∙ set_next 32 i v (take i bytes) (length-take-le i bytes (omega (arith, l))) (omega (arith, l, few))
-    ∙ ap (λ (xs : List ℕ). xs ++ replicate (32 - (i + 1)) 0) (ap (λ (y : ℕ). take i bytes ++ (y ∷ [])) r ∙ sym (take_more bytes i 0 l))
-
-pub order_end : (bytes o : List ℕ) (i : ℕ) → o ≡ take i bytes ++ replicate (32 - i) 0 → i ≡ length bytes → o ≡ bytes ++ replicate (32 - length bytes) 0
-order_end bytes o i e s = e ∙ ap (λ (xs : List ℕ). xs ++ replicate (32 - i) 0) (take_all i bytes (omega (arith, s))) ∙ ap (λ (k : ℕ). bytes ++ replicate (32 - k) 0) s
-
--- a call as the code reads it, and as it is in the file
-module _ (card row_bytes order_bytes : List ℕ) (x : Both) (c : Card) (en : row_size c ≡ length row_bytes) (o : List ℕ)
-    (eo : o ≡ order_bytes ++ replicate (32 - length order_bytes) 0) (b : Std.Option Both) where
-  order_is : take (length order_bytes) o ≡ order_bytes
-  order_is = front_taken 32 (length order_bytes) order_bytes o refl eo
-
-  read_call : (q : RowRead) → row_of c row_bytes ≡ q → IsBoth card (record { ask = row q; order = take (length order_bytes) o }) x b → IsBoth card (call_of c (row_bytes ++ order_bytes)) x b
-  read_call q e h =
-      subst (λ (k : Call). IsBoth card k x b)
-      (ap₂ (λ (r : RowRead) (z : List ℕ). record { ask = row r; order = z })
-      (sym e ∙ ap (row_of c) (sym (take_at row_bytes order_bytes (row_size c) (sym en)))) (order_is ∙ sym (drop_at row_bytes order_bytes (row_size c) (sym en)))) h
-
-  module _ (r : Std.Option (List ℕ)) (er : r ≡ file_row (row_of c row_bytes)) where
-    pub call_unread : r ≡ None → IsBoth card (record { ask = row no_row; order = take (length order_bytes) o }) x b → IsBoth card (call_of c (row_bytes ++ order_bytes)) x b
-    call_unread e h = read_call no_row (row_hollow (row_of c row_bytes) (sym er ∙ e)) h
-
-    pub call_read : (ds : List ℕ) → r ≡ Some ds → IsBoth card (record { ask = row (degrees ds); order = take (length order_bytes) o }) x b → IsBoth card (call_of c (row_bytes ++ order_bytes)) x b
-    call_read ds e h = read_call (degrees ds) (row_found (row_of c row_bytes) ds (sym er ∙ e)) h
+-- call k of a file is cut out of it
+pub call_at_is : (card file : List ℕ) (c : Card) (k size : ℕ) (x : Both) (b : Std.Option Both) → call_size c ≡ size → IsBoth card (call_of c (take (size * k + size - size * k) (drop (size * k) file))) x b → IsBoth card (call_at c file k) x b
+call_at_is card file c k size x b e h =
+    let i : size * k + size - size * k ≡ size = omega arith in
+    rw e (rw i at h)
 
 -- how many bytes a row has, and a call
 pub row_size_is : (c : Card) (n g : ℕ) → c.signals ≡ g → n ≡ bytes_for (10 * g) → row_size c ≡ n
@@ -177,6 +150,25 @@ module _ (card order long : List ℕ) (x : Both) (m : 63 < length long) where
         flat = h.flat ∙ ap (λ (z : RowOutcome × Lent). z.1) flat_same;
         subnet = h.subnet ∙ ap (λ (z : RowOutcome × Lent). z.1) subnet_same;
       }
+
+-- a call as the code reads it, and as it is in the file
+module _ (card row_bytes order_bytes : List ℕ) (x : Both) (c : Card) (en : row_size c ≡ length row_bytes) (o : List ℕ)
+    (eo : o ≡ order_bytes ++ replicate (32 - length order_bytes) 0) (b : Std.Option Both) where
+  order_is : take (length order_bytes) o ≡ order_bytes
+  order_is = front_taken 32 (length order_bytes) order_bytes o refl eo
+
+  read_call : (q : RowRead) → row_of c row_bytes ≡ q → IsBoth card (record { ask = row q; order = take (length order_bytes) o }) x b → IsBoth card (call_of c (row_bytes ++ order_bytes)) x b
+  read_call q e h =
+      subst (λ (k : Call). IsBoth card k x b)
+      (ap₂ (λ (r : RowRead) (z : List ℕ). record { ask = row r; order = z })
+      (sym e ∙ ap (row_of c) (sym (take_at row_bytes order_bytes (row_size c) (sym en)))) (order_is ∙ sym (drop_at row_bytes order_bytes (row_size c) (sym en)))) h
+
+  pub both_called : (r : Std.Option (List ℕ)) → r ≡ file_row (row_of c row_bytes) → (xs : List ℕ) → MatchOption r (63 < length xs) (λ ds. xs ≡ ds)
+      → IsBoth card (record { ask = row (degrees xs); order = take (length order_bytes) o }) x b → IsBoth card (call_of c (row_bytes ++ order_bytes)) x b
+  both_called None e xs m h = read_call no_row (row_hollow (row_of c row_bytes) (sym e)) (both_missing card (take (length order_bytes) o) xs x m b h)
+  both_called (Some ds) e xs m h =
+      read_call (degrees ds) (row_found (row_of c row_bytes) ds (sym e))
+      (subst (λ (zs : List ℕ). IsBoth card (record { ask = row (degrees zs); order = take (length order_bytes) o }) x b) m h)
 
 -- a table from one further on
 table_after : {A : Type 0} (from n : ℕ) (f h : ℕ → A) → ((k : ℕ) → f (suc k) ≡ h k) → table (suc from) n f ≡ table from n h
@@ -253,6 +245,15 @@ fresh_refused card e h c q =
     let z : CheckOutcome.refused (number e.fault) e.bit ≡ outcome_of (accepted c) = sym h.answer ∙ ap (λ (j : Judgement). (fresh_of j).0) q in
     let y : ◌≡◌ {A = ℕ} 0 1 = cc in
     omega arith
+
+-- the call for a fresh state has the check's answer
+pub fresh_answer : (card : List ℕ) → (fresh_call card).0 ≡ answer card
+unfolding fresh_call
+fresh_answer card = go (judge card)
+  where
+    go : (j : Judgement) → (fresh_of j).0 ≡ outcome_of j
+    go (accepted c) = refl
+    go (Judgement.refused n at) = refl
 
 module _ (card file : List ℕ) (k : Counts) (l : Lent) (hk : check_outcome (Ok k) ≡ answer card) (hl : IsFresh (fresh_call card) (Ok l)) where
   counts : (c : Card) → judge card ≡ accepted c → k.subnets ≡ length c.subnets

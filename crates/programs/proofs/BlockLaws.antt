@@ -2,7 +2,7 @@
 use Prim.Native.Nat.{ℕ, ◌+◌, ◌-◌, ◌*◌, ◌/◌, ◌≤◌, ◌<◌}
 use mathlib.Core.Path.{◌≡◌, refl, sym, ap, ap₂, subst, ◌∙◌}
 use Rattle.std.specs.Prelude.{Result, Ok, Err, IfErr}
-use Rattle.std.specs.Result.{IsErrAnd}
+use Rattle.std.specs.Result.{IsErrAnd, MatchResult}
 use mathlib.Core.Bool.{true, cond}
 use mathlib.Core.List.{List, [], ◌∷◌, ◌++◌, append_assoc, append-nil}
 use native.Mathlib.Omega.{arith}
@@ -23,12 +23,13 @@ use Rattle.runners.specs.Answers.{IsRow, IsFresh}
 use Rattle.runners.specs.Nets.{flat_judged}
 use Rattle.runners.specs.declared.State.{State as Lent}
 use Rattle.runners.specs.declared.RowAnswer.{RowAnswer}
-use Rattle.programs.specs.Text.{decimal, line}
+use Rattle.card.specs.Text.{decimal}
+use Rattle.programs.specs.Text.{line}
 use Rattle.programs.specs.Programs.{reply_words, card_line, runs, run_program}
 use Rattle.programs.specs.Lines.{longest}
 use Rattle.programs.specs.Runs.{Run, FileCall, following, answered, keeping, feed, fed_block, last_line, first_text, is_accepted, run_in, size_in, call_in, IsTurn, IsTurnedBack}
 use Rattle.programs.specs.declared.blocks.CardRun.{CardRun}
-use Rattle.programs.proofs.RunLaws.{feed_append, feed_kept, feed_row, block_fed, block_tight, block_over}
+use Rattle.programs.proofs.RunLaws.{feed_append, feed_kept, feed_row, block_tight, block_over}
 
 -- a row's line, and the run in front of the next row
 pub row_answered : (call : FileCall) (r : Run) (a : RowAnswer) (text : List ℕ) (m : ℕ) → IsRow (call r.state r.left) a
@@ -54,16 +55,29 @@ module _ (size : ℕ) (call : FileCall) (first : Run) (before : List ℕ) where
   unfolding feed
   going_start = record { lines = refl; count = refl; run = refl }
 
-  module _ (bytes : List ℕ) (n : ℕ) (r : Run) (after : List ℕ) (g : Going size call first bytes before n r after) (b : ℕ) where
-    both : feed size call first (bytes ++ b ∷ []) ≡ ((feed size call first bytes).0 ++ (feed size call r (b ∷ [])).0, (feed size call r (b ∷ [])).1)
-    both =
-        feed_append size call first bytes (b ∷ [])
-        ∙ ap (λ (z : Run). ((feed size call first bytes).0 ++ (feed size call z (b ∷ [])).0, (feed size call z (b ∷ [])).1)) (sym g.run)
+  -- MORE BYTES, and the lines that they make behind those that are there
+  module _ (bytes : List ℕ) (n : ℕ) (r : Run) (after : List ℕ) (g : Going size call first bytes before n r after) (later : List ℕ) where
+    joined : feed size call first (bytes ++ later) ≡ ((feed size call first bytes).0 ++ (feed size call r later).0, (feed size call r later).1)
+    joined = feed_append size call first bytes later ∙ ap (λ (z : Run). ((feed size call first bytes).0 ++ (feed size call z later).0, (feed size call z later).1)) (sym g.run)
 
+    pub going_more : (text : List ℕ) (q : Run) (end k : ℕ) → text ≡ (feed size call r later).0 → q ≡ (feed size call r later).1 → end ≡ n + length text → k ≡ end - n
+        → Going size call first (bytes ++ later) before end q (put_mid n k after text)
+    going_more text q end k e i s here =
+        let u = (feed size call first bytes).0 in
+        let y : (feed size call first (bytes ++ later)).0 ≡ u ++ text = ap (λ (z : List ℕ × Run). z.0) joined ∙ ap (λ (w : List ℕ). u ++ w) (sym e) in
+        let front : take n after ≡ u = ap (take n) g.lines ∙ take_at u (drop n before) n (sym g.count) in
+        let behind : drop k (drop n after) ≡ drop end before = ap (λ (w : List ℕ). drop k (drop n w)) g.lines ∙ ap (drop k) (drop_at u (drop n before) n (sym g.count)) ∙ drop-drop k n before ∙ ap (λ (m : ℕ). drop m before) (let z : n + k ≡ end = omega (arith, s, here) in z) in
+        record {
+          lines = ap₂ (λ (v w : List ℕ). v ++ (text ++ w)) front behind ∙ sym (append_assoc u text (drop end before)) ∙ ap (λ (w : List ℕ). w ++ drop end before) (sym y);
+          count = s ∙ ap (λ (m : ℕ). m + length text) g.count ∙ sym (length-append u text) ∙ ap (λ (w : List ℕ). length w) (sym y);
+          run = i ∙ sym (ap (λ (z : List ℕ × Run). z.1) joined);
+        }
+
+  module _ (bytes : List ℕ) (n : ℕ) (r : Run) (after : List ℕ) (g : Going size call first bytes before n r after) (b : ℕ) where
     pub going_kept : (now : List ℕ) → now ≡ r.left ++ b ∷ [] → length r.left + 1 < size
         → Going size call first (bytes ++ b ∷ []) before n (record { number = r.number; state = r.state; left = now }) after
     going_kept now e l =
-        let x : feed size call first (bytes ++ b ∷ []) ≡ ((feed size call first bytes).0 ++ [], keeping r (b ∷ [])) = both ∙ ap (λ (z : List ℕ × Run). ((feed size call first bytes).0 ++ z.0, z.1)) (feed_kept size call r (b ∷ []) l) in
+        let x : feed size call first (bytes ++ b ∷ []) ≡ ((feed size call first bytes).0 ++ [], keeping r (b ∷ [])) = joined bytes n r after g (b ∷ []) ∙ ap (λ (z : List ℕ × Run). ((feed size call first bytes).0 ++ z.0, z.1)) (feed_kept size call r (b ∷ []) l) in
         let y : (feed size call first (bytes ++ b ∷ [])).0 ≡ (feed size call first bytes).0 = ap (λ (z : List ℕ × Run). z.0) x ∙ append-nil (feed size call first bytes).0 in
         record {
           lines = g.lines ∙ ap (λ (w : List ℕ). w ++ drop n before) (sym y);
@@ -74,20 +88,10 @@ module _ (size : ℕ) (call : FileCall) (first : Run) (before : List ℕ) where
     pub going_row : (now text : List ℕ) (q : Run) (k end : ℕ) → now ≡ r.left ++ b ∷ [] → text ≡ (answered call (record { number = r.number; state = r.state; left = now })).0
         → q ≡ (answered call (record { number = r.number; state = r.state; left = now })).1 → length r.left + 1 ≡ size
         → end ≡ n + length text → k ≡ end - n → Going size call first (bytes ++ b ∷ []) before end q (put_mid n k after text)
-    going_row now text q k end kept e' i' l s here =
-        let z = answered call (keeping r (b ∷ [])) in
-        let e : text ≡ z.0 = e' ∙ ap (λ (xs : List ℕ). (answered call (record { number = r.number; state = r.state; left = xs })).0) kept in
-        let i : q ≡ z.1 = i' ∙ ap (λ (xs : List ℕ). (answered call (record { number = r.number; state = r.state; left = xs })).1) kept in
-        let u = (feed size call first bytes).0 in
-        let x : feed size call first (bytes ++ b ∷ []) ≡ (u ++ (answered call (keeping r (b ∷ []))).0, (answered call (keeping r (b ∷ []))).1) = both ∙ ap (λ (z : List ℕ × Run). (u ++ z.0, z.1)) (feed_row size call r (b ∷ []) (omega arith) l) in
-        let y : (feed size call first (bytes ++ b ∷ [])).0 ≡ u ++ text = ap (λ (z : List ℕ × Run). z.0) x ∙ ap (λ (w : List ℕ). u ++ w) (sym e) in
-        let front : take n after ≡ u = ap (take n) g.lines ∙ take_at u (drop n before) n (sym g.count) in
-        let behind : drop k (drop n after) ≡ drop end before = ap (λ (w : List ℕ). drop k (drop n w)) g.lines ∙ ap (drop k) (drop_at u (drop n before) n (sym g.count)) ∙ drop-drop k n before ∙ ap (λ (m : ℕ). drop m before) (let z : n + k ≡ end = omega (arith, s, here) in z) in
-        record {
-          lines = ap₂ (λ (v w : List ℕ). v ++ (text ++ w)) front behind ∙ sym (append_assoc u text (drop end before)) ∙ ap (λ (w : List ℕ). w ++ drop end before) (sym y);
-          count = s ∙ ap (λ (m : ℕ). m + length text) g.count ∙ sym (length-append u text) ∙ ap (λ (w : List ℕ). length w) (sym y);
-          run = i ∙ sym (ap (λ (z : List ℕ × Run). z.1) x);
-        }
+    going_row now text q k end kept e i l s here =
+        let x = feed_row size call r (b ∷ []) (omega arith) l in
+        let f : List ℕ → List ℕ × Run = λ xs. answered call (record { number = r.number; state = r.state; left = xs }) in
+        going_more bytes n r after g (b ∷ []) text q end k (e ∙ ap (λ (xs : List ℕ). (f xs).0) kept ∙ sym (ap (λ (z : List ℕ × Run). z.0) x)) (i ∙ ap (λ (xs : List ℕ). (f xs).1) kept ∙ sym (ap (λ (z : List ℕ × Run). z.1) x)) s here
 
   pub going_end : (block : List ℕ) (n : ℕ) (r : CardRun) (after : List ℕ) → Going size call first block before n (run_in r) after → n ≤ length before
       → IsTurn (feed size call first block) before n r after
@@ -121,14 +125,6 @@ module _ (r : CardRun) (block out : List ℕ) (n size : ℕ) (e : n ≡ r.net.si
 
   pub turn_over : size ≤ length r.left → IsTurn fed out 0 r out
   turn_over l = turn_none fed r out (block_over (size_in r) (call_in r) (length out) (run_in r) block (omega (arith, sym same_size, l)))
-
-  pub turn_all : (m : ℕ) (q : CardRun) (after : List ℕ) → length block ≤ length out / longest → length r.left < size
-      → IsTurn (feed size (call_in r) (run_in r) block) out m q after → IsTurn fed out m q after
-  turn_all m q after l u w =
-      let room : longest * length block ≤ length out = omega (arith, l) in
-      subst (λ (z : List ℕ × Run). IsTurn z out m q after)
-      (ap (λ (k : ℕ). feed k (call_in r) (run_in r) block) same_size ∙ sym (block_fed (size_in r) (call_in r) (length out) (run_in r) block room (omega (arith, sym same_size, u))))
-      w
 
 -- the end of the input
 pub last_none : (call : FileCall) (r : Run) (text : List ℕ) → r.left ≡ [] → text ≡ [] → text ≡ last_line call r
@@ -169,6 +165,26 @@ turned_back card e (Err text) q h =
       text = h ∙ sym (ap first_text q);
       program = λ rows. h ∙ sym (ap (λ (j : Judgement). runs j rows) q);
     }
+
+module _ {A : Type 0} (card : List ℕ) (x : Result A CardRefusal) (y : Result A (List ℕ)) (h : MatchResult x (λ v. y ≡ Ok v) (λ e. IsErrAnd y (λ text. text ≡ card_line (number e.fault) e.bit))) where
+  -- an answer whose refusal is turned into its line
+  pub turned_ok : (v : A) → y ≡ Ok v → x ≡ Ok v
+  turned_ok v e = go x h
+    where
+      go : (z : Result A CardRefusal) → MatchResult z (λ v. y ≡ Ok v) (λ e. IsErrAnd y (λ text. text ≡ card_line (number e.fault) e.bit)) → z ≡ Ok v
+      go (Ok u) q = let w = sym q ∙ e in let k : u ≡ v = cc in ap (λ z. Ok z) k
+      go (Err r) q = absurd (subst (λ (z : Result A (List ℕ)). IsErrAnd z (λ text. text ≡ card_line (number r.fault) r.bit)) e q)
+
+  pub turned_err : {B : Type 0} (text : List ℕ) (r : Result B (List ℕ)) → ((e : CardRefusal) → x ≡ Err e → judge card ≡ refused (number e.fault) e.bit)
+      → y ≡ Err text → IsErrAnd r (λ t. t ≡ text) → IfErr r (IsTurnedBack card)
+  turned_err text r j e g = go x refl h
+    where
+      line : (e : CardRefusal) → text ≡ card_line (number e.fault) e.bit → IsErrAnd r (λ t. t ≡ card_line (number e.fault) e.bit)
+      line e q = subst (λ (u : List ℕ). IsErrAnd r (λ t. t ≡ u)) q g
+
+      go : (z : Result A CardRefusal) → x ≡ z → MatchResult z (λ v. y ≡ Ok v) (λ e. IsErrAnd y (λ text. text ≡ card_line (number e.fault) e.bit)) → IfErr r (IsTurnedBack card)
+      go (Ok u) p q = absurd (let w = sym e ∙ q in let z : ◌≡◌ {A = ℕ} 0 1 = cc in omega arith)
+      go (Err f) p q = turned_back card f r (j f p) (line f (subst (λ (z : Result A (List ℕ)). IsErrAnd z (λ text. text ≡ card_line (number f.fault) f.bit)) e q))
 
 -- an accepted card is begun on
 pub begun : (j : Judgement) (c : Card) → flat_judged j ≡ accepted c → is_accepted j ≡ true

@@ -6,7 +6,7 @@ use mathlib.Core.Bool.{Bool, true}
 use mathlib.Core.List.{List, [], ◌∷◌, map}
 use lib.ListN.{length}
 use Rattle.std.specs.Prelude as Std
-use Rattle.std.specs.Prelude.{Some, None}
+use Rattle.std.specs.Prelude.{Some, None, MatchOption}
 use Rattle.card.specs.Card.{Card}
 use Rattle.hierarchy.specs.Judgement.{Judgement, accepted, judge}
 use Rattle.flattening.specs.Flattening.{flatten}
@@ -32,17 +32,15 @@ module _ (c : Card) (few : c.signals ≤ 63) (l : Lent) (x : RowAnswer) where
   few_in : (d : Card) → ◌≡◌ {A = Judgement} (accepted c) (accepted d) → d.signals ≤ 63
   few_in d e = let i : c ≡ d = cc in subst (λ (k : Card). k.signals ≤ 63) i few
 
-  pub row_missing : (long : List ℕ) → 63 < length long → IsRow (called (in_order (0 ∷ [])) (accepted c) l long) x → IsRow (read_call (accepted c) l (λ d. no_row)) x
+  row_missing : (long : List ℕ) → 63 < length long → IsRow (called (in_order (0 ∷ [])) (accepted c) l long) x → IsRow (read_call (accepted c) l (λ d. no_row)) x
   row_missing long m w = subst (λ (z : RowOutcome × Lent). IsRow z x) (too_many (in_order (0 ∷ [])) (accepted c) l long m few_in) w
 
-  module _ (bytes : List ℕ) (r : Std.Option (List ℕ)) (er : r ≡ file_row (row_of c bytes)) where
-    pub file_missing : r ≡ None → IsRow (read_call (accepted c) l (λ d. no_row)) x → IsRow (file_call (accepted c) l bytes) x
-    file_missing b w =
-        subst (λ (o : RowRead). IsRow (read_call (accepted c) l (λ d. o)) x) (sym (row_hollow (row_of c bytes) (sym er ∙ b))) w
-
-    pub file_present : (ds : List ℕ) → r ≡ Some ds → IsRow (read_call (accepted c) l (λ d. degrees ds)) x → IsRow (file_call (accepted c) l bytes) x
-    file_present ds b w =
-        subst (λ (o : RowRead). IsRow (read_call (accepted c) l (λ d. o)) x) (sym (row_found (row_of c bytes) ds (sym er ∙ b))) w
+  pub file_called : (bytes : List ℕ) (r : Std.Option (List ℕ)) → r ≡ file_row (row_of c bytes) → (xs : List ℕ) → MatchOption r (63 < length xs) (λ ds. xs ≡ ds)
+      → IsRow (called (in_order (0 ∷ [])) (accepted c) l xs) x → IsRow (file_call (accepted c) l bytes) x
+  file_called bytes None e xs m w =
+      subst (λ (o : RowRead). IsRow (read_call (accepted c) l (λ d. o)) x) (sym (row_hollow (row_of c bytes) (sym e))) (row_missing xs m w)
+  file_called bytes (Some ds) e xs m w =
+      subst (λ (o : RowRead). IsRow (read_call (accepted c) l (λ d. o)) x) (ap degrees m ∙ sym (row_found (row_of c bytes) ds (sym e))) w
 
 -- THE LINES THAT A RUN PRINTS ARE THE DEFINITION'S, from the state that the call for a fresh one returns: on the net of a card's flat card the
 -- order names its one subnet, so that the calls are the flat runner's, and their trace is that of the net's own run.

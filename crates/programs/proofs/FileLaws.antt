@@ -13,6 +13,7 @@ use Rattle.std.specs.Prelude as Std
 use Rattle.std.specs.Prelude.{Some, None}
 use Rattle.std.specs.List.{All}
 use Rattle.std.proofs.lemmas.List.{get_or_default}
+use Rattle.std.proofs.lemmas.Bool.{false_from_ne_true}
 use Rattle.card.proofs.Decides.{every_is}
 use Rattle.card.specs.Finite.{every, table, some_if, some_unless, ◌otherwise◌}
 use Rattle.card.specs.Bits.{bit, bit_field, bytes_for}
@@ -42,10 +43,6 @@ table_same : (from n : ℕ) (f h : ℕ → ℕ) → ((i : ℕ) → i < from + n 
 unfolding table
 table_same from zero f h e = refl
 table_same from (suc n) f h e = rw (e from (omega arith)) (ap (λ (xs : List ℕ). h from ∷ xs) (table_same (suc from) n f h (λ i l. e i (omega arith))))
-
--- what bytes hold for each signal, so many bits in front of it
-pub cells_few : (cell g : ℕ) → cell ≤ 16 → g ≤ 63 → cell * g ≤ 1008
-cells_few cell g h k = omega (arith, mul-le-mul_left cell k)
 
 some_is : (b : Bool) (xs r : List ℕ) → some_if b xs ≡ some r → xs ≡ r
 some_is true xs r e = cc
@@ -88,6 +85,9 @@ module _ (lead cell g : ℕ) (bytes : List ℕ) where
         rw (filled_is, eq-eqb v 0 n)
         (ap (λ (xs : List ℕ). some xs) (table_same 0 g (λ k. bit_field (bit bytes) (lead + cell * k) cell) (λ k. field_at bytes (lead + cell * k) cell) (λ k m. sym (field_in bytes (lead + cell * k) cell few (in_bytes k (omega arith))))))
 
+    pub cells_handed : cell ≤ 16 → v ≡ 0 → (xs : List ℕ) → xs ≡ table 0 g (λ k. field_at bytes (lead + cell * k) cell) → Some xs ≡ file_row (or_no_row (cells lead cell g bytes))
+    cells_handed few n xs e = sym (ap (λ o. file_row (or_no_row o)) (cells_whole few n) ∙ ap (λ (ys : List ℕ). Some ys) (sym e))
+
 -- the cells of a row: 10 bits a signal and none in front
 module _ (bytes : List ℕ) where
   -- so many of them
@@ -128,8 +128,8 @@ module _ (bytes : List ℕ) where
 
       pub row_cells : v ≡ 0 → file_row (or_no_row (cells 0 10 g bytes)) ≡ Some (cells_to g)
       row_cells n =
-          ap (λ o. file_row (or_no_row o)) (cells_whole 0 10 g bytes long v fill (omega arith) n)
-          ∙ ap (λ (xs : List ℕ). Some xs) (table_same 0 g (λ k. field_at bytes (0 + 10 * k) 10) (λ k. field_at bytes (10 * k) 10) (λ k b. ap (λ (w : ℕ). field_at bytes w 10) (let e : 0 + 10 * k ≡ 10 * k = omega arith in e)))
+          sym (cells_handed 0 10 g bytes long v fill (omega arith) n (cells_to g)
+          (table_same 0 g (λ k. field_at bytes (10 * k) 10) (λ k. field_at bytes (0 + 10 * k) 10) (λ k b. ap (λ (w : ℕ). field_at bytes w 10) (let e : 10 * k ≡ 0 + 10 * k = omega arith in e))))
 
 -- what the reader of a row found
 pub row_hollow : (o : RowRead) → file_row o ≡ None → o ≡ no_row
@@ -149,21 +149,10 @@ marked xs n e a =
     (every_is n (λ i. eqb (entry xs i) 1023) (λ i. entry xs i ≡ 1023) (λ i. (eqb-true (entry xs i) 1023, eq-eqb (entry xs i) 1023))).1
     (λ k l. a k 0 (omega (arith, e, l)))
 
-false_if : (t : Bool) → (t ≡ true → ⊥) → t ≡ false
-false_if true n = absurd (n refl)
-false_if false n = refl
-
 -- A row of a file is empty where each degree is the empty mark.
 module _ (f : Card) (bytes : List ℕ) (g : ℕ) (eg : f.signals ≡ g) (w : Std.Option (List ℕ)) (ew : w ≡ file_row (or_no_row (cells 0 10 g bytes))) where
   read_is : (o : Option (List ℕ)) → cells 0 10 g bytes ≡ o → row_of f bytes ≡ or_no_row (map (unmarked f) o)
   read_is o e = ap (λ (n : ℕ). or_no_row (map (unmarked f) (cells 0 10 n bytes))) eg ∙ ap (λ (x : Option (List ℕ)). or_no_row (map (unmarked f) x)) e
-
-  pub row_unread : w ≡ None → None ≡ file_row (row_of f bytes)
-  row_unread b = go (cells 0 10 g bytes) refl (sym b ∙ ew)
-    where
-      go : (o : Option (List ℕ)) → cells 0 10 g bytes ≡ o → None ≡ file_row (or_no_row o) → None ≡ file_row (row_of f bytes)
-      go none e q = sym (ap file_row (read_is none e))
-      go (some r) e q = cc
 
   module _ (ds : List ℕ) (i : w ≡ Some ds) where
     here : (cells 0 10 g bytes ≡ some ds) × (length ds ≡ g)
@@ -183,7 +172,7 @@ module _ (f : Card) (bytes : List ℕ) (g : ℕ) (eg : f.signals ≡ g) (w : Std
     pub row_unmarked : ¬ All (λ d. d ≡ 1023) ds → Some ds ≡ file_row (row_of f bytes)
     unfolding unmarked
     row_unmarked n =
-        let t : every f.signals (λ k. eqb (entry ds k) 1023) ≡ false = false_if _ (λ e. n (marks ds f.signals (eg ∙ sym here.1) e)) in
+        let t : every f.signals (λ k. eqb (entry ds k) 1023) ≡ false = false_from_ne_true _ (λ e. n (marks ds f.signals (eg ∙ sym here.1) e)) in
         let z : row_of f bytes ≡ degrees ds = read_is (some ds) here.0 ∙ rw t refl in
         sym (ap file_row z)
 

@@ -22,7 +22,7 @@ use Rattle.hierarchy.proofs.Accepted.{accepted_meets}
 use Rattle.flattening.specs.Flattening.{flatten, flatten_call}
 use Rattle.flattening.proofs.FlatLaws.{flat_meets}
 use Rattle.programs.specs.Programs.{card_line, flattens, flatten_program}
-use Rattle.programs.specs.inner.Rooms.{IsFilled}
+use Rattle.card.specs.inner.Rooms.{IsFilled}
 use Rattle.programs.proofs.TextLaws.{filled_front, front_taken}
 
 abbrev zeros : ℕ → List ℕ
@@ -66,3 +66,6 @@ module _ (card : List ℕ) (r : Result ℕ WriteRefusal) (after : List ℕ) (w :
           let u : write_number why ≡ n = cc in
           let v : write_value why ≡ b = cc in
           sym (ap₂ card_line u v)
+
+  pub refusal_written : (why : WriteRefusal) (text : List ℕ) → r ≡ Err why → text ≡ card_line (write_number why) (write_value why) → text ≡ flatten_program card
+  refusal_written why text e h = h ∙ sym (flat_refused why e)

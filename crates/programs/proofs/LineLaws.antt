@@ -11,15 +11,14 @@ use lib.ListN.{length, get_or, take, length-append, length-take}
 use lib.Seq.{take-suc, take_all}
 use lib.Dec.{ltb}
 use borrow.Author.Tests.{ltb-false}
-use Rattle.std.specs.Prelude.{None, Some}
-use Rattle.runners.specs.Numbers.{RowOutcome, ok, refused, refusal, number_of, value_of}
-use Rattle.runners.specs.declared.Refusal.{Refusal}
-use Rattle.runners.specs.declared.Refusal.TheVariants.{BadCard, BadState, BadOrder, BadRow, BadDegree, Conflict}
+use Rattle.std.proofs.lemmas.List.{append-nil, map-append}
+use Rattle.runners.specs.Numbers.{RowOutcome, ok, refused}
 use Rattle.runners.specs.State.{NetState}
 use Rattle.programs.specs.Programs.{state_words, refusal_words, value_words, reply_words, card_line}
-use Rattle.programs.specs.Text.{ascii, digit, digits, decimal, line}
+use Rattle.card.specs.Text.{digit, digits, decimal}
+use Rattle.programs.specs.Text.{ascii, line}
 use Rattle.programs.specs.Lines.{spaced, joined, transfer_word, longest}
-use Rattle.programs.proofs.TextLaws.{append_twice}
+use Rattle.card.proofs.TextLaws.{append_twice}
 
 -- so many digits are enough
 digits_long : (fuel k n : ℕ) → n < 10 ^ suc k → length (digits fuel n) ≤ suc k
@@ -50,22 +49,14 @@ spaced_append [] w = refl
 spaced_append (v ∷ u) w = ap (λ (xs : List ℕ). 32 ∷ (v ++ xs)) (spaced_append u w) ∙ ap (λ (xs : List ℕ). 32 ∷ xs) (sym (append_assoc v (spaced u) (spaced w)))
 
 -- the words of a list's entries, one after another
-append_none : (w : List ℕ) → w ++ [] ≡ w
-append_none [] = refl
-append_none (b ∷ w) = ap (λ (xs : List ℕ). b ∷ xs) (append_none w)
-
-map_more : {A : Type 0} (f : A → List ℕ) (xs ys : List A) → map f (xs ++ ys) ≡ map f xs ++ map f ys
-map_more f [] ys = refl
-map_more f (x ∷ xs) ys = ap (λ (zs : List (List ℕ)). f x ∷ zs) (map_more f xs ys)
-
 spaced_one : (w : List ℕ) → spaced (w ∷ []) ≡ 32 ∷ w
 unfolding spaced
-spaced_one w = ap (λ (xs : List ℕ). 32 ∷ xs) (append_none w)
+spaced_one w = ap (λ (xs : List ℕ). 32 ∷ xs) (append-nil w)
 
 words_more : {A : Type 0} (f : A → List ℕ) (xs : List A) (i : ℕ) (d : A) → i < length xs
     → spaced (map f (take (i + 1) xs)) ≡ spaced (map f (take i xs)) ++ (32 ∷ f (get_or xs i d))
 words_more f xs i d l =
-    rw (add-one, take-suc xs i d l, map_more f (take i xs) (get_or xs i d ∷ []), spaced_append (map f (take i xs)) (f (get_or xs i d) ∷ []), spaced_one (f (get_or xs i d)))
+    rw (add-one, take-suc xs i d l, map-append f (take i xs) (get_or xs i d ∷ []), spaced_append (map f (take i xs)) (f (get_or xs i d) ∷ []), spaced_one (f (get_or xs i d)))
 
 -- the words of entries, one more
 pub word_more : {A : Type 0} (f : A → List ℕ) (xs : List A) (n : ℕ) (x y z : List ℕ) (i : ℕ) (d a : A) → y ≡ take n (x ++ spaced (map f (take i xs)))
@@ -76,14 +67,12 @@ word_more f xs n x y z i d a e l here o =
 
 pub words_none : {A : Type 0} (f : A → List ℕ) (xs : List A) (n : ℕ) (x : List ℕ) → length x ≤ n → x ≡ take n (x ++ spaced (map f (take 0 xs)))
 unfolding spaced
-words_none f xs n x l = sym (ap (take n) (append_none x) ∙ take_all n x l)
+words_none f xs n x l = sym (ap (take n) (append-nil x) ∙ take_all n x l)
 
--- the words of all entries
-pub words_all : {A : Type 0} (f : A → List ℕ) (xs : List A) (n : ℕ) (x y : List ℕ) (i : ℕ) → y ≡ take n (x ++ spaced (map f (take i xs))) → length xs ≤ i
-    → y ≡ take n (x ++ spaced (map f xs))
-words_all f xs n x y i e l = e ∙ ap (λ ys. take n (x ++ spaced (map f ys))) (take_all i xs l)
+-- what no room cuts off: all of it stands
+pub puts_whole : (n : ℕ) (x u y : List ℕ) → y ≡ take n (x ++ u) → length x + length u ≤ n → y ≡ x ++ u
+puts_whole n x u y e l = e ∙ take_all n (x ++ u) (omega (arith, l, length-append x u))
 
--- what no room cuts off
 pub appended_few : (n : ℕ) (x u y : List ℕ) → y ≡ take n (x ++ u) → length y ≤ length x + length u
 appended_few n x u y e = omega (arith, ap length e, length-take n (x ++ u), length-append x u)
 
@@ -136,24 +125,6 @@ reply_text (refused k v) s n = text_is (decimal n) (ascii "no") (decimal k ∷ v
 
 pub card_text : (n at : ℕ) → card_line n at ≡ joined (refusal_words n (some at)) ++ (10 ∷ [])
 card_text n at = line_is (ascii "no") (decimal n ∷ decimal at ∷ []) ∙ sym (append_assoc (ascii "no") (spaced (decimal n ∷ decimal at ∷ [])) (10 ∷ []))
-
--- the words of a refusal, from its number and its value
-pub plain_words : (why : Refusal) (s : NetState) → value_of (refusal why) ≡ None → reply_words (refusal why) s ≡ refusal_words (number_of (refusal why)) none
-plain_words (BadCard r) s e = cc
-plain_words BadState s e = refl
-plain_words BadOrder s e = refl
-plain_words BadRow s e = refl
-plain_words (BadDegree g) s e = cc
-plain_words (Conflict p) s e = cc
-
-pub valued_words : (why : Refusal) (s : NetState) (v : ℕ) → value_of (refusal why) ≡ Some v
-    → reply_words (refusal why) s ≡ refusal_words (number_of (refusal why)) (some v)
-valued_words (BadCard r) s v e = ap (λ (n : ℕ). refusal_words (number_of (refusal (BadCard r))) (some n)) (let i : r.bit ≡ v = cc in i)
-valued_words BadState s v e = cc
-valued_words BadOrder s v e = cc
-valued_words BadRow s v e = cc
-valued_words (BadDegree g) s v e = ap (λ (n : ℕ). refusal_words 21 (some n)) (let i : g ≡ v = cc in i)
-valued_words (Conflict p) s v e = ap (λ (n : ℕ). refusal_words 22 (some n)) (let i : p ≡ v = cc in i)
 
 -- the line of a row, and that of a card, part by part
 pub reply_done : (o : RowOutcome) (s : NetState) (n : ℕ) (a b c z : List ℕ) → n < 2 ^ 64 → a ≡ take longest (decimal n) → b ≡ take longest (a ++ (32 ∷ []))

@@ -6,15 +6,15 @@ use mathlib.Core.List.{List}
 use native.Mathlib.Omega.{arith}
 use lib.ListN.{length, take}
 use lib.Seq.{take_all}
+use Rattle.std.proofs.lemmas.Bool.{cases_lt}
 use Rattle.card.specs.Tables.{card_bytes}
-use Rattle.card.proofs.BitLaws.{lt_or_ge}
 use Rattle.card.proofs.LongInput.{long_input}
 use Rattle.hierarchy.specs.Judgement.{judged, judge}
 use Rattle.programs.specs.Programs.{runs, run_program, flattens, flatten_program}
 
 judge_reads : (card : List ℕ) → judge (take (card_bytes + 1) card) ≡ judge card
 unfolding judge
-judge_reads card = go (lt_or_ge (length card) (card_bytes + 1))
+judge_reads card = go (cases_lt (length card) (card_bytes + 1))
   where
     go : (length card < card_bytes + 1) ⊎ (card_bytes + 1 ≤ length card) → judge (take (card_bytes + 1) card) ≡ judge card
     go (inl l) = ap judge (take_all (card_bytes + 1) card (omega (arith, l)))

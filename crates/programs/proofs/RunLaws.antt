@@ -21,7 +21,8 @@ use Rattle.runners.specs.Nets.{flat_judged}
 use Rattle.runners.specs.Traces.{trace, observed}
 use Rattle.runners.specs.declared.State.{State as Lent}
 use Rattle.runners.proofs.PieceLaws.{pieces_none, pieces_more}
-use Rattle.programs.specs.Text.{decimal, line}
+use Rattle.card.specs.Text.{decimal}
+use Rattle.programs.specs.Text.{line}
 use Rattle.programs.specs.Programs.{lines, reply_words, card_line, runs, run_program}
 use Rattle.programs.specs.Feeds.{file_call}
 use Rattle.programs.specs.Lines.{longest}

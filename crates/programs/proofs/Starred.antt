@@ -18,7 +18,8 @@ use Rattle.runners.specs.Step.{allows, candidate_on, candidate, started, conflic
 use Rattle.runners.specs.Rows.{row_fault, row_refusal, filled, cells, unmarked, pieces}
 use Rattle.runners.specs.Calls.{consistent, valid_in, each_once, flat_call, subnet_call}
 use Rattle.runners.specs.Traces.{trace}
-use Rattle.programs.specs.Text.{ascii, digits, line}
+use Rattle.card.specs.Text.{digits}
+use Rattle.programs.specs.Text.{ascii, line}
 use Rattle.programs.specs.Programs.{lines, run_program}
 use Rattle.programs.specs.Cases.{cases, result}
 

@@ -5,12 +5,12 @@ use mathlib.Core.List.{List, [], ◌∷◌, ◌++◌, map, append_assoc}
 use mathlib.Core.List
 use lib.ListN.{length, take, drop}
 use lib.Seq.{take_at}
-use mathlib.Core.Bool.{true}
+use mathlib.Core.Bool.{true, false}
 use borrow.Author.Tests.{le-leb, clash}
 use Rattle.card.specs.Spelling.{put_into}
 use Rattle.hierarchy.specs.Judgement.{Judgement, accepted, refused, judge}
 use Rattle.runners.specs.Nets.{flat_judged}
-use Rattle.programs.specs.Programs.{run_program}
+use Rattle.programs.specs.Programs.{runs, run_program}
 use Rattle.programs.specs.Feeds.{file_call}
 use Rattle.programs.specs.Runs.{Run, row_size_in, first_text, first_run, fed_block, last_line, over_blocks, run_from, run_in, is_accepted, Fitting, IsTurn, BlockCall, Follow, behind, handed_out}
 use Rattle.programs.specs.declared.blocks.CardRun.{CardRun}
@@ -50,3 +50,12 @@ story card r room calls last a same h e fit =
     nothing : (j : Judgement) → is_accepted j ≡ true → first_text j ≡ []
     nothing (accepted c) e = refl
     nothing (refused n at) e = absurd (clash e)
+
+-- of a refused card its line is, whatever the rows
+pub story_refused : (card text : List ℕ) → is_accepted (judge card) ≡ false → text ≡ first_text (judge card) → (rows : List ℕ) → text ≡ run_program card rows
+unfolding run_program
+story_refused card text a e rows = go (judge card) a e
+  where
+    go : (j : Judgement) → is_accepted j ≡ false → text ≡ first_text j → text ≡ runs j rows
+    go (accepted c) b q = absurd (clash (sym b))
+    go (refused n at) b q = q

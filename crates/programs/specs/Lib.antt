@@ -6,4 +6,3 @@ pub mod Files
 pub mod Runs
 pub mod Agreeing
 pub mod Cases
-pub mod inner

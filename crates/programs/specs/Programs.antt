@@ -10,7 +10,8 @@ use Rattle.runners.specs.Numbers.{RowOutcome, ok, refused, progress}
 use Rattle.runners.specs.State.{NetState, fresh}
 use Rattle.runners.specs.Rows.{row, step, row_width, row_of, pieces}
 use Rattle.runners.specs.Traces.{trace}
-use Rattle.programs.specs.Text.{ascii, decimal, line}
+use Rattle.card.specs.Text.{decimal}
+use Rattle.programs.specs.Text.{ascii, line}
 
 -- a number that may not be there
 abbrev pub or_else : List ℕ → Option ℕ → List ℕ

@@ -11,7 +11,8 @@ use Rattle.runners.specs.Rows.{row_width}
 use Rattle.runners.specs.Calls.{view, fresh_call}
 use Rattle.runners.specs.Nets.{flat_judged}
 use Rattle.runners.specs.declared.State.{State as Lent}
-use Rattle.programs.specs.Text.{decimal, line}
+use Rattle.card.specs.Text.{decimal}
+use Rattle.programs.specs.Text.{line}
 use Rattle.programs.specs.Programs.{reply_words, card_line, run_program}
 use Rattle.programs.specs.Feeds.{file_call}
 use Rattle.programs.specs.Lines.{longest}

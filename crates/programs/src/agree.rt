@@ -1,13 +1,12 @@
 // Both runners on a file of calls. A call is a row's bytes as in a rows file, and then the visiting order, a byte a subnet.
 ghost use Rattle.std.specs.Prelude.{◌≡◌, ◌↔◌, true, ◌-◌, ◌≤◌, ◌<◌, ◌++◌, length, replicate};
 ghost use Rattle.card.specs.Card.{Card};
-ghost use Rattle.runners.specs.Rows.{Ask, degrees, no_row};
+ghost use Rattle.runners.specs.Rows.{Ask, degrees};
 ghost use Rattle.programs.specs.Agreeing.{IsBoth, IsAgreed, Agrees, call_of, calls_of, row_size};
 
-use crate::file::{row_bytes, row_of};
+use crate::file::{degrees_of, row_bytes, row_of};
 use crate::same::{same_reply, same_state};
-use card::{MOST_SIGNALS, MOST_SUBNETS};
-use hierarchy::check::check;
+use card::MOST_SUBNETS;
 use runners::State;
 use runners::flat_runner::flat_row;
 use runners::fresh::fresh;
@@ -38,23 +37,15 @@ fn both_rows(card: &[u8], order: &[u16], row: &[u16], before: Both) -> Option<Bo
     })
 }
 
-// Where bytes hold no row. No card has as many signals as this row has degrees, so that both runners refuse it; a row of none would be an empty
-// row, which they take.
-fn both_without_row(card: &[u8], order: &[u16], before: Both) -> Option<Both>
-    ensures { IsBoth card.now (record { ask = Ask.row no_row; order = order.now }) before result }
-{
-    let row = [0; MOST_SIGNALS + 1];
-    both_rows(card, order, &row, before)
-}
-
-// The numbers of an order's bytes, and zeros behind them.
+// The numbers of an order's bytes, and zeros behind them. It writes by index, since no contract of `iter_mut` beside another iterator says what the
+// array has afterwards.
 fn order_of(bytes: &[u8]) -> [u16; MOST_SUBNETS]
     requires { length bytes.now ≤ 32 }
     ensures { result ≡ bytes.now ++ replicate (32 - length bytes.now) 0 }
 {
     let mut order = [0; MOST_SUBNETS];
-    for i in 0..bytes.len() {
-        order[i] = bytes[i] as u16;
+    for (i, byte) in bytes.iter().enumerate() {
+        order[i] = u16::from(*byte);
     }
     order
 }
@@ -66,11 +57,8 @@ fn both_calls(card: &[u8], row: &[u8], order: &[u8], signals: u16, before: Both)
     ensures { (c : Card) → c.signals ≡ signals → row_size c ≡ length row.now → IsBoth card.now (call_of c (row.now ++ order.now)) before result }
 {
     let numbers = order_of(order);
-    let visited = &numbers[..order.len()];
-    match row_of(row, signals) {
-        Some(row) => both_rows(card, visited, row.degrees(), before),
-        None => both_without_row(card, visited, before),
-    }
+    let row = row_of(row, signals);
+    both_rows(card, &numbers[..order.len()], degrees_of(&row), before)
 }
 
 // All calls of a file from a state.
@@ -101,15 +89,13 @@ fn agree_from(card: &[u8], file: &[u8], signals: u16, subnets: usize, first: Sta
 pub fn agree(card: &[u8], file: &[u8]) -> bool
     ensures { IsAgreed card.now file.now result }
 {
-    let Ok(counts) = check(card) else {
-        return false;
-    };
     let Ok(first) = fresh(card) else {
         return false;
     };
-    let subnets = usize::from(counts.subnets);
-    if subnets < 1 || 32 < subnets || 63 < first.signals {
+    let subnets = usize::from(first.counts.subnets);
+    let state = first.state;
+    if subnets < 1 || 32 < subnets || 63 < state.signals {
         return false;
     }
-    agree_from(card, file, first.signals as u16, subnets, first)
+    agree_from(card, file, state.signals as u16, subnets, state)
 }

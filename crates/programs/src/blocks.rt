@@ -1,12 +1,12 @@
 // A run as its input comes in: the card, then block after block of rows, then the end.
 ghost use Rattle.std.specs.Prelude.{◌≡◌, ◌+◌, ◌*◌, ◌≤◌, ◌<◌, length, IfOk, IfErr};
 ghost use Rattle.programs.specs.Lines.{longest};
-ghost use Rattle.programs.specs.Runs.{following, answered, feed, last_line, fed_block, run_in, size_in, call_in, IsBegun, IsTurnedBack, IsTurn};
+ghost use Rattle.programs.specs.Runs.{answered, feed, last_line, fed_block, run_in, size_in, call_in, IsBegun, IsTurnedBack, IsTurn};
 
 use crate::feed::file_row;
 use crate::file::row_bytes;
-use crate::line::{LONGEST, Line, reply_line};
-use crate::text::Text;
+use crate::line::{LONGEST, Line, reply_line, turned_back_line};
+use card::text::Text;
 use runners::State;
 use runners::flat_runner::flat_net;
 use runners::fresh::fresh;
@@ -36,20 +36,21 @@ pub fn begin(card: &[u8]) -> Result<CardRun, Line>
     ensures begun { IfOk result (IsBegun card.now) }
     ensures turned_back { IfErr result (IsTurnedBack card.now) }
 {
-    let state = fresh(card)?;
-    let net = flat_net(card)?;
+    let first = fresh(card).map_err(turned_back_line)?;
+    let net = flat_net(card).map_err(turned_back_line)?;
     Ok(CardRun {
         net,
         number: 1,
-        state,
+        state: first.state,
         left: Text::new(),
     })
 }
 
 impl CardRun {
     // A block of the input, in a buffer that has room for the longest line for each of its bytes; of another nothing is taken. It answers how
-    // many bytes the lines have, which stand at the buffer's front. Two wrong ones that this rules out: one that keeps or prints the state in
-    // front of a row, and one that loses the bytes of a row that two blocks share.
+    // many bytes the lines have, which stand at the buffer's front, and no slice: what a buffer holds that is lent on takes a clause that is proved
+    // by hand. Two wrong ones that this rules out: one that keeps or prints the state in front of a row, and one that loses the bytes of a row
+    // that two blocks share.
     pub fn answer_block(&mut self, block: &[u8], out: &mut [u8]) -> usize
         ensures turn { IsTurn (fed_block (size_in self.old) (call_in self.old) (length out.old) (run_in self.old) block.now) out.old result self.new out.new }
         ensures same_net { self.new.net ≡ self.old.net }
@@ -99,7 +100,7 @@ impl CardRun {
     {
         let answer = file_row(&self.net, self.state, self.left.as_slice());
         let line = reply_line(self.number, answer.reply, &answer.state);
-        self.number = next_number(self.number);
+        self.number = self.number.saturating_add(1);
         self.state = answer.state;
         self.left = Text::new();
         line
@@ -115,10 +116,4 @@ impl CardRun {
         let answer = file_row(&self.net, self.state, self.left.as_slice());
         reply_line(self.number, answer.reply, &answer.state)
     }
-}
-
-fn next_number(n: u64) -> u64
-    ensures { result ≡ following n }
-{
-    n.saturating_add(1)
 }

@@ -1,5 +1,5 @@
 // A row of a file: 10 bits a signal, and zeros to the byte.
-ghost use Rattle.std.specs.Prelude.{◌≡◌, ◌+◌, ◌-◌, ◌*◌, ◌≤◌, ◌<◌, ◌↔◌, [], ◌++◌, length, replicate, IsTrue, None};
+ghost use Rattle.std.specs.Prelude.{◌≡◌, ◌+◌, ◌-◌, ◌*◌, ◌≤◌, ◌<◌, ◌↔◌, [], ◌++◌, length, replicate, IsTrue, MatchOption, None};
 ghost use Rattle.std.specs.List.{All};
 ghost use Rattle.card.specs.Finite.{table};
 ghost use Rattle.card.specs.Bits.{bytes_for};
@@ -28,7 +28,7 @@ pub struct FileRow {
 // Clauses see the degrees. Zeros stand behind them, so that the fields are known from the degrees.
 impl Model for FileRow {
     ghost use Rattle.std.specs.Prelude.{ℕ, ◌-◌, List, ◌++◌, length, take, replicate};
-    ghost use Rattle.programs.specs.inner.Rooms.{IsFilled, filled_long, filled_back};
+    ghost use Rattle.card.specs.inner.Rooms.{IsFilled, filled_long, filled_back};
 
     ghost Value = { List ℕ };
 
@@ -59,6 +59,21 @@ impl FileRow {
     }
 }
 
+// A row where bytes hold none. No card has as many signals as it has degrees, so that each runner refuses it; a row of none would be an empty
+// row, which they take.
+const NO_ROW: [u16; MOST_SIGNALS + 1] = [0; MOST_SIGNALS + 1];
+
+// The degrees that a runner is given for what bytes hold. Two wrong ones that this rules out: one that gives an empty row's where there is no
+// row, and one that gives all 63 whatever the card's signals.
+pub fn degrees_of(row: &Option<FileRow>) -> &[u16]
+    ensures { MatchOption row.now (63 < length result.now) (λ ds. result.now ≡ ds) }
+{
+    match row {
+        Some(row) => row.degrees(),
+        None => &NO_ROW,
+    }
+}
+
 // How many bytes a row has. Two wrong counts that this rules out: one that cuts the last byte off, and one that takes 16 bits a degree.
 pub fn row_bytes(signals: u16) -> usize
     ensures { result ≡ bytes_for (10 * signals) }
@@ -66,7 +81,7 @@ pub fn row_bytes(signals: u16) -> usize
     (DEGREE_BITS * signals as usize).div_ceil(8)
 }
 
-// The number of each cell.
+// The number of each cell. It writes by index, since no contract of `iter_mut` beside `enumerate` says what the array has afterwards.
 fn cells_in(bytes: &[u8], signals: u16) -> FileRow
     requires { signals ≤ 63 }
     ensures { result ≡ table 0 signals (λ g. field_at bytes.now (10 * g) 10) }

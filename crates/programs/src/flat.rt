@@ -3,8 +3,8 @@ ghost use Rattle.std.specs.Prelude.{◌≡◌};
 ghost use Rattle.programs.specs.Programs.{card_line, flatten_program};
 
 use crate::line::refusal_line;
-use crate::text::Text;
 use card::CARD_BYTES;
+use card::text::Text;
 use flattening::flatten;
 
 // The flat card's bytes, or a refused card's line. There is room for the longest card, and a line of a refused card is shorter.

@@ -8,4 +8,3 @@ pub mod file;
 pub mod flat;
 pub mod line;
 pub mod same;
-pub mod text;

@@ -5,11 +5,12 @@ ghost use Rattle.std.proofs.Math.Option.{none, some};
 ghost use Rattle.hierarchy.specs.Numbers.{number};
 ghost use Rattle.runners.specs.Numbers.{row_outcome};
 ghost use Rattle.runners.specs.Calls.{view};
-ghost use Rattle.programs.specs.Text.{decimal, line};
+ghost use Rattle.card.specs.Text.{decimal};
+ghost use Rattle.programs.specs.Text.{line};
 ghost use Rattle.programs.specs.Programs.{reply_words, state_words, refusal_words, card_line};
 ghost use Rattle.programs.specs.Lines.{longest, spaced, joined, transfer_word};
 
-use crate::text::Text;
+use card::text::Text;
 use hierarchy::CardRefusal;
 use runners::{Refusal, State, Transfer};
 
@@ -133,12 +134,10 @@ pub fn refusal_line(number: u64, value: usize) -> Line
     line
 }
 
-// The one line of a refused card. Two wrong ones that this rules out: one that leaves the bit out, and one that prints the number of the
-// format's faults for those of the hierarchy.
-impl From<CardRefusal> for Line {
-    ghost from_gives = { λ refusal text. text ≡ card_line (number refusal.fault) refusal.bit };
-
-    fn from(refusal: CardRefusal) -> Line {
-        refusal_line(refusal.fault.number(), refusal.bit)
-    }
+// The one line of a card that is turned back. (No `From`: both types are of crates below.) Two wrong ones that this rules out: one that leaves the
+// bit out, and one that prints the number of the format's faults for those of the hierarchy.
+pub fn turned_back_line(refusal: CardRefusal) -> Line
+    ensures { result ≡ card_line (number refusal.fault) refusal.bit }
+{
+    refusal_line(refusal.fault.number(), refusal.bit)
 }

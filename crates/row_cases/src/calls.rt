@@ -1,18 +1,15 @@
 // The cases, each answered on the card and the states that are held.
 use crate::lines::{put_answer, put_line, put_state};
 use crate::states::{Field, blank, with_entry};
-use console::cases::{number_at, numbers_in};
+use console::cases::{FILLER, number_at, numbers_in};
 use console::{put, put_text};
 use flattening::flatten;
-use programs::line::Line;
+use programs::line::turned_back_line;
 use runners::State;
 use runners::flat_runner::flat_row;
 use runners::fresh::fresh;
 use runners::subnet_runner::subnet_row;
 use std::io;
-
-// What the buffer of a flat card is filled with.
-const FILLER: u8 = 165;
 
 // The states of the two runners, and the number of the next call. No input has so many calls that the number stays.
 #[derive(Clone, Copy)]
@@ -24,10 +21,10 @@ pub struct Held {
 
 // A card: its refusal, or its fresh state. With a refused card both runners hold the blank state.
 pub fn begin(rt: &HostRuntime, card: &[u8]) -> io::Result<Held> {
-    let start = fresh(card);
+    let start = fresh(card).map(|first| first.state);
     match start {
         Ok(state) => put_state(rt, 0, &state),
-        Err(refusal) => put_line(rt, Line::from(refusal)),
+        Err(refusal) => put_line(rt, turned_back_line(refusal)),
     }?;
     let state = start.unwrap_or(blank());
     Ok(Held {

@@ -17,10 +17,10 @@ ghost use Rattle.std.specs.Prelude.{◌≡◌, length};
 
 use crate::calls::{Held, begin, put_call, put_flat, set_entry};
 use crate::files::put_file;
-use console::cases::{Lead, read_lead, read_rest};
+use console::cases::{EndOfRun, Lead, read_lead, read_rest};
 use std::io;
 
-// What a case is.
+// What a case is. No `Option` of a call: a card is a case too, and ends the calls with the one before it.
 #[derive(Clone, Copy)]
 enum Kind {
     Card,
@@ -35,10 +35,6 @@ enum Call {
     Flat,
     File,
 }
-
-// A kind that ends the run.
-#[derive(Clone, Copy)]
-struct EndOfRun;
 
 impl TryFrom<u8> for Kind {
     type Error = EndOfRun;

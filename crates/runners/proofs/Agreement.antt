@@ -1,9 +1,9 @@
 -- Demand 3 about the definitions: from fresh states, whatever the list of calls, no call earns 25, and the two runners' traces
 -- are one, that of the paper's step. Assumes nothing.
 use Rattle.std.proofs.Common.{◌≡◌, ℕ, ◌<◌, ◌≤◌, Bool, true, ◌≢◌, List, length, refl, arith}
+use Rattle.std.proofs.lemmas.List.{length-map}
 use Rattle.card.specs.Finite.{All}
 use Rattle.card.specs.Card.{Card, place_at}
-use Rattle.card.proofs.Sums.{map_length}
 use Rattle.hierarchy.specs.Judgement.{accepted, judge}
 use Rattle.hierarchy.proofs.Accepted.{accepted_meets}
 use Rattle.flattening.specs.Flattening.{flat_place_row, flatten}
@@ -23,7 +23,7 @@ fresh_view f = view_store f _ (fresh f) (record { places = refl; transitions = r
 module _ (card : List ℕ) (c : Card) (e : judge card ≡ accepted c) where
   tokens : (p : ℕ) → p < length (flatten c).places → (place_at (flatten c) p).tokens ≤ (place_at (flatten c) p).capacity
   unfolding flatten
-  tokens p l = (flat_place_fits c (accepted_meets card c e) p (omega (arith, map_length flat_place_row c.places))).tokens
+  tokens p l = (flat_place_fits c (accepted_meets card c e) p (omega (arith, length-map c.places flat_place_row))).tokens
 
   start_consistent : Consistent (flatten c) (fresh (flatten c))
   start_consistent = fresh_consistent (flatten c) tokens

@@ -1,11 +1,11 @@
 -- Whether an arc allows its transition to start, as the code computes it. Assumes nothing.
 use Rattle.std.proofs.Common.{◌≡◌, ℕ, ◌+◌, ◌*◌, ◌<◌, ◌≤◌, ◌⊎◌, leb, List, length, ap, inl, inr, arith}
 use lib.ListN.{get_or-eq_default}
+use Rattle.std.proofs.lemmas.Bool.{cases_lt}
 use Rattle.card.specs.Card.{Transition, Place, Card, subnet_at, place_at, transition_at, arc_at, first_place, flat_place, no_transition}
 use Rattle.card.specs.View.{arc_in}
 use Rattle.card.specs.declared.view.Arc.{Arc as HeldArc}
 use Rattle.card.specs.declared.view.Direction.TheVariants.{Draws, Fills}
-use Rattle.card.proofs.BitLaws.{lt_or_ge}
 use Rattle.hierarchy.specs.Conditions.{Meets}
 use Rattle.flattening.specs.Flattening.{flatten}
 use Rattle.flattening.proofs.FlatLaws.{place_flat, arc_flat, there}
@@ -17,7 +17,7 @@ use Rattle.runners.proofs.OwnerLaws.{listed}
 
 -- a transition that has an arc is one of the card's
 listed_there : (c : Card) (t j : ℕ) → j < (transition_at c t).arcs → t < length c.transitions
-listed_there c t j l = go (lt_or_ge t (length c.transitions))
+listed_there c t j l = go (cases_lt t (length c.transitions))
   where
     go : (t < length c.transitions) ⊎ (length c.transitions ≤ t) → t < length c.transitions
     go (inl h) = h

@@ -20,7 +20,7 @@ use Rattle.runners.specs.declared.State.{State as Lent}
 use Rattle.runners.specs.declared.work.Work.{Work}
 use Rattle.runners.proofs.FewLaws.{remaining_few}
 use Rattle.runners.specs.inner.Changes.{moved_same}
-use Rattle.runners.proofs.VerdictLaws.{none_fails}
+use Rattle.runners.proofs.VerdictLaws.{verdict_is}
 use Rattle.runners.proofs.BoardLaws.{board_exact, marking_seen, posts_all, covered_seen}
 
 module _ (c : Card) (m : Meets c) (l : Lent) (h : Counts c l) (row : List ℕ) (k : Work) (all : IsSpan posting 0 (length c.transitions) c row (begun l) k) where
@@ -46,5 +46,5 @@ module _ (c : Card) (m : Meets c) (l : Lent) (h : Counts c l) (row : List ℕ) (
     pub all_covered : (r : Option ℕ) → found_of r ≡ lowest 0 (length c.places) (λ p. not (covered_by full l.markings k.standing k.claimed p))
         → not (is_some r) ≡ every (length c.places) (covered (flatten c) (view l).markings (view l).transfers)
     all_covered r e =
-        none_fails (length c.places) (covered_by full l.markings k.standing k.claimed) (covered (flatten c) (view l).markings (view l).transfers)
+        verdict_is (length c.places) (covered_by full l.markings k.standing k.claimed) (covered (flatten c) (view l).markings (view l).transfers)
         (λ p b. ap (λ (w : Work). covered_by full l.markings k.standing w.claimed p) done.only ∙ covered_place p b) r e

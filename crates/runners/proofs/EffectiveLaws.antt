@@ -1,12 +1,18 @@
 -- The effective row: what it has of the row that is lent and of the last degrees, and that a row, empty or not, keeps a state consistent.
 -- Assumes nothing.
-use Rattle.std.proofs.Common.{◌≡◌, ℕ, ◌<◌, ◌≤◌, Bool, true, false, ◌⊎◌, List, [], ◌∷◌, length, refl, inl, inr, arith}
-use mathlib.Core.Option.{none}
+use Rattle.std.proofs.Common.{◌≡◌, ℕ, ◌<◌, ◌≤◌, Bool, true, false, ◌⊎◌, List, [], ◌∷◌, ◌++◌, length, take, drop, refl, ap, ◌∙◌, subst, inl, inr, arith, take_at}
+use mathlib.Core.Option.{none, map}
 use Rattle.card.specs.Card.{Card, transition_at}
 use Rattle.flattening.specs.Flattening.{flatten}
 use Rattle.runners.specs.State.{NetState, scale, entry}
-use Rattle.runners.specs.Step.{candidate, asked, degree, moves, next}
-use Rattle.runners.specs.Rows.{effective, row_fault, row_next}
+use Rattle.runners.specs.Step.{candidate, conflict, asked, degree, moves, next}
+use Rattle.runners.specs.Rows.{settle, effective, row_fault, row_next}
+use Rattle.runners.specs.Calls.{view, store}
+use Rattle.runners.specs.Answers.{IsRow}
+use Rattle.runners.specs.inner.Steps.{with_degrees}
+use Rattle.runners.specs.declared.State.{State as Lent}
+use Rattle.runners.specs.declared.Refusal.TheVariants.{Conflict}
+use Rattle.runners.specs.declared.RowAnswer.{RowAnswer}
 use Rattle.runners.proofs.StartLaws.{start_one, start_whole}
 use Rattle.runners.proofs.StateLaws.{Consistent, Sized, Fits, fault_is, next_sized, next_consistent}
 
@@ -58,3 +64,18 @@ module _ (f : Card) (s : NetState) (row : List ℕ) (h : Consistent f s) (k : Fi
 pub effective_fits : (c : Card) (last row : List ℕ) → length last ≡ c.signals → row_fault (flatten c) row ≡ none → length (effective last row) ≡ c.signals
 unfolding flatten
 effective_fits c last row e f = effective_long last row c.signals (inr e) ((fault_is (flatten c) row).0 f).0
+
+-- The row's degrees put over the last ones are the effective row, of a row that passes 20,
+effective_put : (last row : List ℕ) (n : ℕ) → (length row ≡ 0) ⊎ (length row ≡ n) → take n (row ++ drop (length row) last) ≡ effective (take n last) row
+effective_put last [] n h = refl
+effective_put last (d ∷ ds) n (inl h) = absurd (omega (arith, h))
+effective_put last (d ∷ ds) n (inr h) = take_at (d ∷ ds) (drop (length (d ∷ ds)) last) n h
+
+-- and the step on it is the step on the effective row.
+module _ (c : Card) (l after : Lent) (row : List ℕ) (x : RowAnswer) where
+  abbrev Stepped : List ℕ → Type 0
+  Stepped r = IsRow (settle (map Conflict (conflict (flatten c) (view l) r)) l (store l (next (flatten c) (view l) r))) x
+
+  pub put_stepped : (n : ℕ) → after ≡ with_degrees l row → n ≡ l.signals → (length row ≡ 0) ⊎ (length row ≡ n) → Stepped (take n after.degrees) → Stepped (effective (view l).degrees row)
+  put_stepped n e i h =
+      subst Stepped (ap (λ (k : Lent). take n k.degrees) e ∙ effective_put l.degrees row n h ∙ ap (λ (m : ℕ). effective (take m l.degrees) row) i)

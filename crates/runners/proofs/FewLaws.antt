@@ -1,11 +1,11 @@
 -- No sum over the transitions of an accepted card comes near 32 bits: at most 255 transitions, each with at most one arc of a direction at a
 -- place, of a weight below 256. Assumes nothing.
 use Rattle.std.proofs.Common.{◌≡◌, ℕ, zero, suc, ◌+◌, ◌*◌, ◌<◌, ◌≤◌, Bool, true, false, cond, ◌&&◌, eqb, List, [], ◌∷◌, length, get_or, sym, refl, ◌∙◌, mul-le-mul, arith}
+use Rattle.std.proofs.lemmas.Bool.Decides.{Decides-eqb, Decides-and}
 use Rattle.card.specs.Finite.{sum_to, All}
 use Rattle.card.specs.Card.{Arc, Card, transition_at, arc_at, first_arc, no_arc}
 use Rattle.card.specs.Wellformed.{ArcRow}
 use Rattle.card.proofs.Sums.{sum_zero}
-use Rattle.card.proofs.Decides.{eq_is, and_is}
 use Rattle.hierarchy.specs.Conditions.{Meets}
 use Rattle.flattening.specs.Flattening.{flatten}
 use Rattle.flattening.proofs.FlatLaws.{arc_flat, home, flat_meets}
@@ -57,7 +57,7 @@ module _ (c : Card) (m : Meets c) where
   hits way p t j = eqb (arc_at f t j).direction way && eqb (arc_at f t j).place p
 
   hit_is : (way p t j : ℕ) → hits way p t j ≡ true → ((arc_at f t j).direction ≡ way) × ((arc_at f t j).place ≡ p)
-  hit_is way p t j = (and_is _ _ _ _ (eq_is (arc_at f t j).direction way) (eq_is (arc_at f t j).place p)).0
+  hit_is way p t j = (Decides-and _ _ (Decides-eqb (arc_at f t j).direction way) (Decides-eqb (arc_at f t j).place p)).0
 
   -- all arcs of the flat card name subnet 0
   pub one_subnet : (t i j : ℕ) → (arc_at f t i).subnet ≡ (arc_at f t j).subnet

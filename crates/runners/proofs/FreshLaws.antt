@@ -2,21 +2,23 @@
 use Rattle.std.proofs.Common.{◌≡◌, ℕ, zero, suc, ◌+◌, ◌-◌, ◌*◌, ◌<◌, ◌≤◌, ◌⊎◌, List, ◌∷◌, ◌++◌, length, get_or, drop, replicate, sym, refl, ap, ◌∙◌, inl, inr, arith, length-append, length-drop, get_or-drop, get_or-append-add, ext_get_or}
 use Rattle.std.specs.Prelude.{Ok, Err}
 use lib.ListN.{length-replicate, get_or-append}
+use Rattle.std.proofs.lemmas.Bool.{cases_lt}
+use Rattle.std.proofs.lemmas.List.{length-map}
 use Rattle.card.specs.Card.{Card, place_at}
 use Rattle.card.specs.Finite.{table}
-use Rattle.card.proofs.Sums.{table_length, table_at, map_length}
-use Rattle.card.proofs.BitLaws.{lt_or_ge}
+use Rattle.card.proofs.Sums.{table_length, table_at}
 use Rattle.card.proofs.Turn.{zero_in}
 use Rattle.hierarchy.specs.Numbers.{check_outcome}
 use Rattle.hierarchy.specs.Conditions.{Meets}
-use Rattle.hierarchy.specs.Judgement.{accepted, judge, answer}
+use Rattle.hierarchy.specs.Judgement.{accepted, judge, answer, outcome_of}
 use Rattle.hierarchy.specs.declared.CardRefusal.{CardRefusal}
 use Rattle.flattening.specs.Flattening.{flat_place_row, flatten}
 use Rattle.runners.specs.State.{scale, fresh}
 use Rattle.runners.specs.Calls.{fresh_lent, fresh_call}
 use Rattle.runners.specs.declared.State.{State as Lent}
 use Rattle.runners.specs.declared.Transfer.TheVariants.{Idle}
-use Rattle.runners.specs.Answers.{IsFresh}
+use Rattle.runners.specs.Answers.{IsFreshState}
+use Rattle.card.specs.declared.Counts.{Counts}
 use Rattle.runners.specs.inner.Markings.{tokens, Filled}
 use Rattle.runners.proofs.CallLaws.{judged_refused}
 
@@ -30,7 +32,7 @@ fill x from (suc n) (suc m) l = ap (λ xs. x ∷ xs) (fill x (suc from) n m (ome
 first_are : (c : Card) (markings : List ℕ) → Filled tokens c markings → length c.places ≤ 255
     → markings ≡ table 0 (length c.places) (λ p. scale (flatten c) * (place_at (flatten c) p).tokens) ++ drop (length c.places) (replicate 255 0)
 first_are c markings h l =
-    ext_get_or 0 markings (xs ++ drop P (replicate 255 0)) long (λ i b. at i (omega (arith, b, h.long)) (lt_or_ge i P))
+    ext_get_or 0 markings (xs ++ drop P (replicate 255 0)) long (λ i b. at i (omega (arith, b, h.long)) (cases_lt i P))
   where
     P : ℕ
     P = length c.places
@@ -55,17 +57,20 @@ pub fresh_is : (c : Card) (markings : List ℕ) (p t g : ℕ) → Meets c → Fi
 unfolding fresh flatten
 fresh_is c markings p t g m h ep et eg =
     let w = m.wellformed in
-    rw (ep, et, eg, map_length flat_place_row c.places, fill Idle 0 (length c.transitions) 255 w.rows.few_transitions, fill {A = ℕ} 0 0 c.signals 63 w.few_signals)
+    rw (ep, et, eg, length-map c.places flat_place_row, fill Idle 0 (length c.transitions) 255 w.rows.few_transitions, fill {A = ℕ} 0 0 c.signals 63 w.few_signals)
     (ap (λ (xs : List ℕ). whole xs) (unfold flatten in first_are c markings h w.rows.few_places))
   where
     whole : List ℕ → Lent
     whole xs = record { markings = xs; transfers = replicate 255 Idle; degrees = replicate 63 0; places = length c.places; transitions = length c.transitions; signals = c.signals }
 
 module _ (bytes : List ℕ) where
-  pub fresh_refused : (e : CardRefusal) → check_outcome (Err e) ≡ answer bytes → IsFresh (fresh_call bytes) (Err e)
+  pub fresh_refused : (e : CardRefusal) → check_outcome (Err e) ≡ answer bytes → IsFreshState (fresh_call bytes) (Err e)
   unfolding fresh_call
-  fresh_refused e h = rw (judged_refused bytes e h) (record { answer = refl; state = tt })
+  fresh_refused e h = rw (judged_refused bytes e h) (record { answer = refl; fresh = record { answer = refl; state = tt } })
 
-  pub fresh_accepted : (c : Card) → judge bytes ≡ accepted c → (d : Card) → d ≡ c → (s : Lent) → s ≡ fresh_lent (flatten d) → IsFresh (fresh_call bytes) (Ok s)
+  pub fresh_accepted : (c : Card) → judge bytes ≡ accepted c → (d : Card) → d ≡ c → (k : Counts) → check_outcome (Ok k) ≡ answer bytes → (s : Lent) → s ≡ fresh_lent (flatten d)
+      → IsFreshState (fresh_call bytes) (Ok (record { counts = k; state = s }))
   unfolding fresh_call
-  fresh_accepted c e d ed s h = rw e (record { answer = tt; state = h ∙ ap (λ (k : Card). fresh_lent (flatten k)) ed })
+  fresh_accepted c e d ed k q s h =
+      let w : check_outcome (Ok k) ≡ outcome_of (accepted c) = q ∙ ap outcome_of e in
+      rw e (record { answer = w; fresh = record { answer = tt; state = h ∙ ap (λ (x : Card). fresh_lent (flatten x)) ed } })

@@ -1,14 +1,17 @@
 -- What the tests in front of a step decide, over plain values. Assumes nothing.
-use Rattle.std.proofs.Common.{◌≡◌, ℕ, ◌≤◌, Bool, true, false, not, ◌&&◌, eqb, ltb, leb, List, [], ◌∷◌, length, sym, refl, ap, ◌∙◌, subst, ap₂, arith, ne_eqb, eq-eqb}
+use Rattle.std.proofs.Common.{◌≡◌, ℕ, ◌<◌, ◌≤◌, Bool, true, false, not, ◌&&◌, eqb, ltb, leb, ◌⊎◌, List, length, sym, refl, ap, ◌∙◌, subst, ap₂, inl, inr, arith, le-ltb, ne_eqb, eq-eqb}
 use Rattle.std.specs.Prelude.{Option}
 use Rattle.std.specs.Option.{is_some}
 use mathlib.Core.Bool.{or-true}
 use mathlib.Core.Option as Math
+use lib.ListN.{get_or-eq_default}
 use mathlib.Core.Option.{none, some}
+use Rattle.std.proofs.Math.Bool.{and-false}
+use Rattle.std.proofs.lemmas.List.{nil_from_length, length-map}
+use Rattle.std.proofs.lemmas.Bool.{cases_lt}
+use Rattle.std.proofs.lemmas.Bool.Decides.{Decides-eqb, Decides-and}
 use Rattle.card.specs.Finite.{every, lowest}
 use Rattle.card.specs.Card.{Card}
-use Rattle.card.proofs.Decides.{eq_is, and_is}
-use Rattle.card.proofs.Sums.{map_length}
 use Rattle.hierarchy.specs.Conditions.{Meets}
 use Rattle.flattening.specs.Flattening.{flat_place_row, flatten}
 use Rattle.runners.specs.State.{scale, entry, transfer, covered}
@@ -24,20 +27,27 @@ use Rattle.runners.specs.declared.work.Work.{Work}
 use Rattle.runners.specs.declared.Transfer.{Transfer}
 use Rattle.runners.specs.declared.State.{State as Lent}
 use Rattle.runners.specs.declared.Refusal.TheVariants.{BadRow, BadDegree}
-use Rattle.hierarchy.proofs.WalkLaws.{and_no}
+use Rattle.hierarchy.proofs.WalkLaws.{Below}
 use Rattle.runners.proofs.EffectiveLaws.{empty_passes}
 use Rattle.runners.proofs.CoverLaws.{all_covered}
 
-none_left : (row : List ℕ) → length row ≡ 0 → row ≡ []
-none_left [] e = refl
-none_left (d ∷ ds) e = absurd (omega (arith, e))
+-- a row's degrees: past the last one there is none above the full degree
+abbrev pub high : (u : ℕ) → (row : List ℕ) → (g : ℕ) → Bool
+high u row g = ltb u (entry row g)
+
+pub high_past : (u : ℕ) (row : List ℕ) (g n : ℕ) → Below g (high u row) false → length row ≤ g → Below n (high u row) false
+high_past u row g n h l k b = go (cases_lt k g)
+  where
+    go : (k < g) ⊎ (g ≤ k) → high u row k ≡ false
+    go (inl d) = h k d
+    go (inr d) = le-ltb u (entry row k) (omega (arith, get_or-eq_default row 0 {n = k} (omega arith)))
 
 -- 20 and 21
-same_places : (c : Card) → length (flatten c).places ≡ length c.places
+pub same_places : (c : Card) → length (flatten c).places ≡ length c.places
 unfolding flatten
-same_places c = map_length flat_place_row c.places
+same_places c = length-map c.places flat_place_row
 
-same_transitions : (c : Card) → length (flatten c).transitions ≡ length c.transitions
+pub same_transitions : (c : Card) → length (flatten c).transitions ≡ length c.transitions
 unfolding flatten
 same_transitions c = refl
 
@@ -47,25 +57,25 @@ same_signals c = refl
 
 module _ (f : Card) (row : List ℕ) where
   pub row_empty : length row ≡ 0 → none ≡ row_fault f row
-  row_empty e = rw (none_left row e) (sym (empty_passes f))
+  row_empty e = rw (nil_from_length row e) (sym (empty_passes f))
 
   pub row_long : ¬ (length row ≡ 0) → ¬ (length row ≡ f.signals) → some BadRow ≡ row_fault f row
   unfolding row_fault
   row_long z d = rw (ne_eqb (length row) 0 z, ne_eqb (length row) f.signals d)
 
-  pub row_high : length row ≡ f.signals → (r : Option ℕ) → found_of r ≡ lowest 0 (length row) (λ g. ltb (scale f) (entry row g)) → Math.map BadDegree (found_of r) ≡ row_fault f row
+  pub row_high : length row ≡ f.signals → (r : Option ℕ) → found_of r ≡ lowest 0 (length row) (high (scale f) row) → Math.map BadDegree (found_of r) ≡ row_fault f row
   unfolding row_fault
   row_high e r q =
-      rw (eq-eqb (length row) f.signals e, or-true (eqb (length row) 0)) (ap (Math.map BadDegree) (q ∙ ap (λ (n : ℕ). lowest 0 n (λ g. ltb (scale f) (entry row g))) e))
+      rw (eq-eqb (length row) f.signals e, or-true (eqb (length row) 0)) (ap (Math.map BadDegree) (q ∙ ap (λ (n : ℕ). lowest 0 n (high (scale f) row)) e))
 
 -- 25, part after part
 pub flat_fits : (c : Card) (l : Lent) → in_state.fits (flatten c) l ≡ (eqb l.places (length c.places) && eqb l.transitions (length c.transitions) && eqb l.signals c.signals)
 unfolding flatten
-flat_fits c l = rw (map_length flat_place_row c.places)
+flat_fits c l = rw (same_places c)
 
 pub fit_counts : (c : Card) (l : Lent) → in_state.fits (flatten c) l ≡ true → Counts c l
 fit_counts c l e =
-    let d = (and_is _ _ _ _ (and_is _ _ _ _ (eq_is l.places (length c.places)) (eq_is l.transitions (length c.transitions))) (eq_is l.signals c.signals)).0 (sym (flat_fits c l) ∙ e) in
+    let d = (Decides-and _ _ (Decides-and _ _ (Decides-eqb l.places (length c.places)) (Decides-eqb l.transitions (length c.transitions))) (Decides-eqb l.signals c.signals)).0 (sym (flat_fits c l) ∙ e) in
     record { places = d.0.0; transitions = d.0.1; signals = d.1 }
 
 told : (b r z : Bool) → r ≡ not b → not r ≡ z → b ≡ z
@@ -101,7 +111,7 @@ module _ (c : Card) (l : Lent) (h : Counts c l) where
       ranged = eb ∙ ap₂ (λ (n : ℕ) (ys : List Transfer). every n (λ t. in_range (flatten c) (transfer ys t))) (ex.1 ∙ h.transitions) ex.0
 
       pub none_ranged : b ≡ false → b ≡ consistent (flatten c) (view l)
-      none_ranged n = n ∙ sym (flat_consistent ∙ rw (← ranged, n, and_no) refl)
+      none_ranged n = n ∙ sym (flat_consistent ∙ rw (← ranged, n, and-false) refl)
 
       pub consistent_low : a ≡ true → b ≡ true → (ds ≡ (view l).degrees) × (length ds ≡ l.signals) → d ≡ every (length ds) (λ g. leb (entry ds g) (scale (flatten c))) → d ≡ consistent (flatten c) (view l)
       consistent_low p q ed e =

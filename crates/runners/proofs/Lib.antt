@@ -29,5 +29,8 @@ pub mod RowLaws
 pub mod CallLaws
 pub mod PieceLaws
 pub mod NetLaws
-pub mod ReplyLaws
 pub mod StartLaws
+pub mod OneLaws
+pub mod TransferLaws
+pub mod TestLaws
+pub mod ReplyLaws

@@ -4,15 +4,17 @@ use Rattle.std.proofs.Common.{◌≡◌, ℕ, suc, ◌+◌, ◌-◌, ◌*◌, �
 use mathlib.Core.Option.{none}
 use native.Mathlib.Nat.{le_of_mul-le-mul_left}
 use borrow.Author.Tests.{eqb-false}
+use Rattle.std.proofs.lemmas.Bool.{false≢true, false_from_ne_true}
+use Rattle.std.proofs.lemmas.Bool.Decides.{Decides-ltb, Decides-and}
+use Rattle.std.specs.Bool.{Decides}
 use Rattle.card.specs.Finite.{sum_to, table}
 use Rattle.card.specs.Card.{Arc, Card, draws, fills, place_at, transition_at, arc_at, first_place, first_arc, flat_place, place_of, no_transition}
 use Rattle.card.specs.Wellformed.{TransitionRow, Wellformed}
 use Rattle.card.specs.Parsing.{read_card}
 use Rattle.card.specs.Parsing
-use Rattle.card.proofs.TableLaws.{no_yes}
 use Rattle.card.proofs.Ranges.{read_wellformed}
 use Rattle.card.proofs.Sums.{sum_mono, table_at, table_length, all_at}
-use Rattle.card.proofs.Decides.{Decides, le_is, lt_is, and_is, every_is}
+use Rattle.card.proofs.Decides.{le_is, every_is}
 use Rattle.hierarchy.specs.Conditions.{SelfLoop, Meets}
 use Rattle.hierarchy.specs.Check.{loops_fit}
 use Rattle.hierarchy.specs.Judgement.{refused, judge}
@@ -36,7 +38,7 @@ candidate_is : (f : Card) (s : NetState) (row : List ℕ) (t : ℕ)
     × ((j : ℕ) → j < (transition_at f t).arcs → allows f (claims f s.transfers) s.markings (arc_at f t j) ≡ true))
 unfolding candidate candidate_on
 candidate_is f s row t =
-    and_is _ _ _ _ (and_is _ _ _ _ (λ e. e, λ e. e) (lt_is 0 (entry row (transition_at f t).signal))) (every_is _ _ _ (λ j. (λ e. e, λ e. e)))
+    Decides-and _ _ (Decides-and _ _ (λ e. e, λ e. e) (Decides-ltb 0 (entry row (transition_at f t).signal))) (every_is _ _ _ (λ j. (λ e. e, λ e. e)))
 
 -- what an arc asks of its place's marking
 module _ (f : Card) (k : Claims) (ms : List ℕ) (a : Arc) where
@@ -122,11 +124,7 @@ module _ (c : Card) (t : ℕ) where
         (loops_fit_is c t j).1 (λ h m o. within h j o (claims (flatten c) s.transfers) s.markings (x h (omega arith)) (x j l) (arc_row c.arcs w.rows.arcs _).direction (arc_row c.arcs w.rows.arcs _).direction)
 
     pub loop_never : loops_fit c t j ≡ false → candidate (flatten c) s row t ≡ false
-    loop_never f = go (candidate (flatten c) s row t) refl
-      where
-        go : (z : Bool) → candidate (flatten c) s row t ≡ z → candidate (flatten c) s row t ≡ false
-        go true e = no_yes (sym f ∙ candidate_fits e)
-        go false e = e
+    loop_never f = false_from_ne_true _ (λ e. false≢true (sym f ∙ candidate_fits e))
 
 -- BYTES THAT ARE REFUSED WITH 26 HAVE A TRANSITION THAT IS A CANDIDATE IN NO STATE AND NO ROW, and the bit is that of an arc of it
 pub refused_never : (bytes : List ℕ) (c : Card) (end at : ℕ) → read_card bytes ≡ Parsing.whole c end → judge bytes ≡ refused 26 at

@@ -1,9 +1,9 @@
 -- The columns by flat place that are made of a card are filled subnet by subnet. Assumes nothing.
-use Rattle.std.proofs.Common.{◌≡◌, ℕ, suc, ◌+◌, ◌*◌, ◌<◌, ◌≤◌, ◌⊎◌, List, length, set, replicate, refl, ap, ◌∙◌, subst, inl, inr, sym, arith, length-set, get_or-set_other, get_or-set_same}
+use Rattle.std.proofs.Common.{◌≡◌, ℕ, suc, ◌+◌, ◌*◌, ◌<◌, ◌≤◌, ◌⊎◌, List, length, set, replicate, ap, ◌∙◌, subst, inl, inr, sym, arith, length-set, get_or-set_other, get_or-set_same}
 use lib.ListN.{length-replicate}
+use Rattle.std.proofs.lemmas.Bool.{cases_lt}
 use Rattle.card.specs.Finite.{sum_to}
 use Rattle.card.specs.Card.{Place, Card, subnet_at, place_at, first_place}
-use Rattle.card.proofs.BitLaws.{lt_or_ge}
 use Rattle.card.proofs.Prefix.{places_below}
 use Rattle.card.proofs.Positions.{counted}
 use Rattle.card.proofs.Turn.{zero_in}
@@ -11,7 +11,12 @@ use Rattle.hierarchy.specs.Conditions.{Meets}
 use Rattle.flattening.specs.Flattening.{flatten}
 use Rattle.flattening.proofs.FlatLaws.{place_flat}
 use Rattle.runners.specs.State.{scale, entry}
-use Rattle.runners.specs.inner.Markings.{SameFlat, FilledTo, Filled}
+use Rattle.runners.specs.inner.Markings.{SameFlat, FilledTo}
+use Rattle.flattening.proofs.FlatPut.{next_place}
+
+-- a column has room for all places
+pub few_places : (c : Card) → Meets c → (s : ℕ) → s ≤ length c.subnets → first_place c s ≤ 255
+few_places c m s l = omega (arith, places_below c (counted c m.wellformed) s l, m.wellformed.rows.few_places)
 
 module _ (number : Place → ℕ) (same : SameFlat number) (c : Card) where
   pub filled_start : FilledTo number c (first_place c 0) (replicate 255 0)
@@ -22,7 +27,7 @@ module _ (number : Place → ℕ) (same : SameFlat number) (c : Card) where
   filled_more p v column few e h =
       record {
         long = length-set column p v ∙ h.long;
-        first = λ q g. at q g (lt_or_ge q p);
+        first = λ q g. at q g (cases_lt q p);
         zeros = λ q g. get_or-set_other column p q v 0 (λ i. omega arith) ∙ h.zeros q (omega arith);
       }
     where
@@ -34,24 +39,12 @@ module _ (number : Place → ℕ) (same : SameFlat number) (c : Card) where
 
   -- where the places of a subnet stand
   module _ (m : Meets c) where
-    pub few_places : (s : ℕ) → s ≤ length c.subnets → first_place c s ≤ 255
-    few_places s l = omega (arith, places_below c (counted c m.wellformed) s l, m.wellformed.rows.few_places)
-
-    pub next_place : (s : ℕ) → first_place c (suc s) ≡ first_place c s + (subnet_at c s).places
-    unfolding first_place sum_to
-    next_place s = refl
-
     -- one place more of subnet s
     pub subnet_more : (s n v : ℕ) (column : List ℕ) → s < length c.subnets → n < (subnet_at c s).places → v ≡ scale (flatten c) * number (place_at c (first_place c s + n))
         → FilledTo number c (first_place c s + n) column → FilledTo number c (first_place c s + (n + 1)) (set column (first_place c s + n) v)
     subnet_more s n v column l b e x =
         let q : first_place c s + n + 1 ≡ first_place c s + (n + 1) = omega arith in
-        subst (λ (k : ℕ). FilledTo number c k (set column (first_place c s + n) v)) q (filled_more (first_place c s + n) v column (omega (arith, few_places (suc s) l, next_place s)) e x)
+        subst (λ (k : ℕ). FilledTo number c k (set column (first_place c s + n) v)) q (filled_more (first_place c s + n) v column (omega (arith, few_places c m (suc s) l, next_place c s)) e x)
 
     pub subnet_end : (s n : ℕ) (column : List ℕ) → n ≡ (subnet_at c s).places → FilledTo number c (first_place c s + n) column → FilledTo number c (first_place c (suc s)) column
-    subnet_end s n column e x = let q : first_place c s + n ≡ first_place c (suc s) = omega (arith, next_place s) in subst (λ (k : ℕ). FilledTo number c k column) q x
-
-    -- all subnets
-    pub filled_all : (s : ℕ) (column : List ℕ) → s ≡ length c.subnets → FilledTo number c (first_place c s) column → Filled number c column
-    unfolding first_place
-    filled_all s column e x = subst (λ (k : ℕ). FilledTo number c k column) (ap (λ (n : ℕ). sum_to n (λ q. (subnet_at c q).places)) e ∙ sym m.wellformed.rows.place_count) x
+    subnet_end s n column e x = let q : first_place c s + n ≡ first_place c (suc s) = omega (arith, next_place c s) in subst (λ (k : ℕ). FilledTo number c k column) q x

@@ -1,35 +1,42 @@
 -- The net of a card, and rows on it. Assumes nothing.
-use Rattle.std.proofs.Common.{◌≡◌, ℕ, ◌+◌, ◌<◌, ◌≤◌, min, Bool, true, false, ◌⊎◌, List, [], ◌∷◌, ◌++◌, length, take, drop, sym, refl, ap, ◌∙◌, ap₂, inl, inr, arith, length-append, append-nil, take_at, take_all, drop_at, drop_of_length-le, eq-eqb}
-use Rattle.std.specs.Prelude.{Result, Ok, Err}
+use Rattle.std.proofs.Common.{◌≡◌, ℕ, ◌+◌, ◌<◌, ◌≤◌, min, Bool, true, false, ◌⊎◌, List, [], ◌∷◌, ◌++◌, length, take, drop, sym, refl, ap, ◌∙◌, subst, ap₂, inl, inr, arith, length-append, append-nil, take_at, take_all, drop_at, drop_of_length-le}
+use Rattle.std.specs.Prelude.{Result, Ok, Err, IfOk}
 use Rattle.std.specs.Result.{is_err}
 use mathlib.Core.Bool.{false≢true}
 use mathlib.Core.Option.{none, some, some-ne-none}
+use Rattle.std.proofs.lemmas.Bool.{cases_lt}
+use Rattle.std.proofs.lemmas.List.{nil_from_length}
 use Rattle.card.specs.Finite.{some_unless, ◌otherwise◌}
 use Rattle.card.specs.Card.{Card}
-use Rattle.card.specs.Tables.{has_room}
+use Rattle.card.specs.Index.{Loaded}
+use Rattle.card.specs.Parsing.{read_card}
+use Rattle.card.specs.Tables.{IsTable}
 use Rattle.card.specs.View.{card_in}
-use Rattle.card.proofs.BitLaws.{lt_or_ge}
 use Rattle.hierarchy.specs.Conditions.{Meets}
 use Rattle.hierarchy.specs.Numbers.{check_outcome}
-use Rattle.hierarchy.specs.Judgement.{accepted, judge, answer, IsAccepted}
+use Rattle.hierarchy.specs.Judgement.{Judgement, accepted, refused, judge, answer, IsChecked, IsAccepted}
 use Rattle.hierarchy.specs.declared.CardRefusal.{CardRefusal}
-use Rattle.hierarchy.proofs.Accepted.{accepted_meets}
-use Rattle.hierarchy.specs.declared.check.CheckedCard.{CheckedCard}
+use Rattle.hierarchy.proofs.Accepted.{not_accepted, accepted_meets, accepted_loaded}
+use Rattle.card.specs.declared.index.CardIndex.{CardIndex}
 use Rattle.flattening.specs.Flattening.{flatten}
-use Rattle.flattening.specs.FlatCards.{flat_room, IsFlattened}
+use Rattle.flattening.specs.FlatCards.{IsFlatTable, IsFlatCard, IsFlattened}
 use Rattle.flattening.specs.declared.FlatCard.{FlatCard}
 use Rattle.flattening.proofs.FlatLaws.{flat_meets}
+use Rattle.flattening.proofs.FlatCardLaws.{flat_loaded}
 use Rattle.runners.specs.Numbers.{RowOutcome}
 use Rattle.runners.specs.Rows.{settle, row_next, row_refusal, pieces}
-use Rattle.runners.specs.Calls.{view, store, valid, each_once, called, in_order}
+use Rattle.runners.specs.Calls.{view, store, valid, each_once, called, in_order, flat_call, subnet_call}
+use Rattle.runners.specs.Answers.{IsRow}
 use Rattle.runners.specs.Nets.{flat_judged, IsNet, leaves}
-use Rattle.runners.specs.inner.Steps.{refusal_in, answer_of}
+use Rattle.runners.specs.inner.Markings.{capacity, Filled}
+use Rattle.runners.specs.inner.Steps.{IsLoaded, refusal_in, answer_of}
+use Rattle.runners.specs.declared.RowAnswer.{RowAnswer}
 use Rattle.runners.specs.declared.State.{State as Lent}
 use Rattle.runners.specs.declared.Refusal.{Refusal}
 use Rattle.runners.specs.declared.Refusal.TheVariants.{BadState, BadOrder}
 use Rattle.runners.proofs.TraceLaws.{valid_is, kept}
 use Rattle.runners.proofs.PieceLaws.{pieces_none, pieces_more}
-use Rattle.runners.proofs.CallLaws.{judged_refused}
+use Rattle.runners.proofs.CallLaws.{judged_refused, flat_called}
 
 -- many rows: where no row changes the state it is left as it is
 leaves_still : {S C : Type 0} (call : S → C → RowOutcome × S) (s : S) (rows : List C) → ((row : C) → (call s row).1 ≡ s) → s ≡ leaves call s rows
@@ -70,10 +77,6 @@ module _ (c : Card) (order : List ℕ) (l : Lent) (d : Card) (ed : d ≡ c) (r :
       go true false p q = absurd (false≢true (sym n ∙ fails r BadOrder (tests_are ∙ rw (p, q) refl)))
       go false o p q = absurd (false≢true (sym n ∙ fails r BadState (tests_are ∙ rw p refl)))
 
-nothing : (xs : List ℕ) → length xs ≡ 0 → xs ≡ []
-nothing [] q = refl
-nothing (x ∷ xs) q = absurd (omega (arith, q))
-
 -- what is left of the rows decides the state
 pub record Going (c : Card) (order : List ℕ) (first : Lent) (rows : List ℕ) (l : Lent) (rest : List ℕ) : Type 0 where
   pub valid : valid (flatten c) l ≡ true
@@ -85,7 +88,7 @@ going_start c order first rows rest e v = record { valid = v; left = ap (λ (k :
 module _ (c : Card) (m : Meets c) (order : List ℕ) (first : Lent) (rows : List ℕ) (l : Lent) (rest : List ℕ) (g : Going c order first rows l rest) where
   pub going_end : length rest ≡ 0 → l ≡ leaves (called (in_order order) (accepted c)) first (pieces c.signals rows)
   unfolding leaves
-  going_end e = sym (g.left ∙ rw (nothing rest e, pieces_none c.signals (omega (arith, m.wellformed.some_signals))) refl)
+  going_end e = sym (g.left ∙ rw (nil_from_length rest e, pieces_none c.signals (omega (arith, m.wellformed.some_signals))) refl)
 
   -- a row more, which is cut off the rest, and what it answers
   module _ (o : each_once (length c.subnets) order ≡ true) (row rest' : List ℕ) (size : ℕ) (es : size ≡ c.signals) (cut : (rest ≡ row ++ rest') × (length row ≡ min size (length rest)) × (0 < length rest)) where
@@ -93,19 +96,19 @@ module _ (c : Card) (m : Meets c) (order : List ℕ) (first : Lent) (rows : List
     long = ap length cut.0 ∙ length-append row rest'
 
     row_is : take c.signals rest ≡ row
-    row_is = go (lt_or_ge (length rest) size)
+    row_is = go (cases_lt (length rest) size)
       where
         go : (length rest < size) ⊎ (size ≤ length rest) → take c.signals rest ≡ row
         go (inl h) =
-            let e : rest' ≡ [] = nothing rest' (omega (arith, long, cut.1)) in
+            let e : rest' ≡ [] = nil_from_length rest' (omega (arith, long, cut.1)) in
             take_all c.signals rest (omega arith) ∙ cut.0 ∙ ap (λ (xs : List ℕ). row ++ xs) e ∙ append-nil row
         go (inr h) = ap (take c.signals) cut.0 ∙ take_at row rest' c.signals (omega (arith, cut.1))
 
     rest_is : drop c.signals rest ≡ rest'
-    rest_is = go (lt_or_ge (length rest) size)
+    rest_is = go (cases_lt (length rest) size)
       where
         go : (length rest < size) ⊎ (size ≤ length rest) → drop c.signals rest ≡ rest'
-        go (inl h) = drop_of_length-le rest (omega arith) ∙ sym (nothing rest' (omega (arith, long, cut.1)))
+        go (inl h) = drop_of_length-le rest (omega arith) ∙ sym (nil_from_length rest' (omega (arith, long, cut.1)))
         go (inr h) = ap (drop c.signals) cut.0 ∙ drop_at row rest' c.signals (omega (arith, cut.1))
 
     some_signals : 0 < c.signals
@@ -123,20 +126,47 @@ module _ (c : Card) (m : Meets c) (order : List ℕ) (first : Lent) (rows : List
         }
 
 -- an accepted card meets the conditions
-pub loaded_meets : (bytes numbers : List ℕ) (k : CheckedCard) → IsAccepted bytes numbers k → Meets (card_in numbers)
+pub loaded_meets : (bytes numbers : List ℕ) (k : CardIndex) → IsAccepted bytes numbers k → Meets (card_in numbers)
 loaded_meets bytes numbers k h = accepted_meets bytes (card_in numbers) h.judged
 
--- and so does its flat card
+-- what a load leaves is the net of what the card was judged to be
+pub net_refused : (bytes : List ℕ) (e : CardRefusal) → check_outcome (Err e) ≡ answer bytes → IsNet (judge bytes) (Err e)
+net_refused bytes e h = judged_refused bytes e h
+
+pub net_accepted : (bytes numbers : List ℕ) (k : CardIndex) (full : List ℕ) → IsAccepted bytes numbers k → Filled capacity (card_in numbers) full
+    → IsNet (judge bytes) (Ok (card_in numbers)) × IsLoaded (card_in numbers) numbers k full
+net_accepted bytes numbers k full h f = (h.judged, record { holds = h.holds; net = record { meets = loaded_meets bytes numbers k h; filled = f } })
+
+-- a card that was checked is loaded, and its flat card with it
+pub card_loaded : (bytes : List ℕ) (r : Result CardIndex CardRefusal) (size : ℕ) (numbers : List ℕ) → IsChecked bytes r → IsTable (read_card bytes) size numbers
+    → (c : Card) → judge bytes ≡ accepted c → Meets c × IfOk r (λ k. Loaded c numbers k.starts)
+card_loaded bytes r size numbers h t c e = (accepted_meets bytes c e, (accepted_loaded bytes r size numbers h t).loaded c e)
+
+pub flat_card_loaded : (bytes : List ℕ) (r : Result FlatCard CardRefusal) (size n : ℕ) (numbers flat : List ℕ) → IsFlatCard bytes r → IsTable (read_card bytes) size numbers → IsFlatTable (judge bytes) n flat → size ≡ n
+    → (c : Card) → flat_judged (judge bytes) ≡ accepted c → Meets c × IfOk r (λ k. Loaded c flat k.flat.starts)
+flat_card_loaded bytes r size n numbers flat h t f same d e = go (judge bytes) refl e
+  where
+    go : (j : Judgement) → judge bytes ≡ j → flat_judged j ≡ accepted d → Meets d × IfOk r (λ k. Loaded d flat k.flat.starts)
+    go (refused m b) p q = absurd (not_accepted _ _ _ q)
+    go (accepted c) p q =
+        let s : flatten c ≡ d = cc in
+        subst (λ (x : Card). Meets x × IfOk r (λ k. Loaded x flat k.flat.starts)) s (flat_meets c (accepted_meets bytes c p), flat_loaded bytes r size n numbers flat h t f same c p)
+
+-- a call on the flat card's net, in the order that names its one subnet, is the flat runner's
+pub flat_net_called : (j : Judgement) (l : Lent) (row : List ℕ) → called (in_order (0 ∷ [])) (flat_judged j) l row ≡ called (λ c. true) j l row
+flat_net_called (accepted c) l row = flat_called c l row
+flat_net_called (refused n at) l row = refl
+
+pub flat_net_row : (bytes row : List ℕ) (l : Lent) (x : RowAnswer) → IsRow (called (in_order (0 ∷ [])) (flat_judged (judge bytes)) l row) x → IsRow (flat_call bytes l row) x
+unfolding flat_call
+flat_net_row bytes row l x h = subst (λ (z : RowOutcome × Lent). IsRow z x) (flat_net_called (judge bytes) l row) h
+
+-- and one on the card's own net the subnet runner's
+pub own_net_row : (bytes order row : List ℕ) (l : Lent) (x : RowAnswer) → IsRow (called (in_order order) (judge bytes) l row) x → IsRow (subnet_call bytes order l row) x
+unfolding subnet_call
+own_net_row bytes order row l x h = h
+
+-- the flat card of an accepted card meets them too
 module _ (bytes numbers flat : List ℕ) (k : FlatCard) (h : IsFlattened bytes numbers flat k) where
   pub flat_loaded_meets : Meets (card_in flat)
   flat_loaded_meets = rw h.flattened (flat_meets (card_in numbers) (accepted_meets bytes (card_in numbers) h.judged))
-
-  pub flat_net_accepted : (c : Card) → c ≡ card_in flat → IsNet (flat_judged (judge bytes)) (Ok c)
-  flat_net_accepted c e = rw h.judged (ap accepted (sym (e ∙ h.flattened)))
-
-pub flat_net_refused : (bytes : List ℕ) (e : CardRefusal) → check_outcome (Err e) ≡ answer bytes → IsNet (flat_judged (judge bytes)) (Err e)
-flat_net_refused bytes e h = rw (judged_refused bytes e h) refl
-
--- two tables of one length that have room for a card have room for its flat card
-pub room_twice : (bytes size n m : ℕ) → has_room bytes size ≡ true → n ≡ size → m ≡ size → flat_room bytes n m ≡ true
-room_twice bytes size n m h en em = rw (en, em, h, eq-eqb size size refl)

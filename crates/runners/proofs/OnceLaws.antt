@@ -2,9 +2,10 @@
 use Rattle.std.proofs.Common.{◌≡◌, ℕ, zero, suc, ◌+◌, ◌*◌, ◌<◌, ◌≤◌, Bool, true, false, eqb, ◌⊎◌, List, length, get_or, sym, refl, ap, ◌∙◌, inl, inr, arith, eq-eqb, ne_eqb, eqb-true}
 use mathlib.Core.Bool.{false≢true}
 use borrow.Author.Tests.{eqb-false}
+use Rattle.std.proofs.lemmas.Bool.{cases_lt}
+use Rattle.std.proofs.lemmas.Bool.Decides.{Decides-eqb, Decides-and}
 use Rattle.card.specs.Finite.{sum_to, every}
-use Rattle.card.proofs.BitLaws.{lt_or_ge}
-use Rattle.card.proofs.Decides.{Some, eq_is, and_is, every_is, any_is}
+use Rattle.card.proofs.Decides.{Some, every_is, any_is}
 use Rattle.card.proofs.Sums.{sum_same, sum_plus, sum_zero, sum_mono}
 use Rattle.card.specs.Finite.{one}
 use Rattle.runners.specs.Calls.{names, each_once}
@@ -80,14 +81,14 @@ pub record Once (S : ℕ) (order : List ℕ) : Type 0 where
 
 pub once : (S : ℕ) (order : List ℕ) → each_once S order ≡ true → Once S order
 unfolding each_once
-once S order e = record { size = h.0; below = λ i l. small i l (lt_or_ge (get_or order i 0) S); named = named }
+once S order e = record { size = h.0; below = λ i l. small i l (cases_lt (get_or order i 0) S); named = named }
   where
     Stands : ℕ → Type 0
     Stands s = Some (length order) (λ i. get_or order i 0 ≡ s)
 
     h : (length order ≡ S) × ((s : ℕ) → s < S → Stands s)
-    h = (and_is (eqb (length order) S) (every S (names order)) (length order ≡ S) ((s : ℕ) → s < S → Stands s) (eq_is (length order) S)
-        (every_is S (names order) Stands (λ s. any_is (length order) (λ i. eqb (get_or order i 0) s) (λ i. get_or order i 0 ≡ s) (λ i. eq_is (get_or order i 0) s)))).0 e
+    h = (Decides-and (eqb (length order) S) (every S (names order)) (Decides-eqb (length order) S)
+        (every_is S (names order) Stands (λ s. any_is (length order) (λ i. eqb (get_or order i 0) s) (λ i. get_or order i 0 ≡ s) (λ i. Decides-eqb (get_or order i 0) s)))).0 e
 
     small : (i : ℕ) → i < S → (get_or order i 0 < S) ⊎ (S ≤ get_or order i 0) → get_or order i 0 < S
     small i l (inl q) = q

@@ -8,10 +8,12 @@ use lib.Pow.{pow-lt, shl-shr}
 use lib.Bits.{bit_or, or_step, or_shr, or_lt}
 use lib.Count.{ones, ones_step}
 use borrow.Author.Tests.{eqb-false}
+use Rattle.std.proofs.lemmas.Bool.Decides.{nat_tests}
+use Rattle.std.proofs.Math.Bool.{and-true, and-false}
 use Rattle.card.specs.Finite.{sum_to, every, any}
 use Rattle.card.proofs.Sums.{sum_same, sum_zero, sum_front, sum_mono}
 use Rattle.card.specs.Finite.{one}
-use Rattle.hierarchy.proofs.WalkLaws.{and_no, and_yes, any_one}
+use Rattle.hierarchy.proofs.WalkLaws.{any_one}
 use Rattle.runners.specs.Calls.{names, each_once}
 
 -- the digit of a at place k
@@ -100,11 +102,7 @@ ones_le (suc n) f = go (f n) (ones_le n f)
     go false h = omega arith
 
 suc_eqb : (a b : ℕ) → eqb (suc a) (suc b) ≡ eqb a b
-suc_eqb a b = go (eqb a b) refl
-  where
-    go : (t : Bool) → eqb a b ≡ t → eqb (suc a) (suc b) ≡ eqb a b
-    go true e = eq-eqb (suc a) (suc b) (ap suc (eqb-true a b e)) ∙ sym e
-    go false e = ne_eqb (suc a) (suc b) (λ q. eqb-false a b e (omega arith)) ∙ sym e
+suc_eqb a b = grind (arith, nat_tests)
 
 ones_every : (n : ℕ) (f : ℕ → Bool) → eqb (sum_to n (λ k. one (f k))) n ≡ every n f
 unfolding sum_to every
@@ -113,8 +111,8 @@ ones_every (suc n) f = go (f n) (ones_every n f) (ones_le n f)
   where
     go : (b : Bool) → eqb (sum_to n (λ k. one (f k))) n ≡ every n f → sum_to n (λ k. one (f k)) ≤ n
         → eqb (sum_to n (λ k. one (f k)) + one b) (suc n) ≡ (every n f && b)
-    go true e h = rw add-one (suc_eqb (sum_to n (λ k. one (f k))) n ∙ e ∙ sym (and_yes (every n f)))
-    go false e h = ne_eqb (sum_to n (λ k. one (f k)) + 0) (suc n) (λ q. omega arith) ∙ sym (and_no (every n f))
+    go true e h = rw add-one (suc_eqb (sum_to n (λ k. one (f k))) n ∙ e ∙ sym (and-true (every n f)))
+    go false e h = ne_eqb (sum_to n (λ k. one (f k)) + 0) (suc n) (λ q. omega arith) ∙ sym (and-false (every n f))
 
 -- i entries name at most i numbers
 once_le : (n x : ℕ) → sum_to n (λ k. one (eqb x k)) ≤ 1

@@ -1,13 +1,15 @@
 -- Each transition of a card is one subnet's. Assumes nothing.
 use Rattle.std.proofs.Common.{◌≡◌, ℕ, suc, ◌+◌, ◌<◌, ◌≤◌, ◌⊎◌, length, refl, inl, inr, arith}
+use Rattle.std.proofs.lemmas.Bool.{cases_lt}
 use Rattle.card.specs.Finite.{sum_to}
 use Rattle.card.specs.Card.{Card, subnet_at, first_transition}
 use Rattle.card.specs.Index.{Lists}
-use Rattle.card.proofs.BitLaws.{lt_or_ge}
 use Rattle.card.proofs.Decides.{Some}
-use Rattle.card.proofs.Sums.{sum_mono, sum_owner}
+use Rattle.card.proofs.Sums.{sum_owner}
 use Rattle.hierarchy.specs.Conditions.{Meets}
 use Rattle.runners.specs.Visits.{OwnsTransition}
+use Rattle.card.proofs.Prefix.{transitions_below}
+use Rattle.card.proofs.Positions.{counted, transition_order}
 
 module _ (c : Card) where
   -- where a subnet's transitions end
@@ -19,16 +21,12 @@ module _ (c : Card) where
   pub own : (s k : ℕ) → k < (subnet_at c s).transitions → OwnsTransition c s (first_transition c s + k)
   own s k l = record { low = omega arith; high = omega (arith, next_first s) }
 
-  firsts_mono : (r s : ℕ) → r ≤ s → first_transition c r ≤ first_transition c s
-  unfolding first_transition
-  firsts_mono r s l = sum_mono r s (λ q. (subnet_at c q).transitions) l
-
   pub owner_unique : (r s t : ℕ) → OwnsTransition c r t → OwnsTransition c s t → r ≡ s
-  owner_unique r s t a b = go (lt_or_ge r s) (lt_or_ge s r)
+  owner_unique r s t a b = go (cases_lt r s) (cases_lt s r)
     where
       go : (r < s) ⊎ (s ≤ r) → (s < r) ⊎ (r ≤ s) → r ≡ s
-      go (inl l) m = absurd (omega (arith, a.high, b.low, firsts_mono (suc r) s l))
-      go (inr l) (inl m) = absurd (omega (arith, b.high, a.low, firsts_mono (suc s) r m))
+      go (inl l) m = absurd (omega (arith, a.high, b.low, transition_order c (suc r) s l))
+      go (inr l) (inl m) = absurd (omega (arith, b.high, a.low, transition_order c (suc s) r m))
       go (inr l) (inr m) = omega arith
 
   -- each transition of the card has an owner, and a number past the last has none
@@ -39,12 +37,8 @@ module _ (c : Card) where
         let o = sum_owner (length c.subnets) (λ s. (subnet_at c s).transitions) t (omega (arith, m.wellformed.rows.transition_count)) in
         (o.range, o.below, record { low = o.low; high = o.high })
 
-    pub firsts_below : (s : ℕ) → s ≤ length c.subnets → first_transition c s ≤ length c.transitions
-    unfolding first_transition
-    firsts_below s l = omega (arith, m.wellformed.rows.transition_count, sum_mono s (length c.subnets) (λ q. (subnet_at c q).transitions) l)
-
     pub owned_below : (s t : ℕ) → s < length c.subnets → OwnsTransition c s t → t < length c.transitions
-    owned_below s t l o = omega (arith, o.high, firsts_below (suc s) l)
+    owned_below s t l o = omega (arith, o.high, transitions_below c (counted c m.wellformed) (suc s) l)
 
     pub listed : (t : ℕ) → t < length c.transitions → Some (length c.subnets) (λ s. Lists c s t)
     listed t l = let o = owner t l in (o.0, o.1, record { subnet = o.1; first = o.2.low; last = o.2.high })

@@ -1,23 +1,15 @@
 -- A list piece by piece. Assumes nothing.
-use Rattle.std.proofs.Common.{◌≡◌, ℕ, suc, ◌+◌, ◌-◌, ◌*◌, ◌/◌, ◌<◌, ◌≤◌, min, ◌⊎◌, List, [], ◌∷◌, length, take, drop, sym, ap, ◌∙◌, ap₂, inl, inr, arith, length-drop, drop_of_length-le, length-take, length-take-le, take_all, drop-drop, take-add, drop_at}
+use Rattle.std.proofs.Common.{◌≡◌, ℕ, suc, ◌+◌, ◌-◌, ◌*◌, ◌/◌, ◌<◌, ◌≤◌, min, ◌⊎◌, List, [], ◌∷◌, length, take, drop, sym, ap, ◌∙◌, ap₂, inl, inr, arith, length-drop, drop_of_length-le, take_all, drop-drop}
 use native.Mathlib.Nat.{div-eq_of_lt, add-div_right}
-use lib.Seq.{slice, take-nil}
+use lib.Seq.{slice}
+use Rattle.std.proofs.lemmas.Bool.{cases_lt}
+use Rattle.std.proofs.lemmas.List.{drop-take}
 use Rattle.card.specs.Finite.{table}
-use Rattle.card.proofs.BitLaws.{lt_or_ge}
 use Rattle.card.proofs.Prefix.{table_shift, table_same}
 use Rattle.runners.specs.Rows.{pieces}
 
 drop_take : (n b : ℕ) (file : List ℕ) → n ≤ b → drop n (take b file) ≡ take (b - n) (drop n file)
-drop_take n b file l = go (lt_or_ge (length file) n)
-  where
-    go : (length file < n) ⊎ (n ≤ length file) → drop n (take b file) ≡ take (b - n) (drop n file)
-    go (inl h) =
-        let a : length (take b file) ≤ n = omega (arith, length-take b file) in
-        let d : length file ≤ n = omega arith in
-        drop_of_length-le (take b file) a ∙ sym (ap (take (b - n)) (drop_of_length-le file d) ∙ take-nil (b - n))
-    go (inr h) =
-        let e : b ≡ n + (b - n) = omega arith in
-        ap (λ (k : ℕ). drop n (take k file)) e ∙ ap (drop n) (take-add n (b - n) file) ∙ drop_at (take n file) (take (b - n) (drop n file)) n (length-take-le n file h)
+drop_take n b file l = ap (λ (k : ℕ). drop n (take k file)) (let e : b ≡ n + (b - n) = omega arith in e) ∙ drop-take n (b - n) file
 
 slice_shift : (n a b : ℕ) (file : List ℕ) → n ≤ b → slice (n + a) b file ≡ slice a (b - n) (drop n file)
 slice_shift n a b file l = sym (drop-drop a n (take b file)) ∙ ap (drop a) (drop_take n b file l)
@@ -36,7 +28,7 @@ pieces_more n file p l = ap (λ (k : ℕ). table 0 k piece) count ∙ ap₂ (λ 
     piece k = slice (n * k) (n * suc k) file
 
     count : (length file + n - 1) / n ≡ suc ((length (drop n file) + n - 1) / n)
-    count = go (lt_or_ge (length file) n)
+    count = go (cases_lt (length file) n)
       where
         go : (length file < n) ⊎ (n ≤ length file) → (length file + n - 1) / n ≡ suc ((length (drop n file) + n - 1) / n)
         go (inl h) =
@@ -66,7 +58,7 @@ pieces_more n file p l = ap (λ (k : ℕ). table 0 k piece) count ∙ ap₂ (λ 
 -- the piece as the code takes it, and what comes after it
 module _ (rows : List ℕ) (from size to : ℕ) (l : from ≤ length rows) (e : to ≡ from + min size (length rows - from)) where
   few : min size (length rows - from) ≤ length rows - from
-  few = go (lt_or_ge size (length rows - from))
+  few = go (cases_lt size (length rows - from))
     where
       go : (size < length rows - from) ⊎ (length rows - from ≤ size) → min size (length rows - from) ≤ length rows - from
       go (inl h) = omega arith
@@ -76,14 +68,14 @@ module _ (rows : List ℕ) (from size to : ℕ) (l : from ≤ length rows) (e : 
   to_few = omega (arith, few)
 
   pub piece_is : take (to - from) (drop from rows) ≡ take size (drop from rows)
-  piece_is = go (lt_or_ge size (length rows - from))
+  piece_is = go (cases_lt size (length rows - from))
     where
       go : (size < length rows - from) ⊎ (length rows - from ≤ size) → take (to - from) (drop from rows) ≡ take size (drop from rows)
       go (inl h) = ap (λ (k : ℕ). take k (drop from rows)) (let i : to - from ≡ size = omega arith in i)
       go (inr h) = take_all (to - from) (drop from rows) (omega (arith, length-drop from rows)) ∙ sym (take_all size (drop from rows) (omega (arith, length-drop from rows)))
 
   pub rest_is : drop size (drop from rows) ≡ drop to rows
-  rest_is = go (lt_or_ge size (length rows - from))
+  rest_is = go (cases_lt size (length rows - from))
     where
       go : (size < length rows - from) ⊎ (length rows - from ≤ size) → drop size (drop from rows) ≡ drop to rows
       go (inl h) = drop-drop size from rows ∙ ap (λ (k : ℕ). drop k rows) (let i : from + size ≡ to = omega arith in i)

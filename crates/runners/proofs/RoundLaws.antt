@@ -1,9 +1,9 @@
 -- The rounds, visit by visit in the order that was lent: each visit is in its turn, after the first n visits their subnets' part of the step is
 -- done and nothing else, and after all of them the whole round's. Assumes nothing.
 use Rattle.std.proofs.Common.{◌≡◌, ℕ, ◌+◌, ◌<◌, ◌≤◌, true, false, ◌⊎◌, List, length, get_or, sym, refl, ap, ◌∙◌, subst, inl, inr, add-one, arith}
+use Rattle.std.proofs.lemmas.Bool.{cases_lt}
 use Rattle.card.specs.Finite.{sum_to}
 use Rattle.card.specs.Card.{Card, draws, fills}
-use Rattle.card.proofs.BitLaws.{lt_or_ge}
 use Rattle.card.proofs.Decides.{Some}
 use Rattle.hierarchy.specs.Conditions.{Meets}
 use Rattle.flattening.specs.Flattening.{flatten}
@@ -23,7 +23,7 @@ use Rattle.runners.proofs.VisitLaws.{effects_sum}
 
 -- n + 1 visits are n visits and one
 up_to : (n j : ℕ) → j < n + 1 → (j < n) ⊎ (j ≡ n)
-up_to n j l = go (lt_or_ge j n)
+up_to n j l = go (cases_lt j n)
   where
     go : (j < n) ⊎ (n ≤ j) → (j < n) ⊎ (j ≡ n)
     go (inl m) = inl m
@@ -231,17 +231,21 @@ module _ (c : Card) (row : List ℕ) (before : NetState) (order : List ℕ) (o :
           transfers = set_more Idle _ c order o n a.state.transfers b.state.transfers e.state.transfers l g.transfers d.long d.own u.transfers;
         }
 
+pub round_more : (r : Round) (c : Card) (row order : List ℕ) (n : ℕ) (a b e : Work) (before : NetState) → Meets c → each_once (length c.subnets) order ≡ true → n < length order
+    → ((s : ℕ) → s < length c.subnets → InTurn r s (turn_in c row a) before) → DoesTo r (step_turn c before row) order n a b
+    → IsVisit r (get_or order n 0) c row b e → DoesTo r (step_turn c before row) order (n + 1) a e
+round_more r c row order n a b e before m o l t g v =
+    let below = visited (length c.subnets) order n o l in
+    let f = v m below in
+    let w = still_in_turn c row before order o n l a b r (t (get_or order n 0) below) g in
+    more c row before order o n l a b e r g (f.right before w) f.elsewhere
+
 -- After the first n visits, from where each subnet was in its turn, their part of the step is done.
 abbrev pub IsRoundTo : Round → (order : List ℕ) → (n : ℕ) → Card → (row : List ℕ) → (a a' : Work) → Type 0
 IsRoundTo r order n c row a a' =
     (before : NetState) → Meets c → each_once (length c.subnets) order ≡ true
     → ((s : ℕ) → s < length c.subnets → InTurn r s (turn_in c row a) before) → DoesTo r (step_turn c before row) order n a a'
 
-pub round_more : (r : Round) (c : Card) (row order : List ℕ) (n : ℕ) (a b e : Work) → n < length order
+pub round_to_more : (r : Round) (c : Card) (row order : List ℕ) (n : ℕ) (a b e : Work) → n < length order
     → IsRoundTo r order n c row a b → IsVisit r (get_or order n 0) c row b e → IsRoundTo r order (n + 1) c row a e
-round_more r c row order n a b e l g v before m o t =
-    let below = visited (length c.subnets) order n o l in
-    let f = v m below in
-    let h = g before m o t in
-    let w = still_in_turn c row before order o n l a b r (t (get_or order n 0) below) h in
-    more c row before order o n l a b e r h (f.right before w) f.elsewhere
+round_to_more r c row order n a b e l g v before m o t = round_more r c row order n a b e before m o l t (g before m o t) v

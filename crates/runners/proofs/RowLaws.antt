@@ -2,7 +2,7 @@
 use Rattle.std.proofs.Common.{◌≡◌, ℕ, ◌≤◌, true, not, List, length, sym, refl, ap, ◌∙◌, subst}
 use Rattle.std.specs.Prelude.{Option, Some, None, Result, Ok, Err}
 use mathlib.Core.Option as Math
-use mathlib.Core.Option.{none, some}
+use mathlib.Core.Option.{none}
 use Rattle.card.specs.Card.{Card}
 use Rattle.card.specs.Finite.{lowest}
 use Rattle.hierarchy.specs.Conditions.{Meets}
@@ -23,7 +23,7 @@ use Rattle.runners.specs.declared.Refusal.TheVariants.{Conflict}
 use Rattle.runners.specs.declared.work.Work.{Work}
 use Rattle.runners.proofs.EffectiveLaws.{effective_fits}
 use Rattle.runners.proofs.GuardLaws.{few_used}
-use Rattle.runners.proofs.StepRow.{valid_counts, shown, made}
+use Rattle.runners.proofs.StepRow.{valid_counts, row_conflict, shown, made}
 
 -- The step, on a card that is the net's.
 module _ (c : Card) (m : Meets c) (l : Lent) (v : valid (flatten c) l ≡ true) (order : List ℕ) (o : each_once (length c.subnets) order ≡ true) (row : List ℕ) (d : Card) (ed : d ≡ c) (w k₁ k₂ : Work)
@@ -41,17 +41,13 @@ module _ (c : Card) (m : Meets c) (l : Lent) (v : valid (flatten c) l ≡ true) 
   abbrev Settled : RowOutcome × Lent → Type 0
   Settled x = x ≡ settle (Math.map Conflict (conflict (flatten c) (view l) row)) l (store l (next (flatten c) (view l) row))
 
-  conflict_is : found_of q ≡ conflict (flatten c) (view l) row
-  conflict_is = shown c m l v order o row k₁ k₂ first second full fu q told
-
   pub step_refused : (i : ℕ) → q ≡ Some i → Settled (refusal (Conflict i), l)
-  step_refused i e = rw (sym conflict_is ∙ ap found_of e) refl
+  step_refused i e = row_conflict (flatten c) (view l) row q (shown c m l v order o row k₁ k₂ first second full fu q told) i e l (store l (next (flatten c) (view l) row))
 
   pub step_made : q ≡ None → (k₃ : Work) (r3 : IsRound moving order d row k₂ k₃) → length row ≡ c.signals → length l.markings ≡ 255 → length l.transfers ≡ 255
       → (s : Lent) → s ≡ with_degrees k₃.state row → Settled (ok, s)
   step_made e k₃ r3 rl ml xl s es =
-      let third = subst (λ (k : Card). IsRound moving order k row k₂ k₃) ed r3 in
-      rw (sym conflict_is ∙ ap found_of e) (ap (λ (x : Lent). (ok, x)) (es ∙ made c m l v order o row k₁ k₂ first second full fu q told e k₃ third rl ml xl))
+      made c m l v order o row k₁ k₂ first second full fu q told e k₃ (subst (λ (k : Card). IsRound moving order k row k₂ k₃) ed r3) rl ml xl s es
 
 -- 20 and 21, then the step on the effective row
 module _ (c : Card) (l : Lent) (row : List ℕ) (d : Card) (ed : d ≡ c) (r : Result (Unit {0}) Refusal) (e : refusal_in r ≡ row_fault (flatten d) row) where

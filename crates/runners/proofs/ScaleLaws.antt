@@ -1,7 +1,6 @@
 -- All that is used of the scale. Assumes nothing.
 use Rattle.std.proofs.Common.{◌≡◌, ◌<◌, ◌≤◌, refl, arith}
 use Rattle.card.specs.Card.{Card}
-use Rattle.flattening.specs.Flattening.{flatten}
 use Rattle.runners.specs.State.{scale}
 
 pub scale_some : (f : Card) → 0 < scale f
@@ -17,6 +16,3 @@ scale_few f = omega arith
 pub scale_same : (c d : Card) → scale c ≡ scale d
 unfolding scale
 scale_same c d = refl
-
-pub scale_flat : (c : Card) → scale (flatten c) ≡ scale c
-scale_flat c = scale_same (flatten c) c

@@ -1,8 +1,8 @@
 -- What a visit does for its transitions, one after another. Assumes nothing.
 use Rattle.std.proofs.Common.{◌≡◌, ℕ, suc, ◌+◌, ◌-◌, ◌*◌, ◌<◌, ◌≤◌, min, Bool, cond, ◌⊎◌, List, length, get_or, set, sym, refl, ap, ◌∙◌, subst, subst₂, inl, inr, arith, length-set, get_or-set_other, get_or-set_same}
+use Rattle.std.proofs.lemmas.Bool.{cases_lt}
 use Rattle.card.specs.Finite.{sum_to}
 use Rattle.card.specs.Card.{Card, draws, fills, subnet_at, first_transition}
-use Rattle.card.proofs.BitLaws.{lt_or_ge}
 use Rattle.hierarchy.specs.Conditions.{Meets}
 use Rattle.flattening.specs.Flattening.{flatten}
 use Rattle.runners.specs.State.{entry, transfer, remaining, incidence}
@@ -21,7 +21,7 @@ use Rattle.runners.proofs.VisitLaws.{no_effect, facts}
 -- A list of which the entries from first on are set, one after another.
 module _ {A : Type 0} (d : A) (good : ℕ → A) (first t : ℕ) (a b : List A) (low : first ≤ t) (long : length b ≡ length a) where
   pub set_own : ((u : ℕ) → first ≤ u → u < t → u < length a → get_or b u d ≡ good u) → (u : ℕ) → first ≤ u → u < t + 1 → u < length a → get_or (set b t (good t)) u d ≡ good u
-  set_own h u l k n = go (lt_or_ge u t)
+  set_own h u l k n = go (cases_lt u t)
     where
       go : (u < t) ⊎ (t ≤ u) → get_or (set b t (good t)) u d ≡ good u
       go (inl q) = get_or-set_other b t u (good t) d (λ z. omega arith) ∙ h u l q n

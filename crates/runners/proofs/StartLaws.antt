@@ -4,7 +4,7 @@ use Rattle.std.proofs.Common.{◌≡◌, ℕ, ◌+◌, ◌<◌, ◌≤◌, min, 
 use borrow.Author.Tests.{lt-leb}
 use Rattle.card.specs.Finite.{some_if}
 use Rattle.card.specs.Card.{Arc, Card, draws, fills, first_arc, transition_at, with_version}
-use Rattle.card.proofs.LongInput.{first_same}
+use Rattle.card.proofs.SearchLaws.{first_same}
 use Rattle.card.proofs.Sums.{sum_same, table_at}
 use Rattle.card.proofs.Prefix.{table_same}
 use Rattle.runners.specs.State.{NetState, scale, fresh, transfer, remaining, incidence, flow, owed, due, claims, covered}

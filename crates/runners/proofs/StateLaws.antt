@@ -4,19 +4,21 @@ use Rattle.std.proofs.Common.{◌≡◌, ℕ, ◌+◌, ◌*◌, ◌<◌, ◌≤�
 use mathlib.Core.Logic.Iff
 use mathlib.Core.Option.{none, map-eq-none_iff}
 use borrow.Author.Tests.{eqb-false}
+use Rattle.std.proofs.lemmas.Bool.Decides.{Decides-eqb, Decides-ltb, Decides-and, Decides-or}
+use Rattle.std.specs.Bool.{Decides}
 use Rattle.card.specs.Finite.{lowest}
 use Rattle.card.specs.Card.{Card, draws, fills, place_at}
 use Rattle.card.proofs.Sums.{sum_zero, table_at, table_length}
-use Rattle.card.proofs.Decides.{Decides, Clears, lt_is, le_is, eq_is, and_is, or_is, every_is, some_unless_is, otherwise_is, some_if_is, first_of_is}
+use Rattle.card.proofs.Decides.{Clears, le_is, every_is, some_unless_is, otherwise_is, some_if_is, first_of_is}
 use Rattle.runners.specs.State.{NetState, scale, entry, transfer, fresh, remaining, flow, owed, due}
-use Rattle.runners.specs.Step.{candidate, started_on, advanced, arrives_by, next_by, started, conflict, asked_on, moves_on, arrives_on, moves, next}
+use Rattle.runners.specs.Step.{candidate, started_on, advanced, arrives_by, next_by, started, conflict, moves, next}
 use Rattle.runners.specs.Rows.{row_fault, row_conflict, row_refusal}
 use Rattle.runners.specs.Calls.{in_range, consistent}
 use Rattle.runners.specs.declared.Transfer.{Transfer}
 use Rattle.runners.specs.declared.Transfer.TheVariants.{Idle, Carrying}
 use Rattle.runners.specs.declared.Refusal.TheVariants.{BadDegree, Conflict}
 use Rattle.runners.proofs.ScaleLaws.{scale_some}
-use Rattle.runners.proofs.StepLaws.{Covered, covered_is, Covers, Within, within_by, safe_by, conflict_is, moves_few}
+use Rattle.runners.proofs.StepLaws.{Covered, covered_is, Covers, Within, safe_by, conflict_is, moves_few}
 
 abbrev pub InRange : Card → Transfer → Type 0
 InRange f Idle = Unit {0}
@@ -24,7 +26,7 @@ InRange f (Carrying c) = c < scale f
 
 pub in_range_is : (f : Card) (x : Transfer) → Decides (in_range f x) (InRange f x)
 in_range_is f Idle = (λ h. tt, λ h. refl)
-in_range_is f (Carrying c) = lt_is c (scale f)
+in_range_is f (Carrying c) = Decides-ltb c (scale f)
 
 pub record Consistent (f : Card) (s : NetState) : Type 0 where
   pub places : (p : ℕ) → p < length f.places → Covered f s.markings s.transfers p
@@ -34,7 +36,7 @@ pub record Consistent (f : Card) (s : NetState) : Type 0 where
 pub consistent_is : (f : Card) (s : NetState) → Decides (consistent f s) (Consistent f s)
 unfolding consistent
 consistent_is f s =
-    Iff.trans (and_is _ _ _ _ (and_is _ _ _ _ (every_is (length f.places) _ _ (covered_is f s.markings s.transfers))
+    Iff.trans (Decides-and _ _ (Decides-and _ _ (every_is (length f.places) _ _ (covered_is f s.markings s.transfers))
     (every_is (length f.transitions) _ _ (λ t. in_range_is f (transfer s.transfers t))))
     (every_is f.signals _ _ (λ g. le_is (entry s.degrees g) (scale f))))
     (λ h. record { places = h.0.0; transfers = h.0.1; degrees = h.1 }, λ h. ((h.places, h.transfers), h.degrees))
@@ -100,13 +102,13 @@ pub record Fits (f : Card) (s : NetState) (row : List ℕ) : Type 0 where
 
 low_degrees : (f : Card) (row : List ℕ) → Clears (lowest 0 f.signals (λ g. ltb (scale f) (entry row g))) ((g : ℕ) → g < f.signals → entry row g ≤ scale f)
 low_degrees f row =
-    Iff.trans (first_of_is 0 f.signals _ _ (λ g. some_if_is _ _ _ (lt_is (scale f) (entry row g))))
+    Iff.trans (first_of_is 0 f.signals _ _ (λ g. some_if_is _ _ _ (Decides-ltb (scale f) (entry row g))))
     (λ h g l. omega (arith, h g (omega arith) (omega arith)), λ h g a b. omega (arith, h g (omega arith)))
 
 pub fault_is : (f : Card) (row : List ℕ) → Clears (row_fault f row) (((length row ≡ 0) ⊎ (length row ≡ f.signals)) × ((g : ℕ) → g < f.signals → entry row g ≤ scale f))
 unfolding row_fault
 fault_is f row =
-    otherwise_is _ _ _ _ (some_unless_is _ _ _ (or_is _ _ _ _ (eq_is (length row) 0) (eq_is (length row) f.signals)))
+    otherwise_is _ _ _ _ (some_unless_is _ _ _ (Decides-or _ _ (Decides-eqb (length row) 0) (Decides-eqb (length row) f.signals)))
     (Iff.trans (map-eq-none_iff BadDegree _) (low_degrees f row))
 
 pub fits_is : (f : Card) (s : NetState) (row : List ℕ) → Clears (row_refusal f s row) (Fits f s row)
@@ -147,9 +149,6 @@ module _ (f : Card) (start : ℕ → Bool) (amount : ℕ → ℕ) (s : NetState)
       }
 
 module _ (f : Card) (s : NetState) (row : List ℕ) (h : Consistent f s) where
-  pub arrived_range : (t : ℕ) → t < length f.transitions → InRange f (arrives_on f (candidate f s row) s row t)
-  arrived_range t l = range_by f (candidate f s row) (moves_on f (candidate f s row) s row) s h (within_by f (candidate f s row) (asked_on f (candidate f s row) s.degrees row) s) t l
-
   -- A ROW WITHOUT A CONFLICT KEEPS A CONSISTENT STATE CONSISTENT
   pub next_consistent : conflict f s row ≡ none → ((g : ℕ) → g < f.signals → entry row g ≤ scale f) → Consistent f (next f s row)
   unfolding next started

@@ -3,11 +3,13 @@
 use Rattle.std.proofs.Common.{◌≡◌, ℕ, ◌+◌, ◌-◌, ◌*◌, ◌<◌, ◌≤◌, Bool, true, false, cond, eqb, ◌↔◌, List, length, refl, ◌∙◌, arith, eqb-true}
 use mathlib.Core.Logic.Iff
 use mathlib.Core.Option.{none}
+use Rattle.std.proofs.lemmas.Bool.Decides.{Decides-and}
+use Rattle.std.specs.Bool.{Decides}
 use Rattle.card.proofs.Sums.{sum_same, sum_plus, table_at}
-use Rattle.card.proofs.Decides.{Decides, le_is, and_is, some_if_not_is, first_of_is}
+use Rattle.card.proofs.Decides.{le_is, some_if_not_is, first_of_is}
 use Rattle.card.specs.Card.{Card, draws, fills}
 use Rattle.runners.specs.State.{NetState, scale, entry, transfer, remaining, incidence, flow, owed, due, full_marking, covered}
-use Rattle.runners.specs.Step.{candidate, started_on, started_by, conflict_by, moves_by, advanced, arrives_by, next_by, started, conflict, moves, next}
+use Rattle.runners.specs.Step.{candidate, started_on, started_by, conflict_by, advanced, arrives_by, next_by, started, conflict, moves, next}
 use Rattle.runners.specs.declared.Transfer.{Transfer}
 use Rattle.runners.specs.declared.Transfer.TheVariants.{Idle, Carrying}
 
@@ -19,7 +21,7 @@ pub record Covered (f : Card) (ms : List ℕ) (xs : List Transfer) (p : ℕ) : T
 pub covered_is : (f : Card) (ms : List ℕ) (xs : List Transfer) (p : ℕ) → Decides (covered f ms xs p) (Covered f ms xs p)
 unfolding covered
 covered_is f ms xs p =
-    Iff.trans (and_is _ _ _ _ (le_is (owed f xs p) (entry ms p)) (le_is (entry ms p + due f xs p) (full_marking f p)))
+    Iff.trans (Decides-and _ _ (le_is (owed f xs p) (entry ms p)) (le_is (entry ms p + due f xs p) (full_marking f p)))
     (λ h. record { has = h.0; space = h.1 }, λ h. (h.has, h.space))
 
 -- every place is covered with the claims of those that start
@@ -51,9 +53,6 @@ remaining_advanced f (Carrying c) d h = go (eqb (c + d) (scale f)) refl
     go : (b : Bool) → eqb (c + d) (scale f) ≡ b → scale f - c ≡ remaining f (cond b Idle (Carrying (c + d))) + d
     go true e = omega (arith, eqb-true (c + d) (scale f) e)
     go false e = omega arith
-
-pub within_by : (f : Card) (start : ℕ → Bool) (asked : ℕ → ℕ) (s : NetState) → Within f start (moves_by f start asked s.transfers) s
-within_by f start asked s t l = omega arith
 
 -- A STEP OF ANY STARTS AND ANY AMOUNTS
 module _ (f : Card) (start : ℕ → Bool) (amount : ℕ → ℕ) (s : NetState) (row : List ℕ) (within : Within f start amount s) where

@@ -4,9 +4,10 @@ use Rattle.std.proofs.Common.{◌≡◌, ℕ, ◌<◌, Bool, true, false, ◌||�
 use mathlib.Core.Logic.Iff
 use mathlib.Core.Option
 use mathlib.Core.Option.{Option, none, some, some-ne-none}
+use Rattle.std.proofs.lemmas.Bool.Decides.{Decides-eqb, Decides-and}
+use Rattle.std.specs.Bool.{Decides}
 use Rattle.card.specs.Finite.{All, some_unless, lowest, ◌otherwise◌}
 use Rattle.card.specs.Card.{Card}
-use Rattle.card.proofs.Decides.{Decides, eq_is, and_is}
 use Rattle.runners.specs.Numbers.{RowOutcome, refusal}
 use Rattle.runners.specs.State.{NetState, scale, entry}
 use Rattle.runners.specs.Rows.{settle, row_fault, row_conflict, row_next, row_refusal, degrees, no_row, Ask, row, Act, act_of, perform}
@@ -36,8 +37,8 @@ pub record Valid (f : Card) (l : Lent) : Type 0 where
 pub valid_is : (f : Card) (l : Lent) → Decides (valid f l) (Valid f l)
 unfolding valid_in
 valid_is f l =
-    Iff.trans (and_is _ _ _ _ (and_is _ _ _ _ (and_is _ _ _ _ (eq_is l.places (length f.places)) (eq_is l.transitions (length f.transitions)))
-    (eq_is l.signals f.signals)) (consistent_is f (view l))) (
+    Iff.trans (Decides-and _ _ (Decides-and _ _ (Decides-and _ _ (Decides-eqb l.places (length f.places)) (Decides-eqb l.transitions (length f.transitions)))
+    (Decides-eqb l.signals f.signals)) (consistent_is f (view l))) (
       λ h. record { counts = record { places = h.0.0.0; transitions = h.0.0.1; signals = h.0.1 }; consistent = h.1 },
       λ h. (((h.counts.places, h.counts.transitions), h.counts.signals), h.consistent),
     )

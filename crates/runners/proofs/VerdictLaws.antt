@@ -32,9 +32,9 @@ not_none true p e = refl
 not_none false p e = absurd (some-ne-none p e)
 
 -- no number fails a test just where none that does is found
-pub none_fails : (n : ℕ) (a b : ℕ → Bool) → ((p : ℕ) → p < n → a p ≡ b p) → (r : Option ℕ) → found_of r ≡ lowest 0 n (λ p. not (a p)) → not (is_some r) ≡ every n b
-none_fails n a b h None e =
+pub verdict_is : (n : ℕ) (a b : ℕ → Bool) → ((p : ℕ) → p < n → a p ≡ b p) → (r : Option ℕ) → found_of r ≡ lowest 0 n (λ p. not (a p)) → not (is_some r) ≡ every n b
+verdict_is n a b h None e =
     sym (every_all n n b (λ p l. sym (h p l) ∙ not_none (a p) p (none_at 0 n (λ i. some_if (not (a i)) i) (sym e) p (omega arith) (omega arith))) (omega arith))
-none_fails n a b h (Some p) e =
+verdict_is n a b h (Some p) e =
     let l : p < n = omega (arith, lowest_below 0 n (λ i. not (a i)) p (sym e)) in
     sym (every_none n p b l (sym (h p l) ∙ not-true (a p) (lowest_passes 0 n (λ i. not (a i)) p (sym e))))

@@ -25,7 +25,7 @@ pub fn entry_at(column: &[u32], p: usize) -> u64
     u64::from(column.get(p).copied().unwrap_or(0))
 }
 
-// Adds v to entry p, in 32 bits, which go round. No accepted card's claims come near more. By index: of a write through get_mut no proof was found.
+// Adds v to entry p, in 32 bits, which go round. No accepted card's claims come near more. By index, here and below: of a write through get_mut no proof was found.
 fn add_at(column: &mut [u32], p: usize, v: u32)
     ensures { Grown column.old column.new (share 0 0 p v) }
 {
@@ -110,15 +110,14 @@ impl Claims {
 }
 
 // Transition t changes them by this part of its weights, in thousandths. One that changes nothing costs nothing.
+#[tactic(auto, using(crate::proofs::ClaimLaws::no_weights, crate::proofs::ClaimLaws::weights_all))]
 pub fn change_by<C: ByPlace>(columns: &mut C, card: &CardView<'_>, t: u16, part: u16)
     ensures { C.changed columns.old columns.new (λ p. part * incidence (flatten card.now) draws t p) (λ p. part * incidence (flatten card.now) fills t p) }
 {
     if part == 0 {
         return;
     }
-    let arcs = card.arcs(t);
-    for j in 0..card.transition(t).arcs {
-        let arc = arcs.get(j);
+    for arc in card.arcs(t) {
         let v = u32::from(part) * u32::from(arc.weight);
         columns.change(arc.direction, card.flat_place(arc), v);
     }

@@ -1,19 +1,28 @@
 // The fresh state of a card.
-ghost use Rattle.std.specs.Prelude.{◌≡◌, ◌≤◌, true, length};
+ghost use Rattle.std.specs.Prelude.{◌≡◌, true, length};
 ghost use Rattle.card.specs.Tables.{has_room};
 ghost use Rattle.hierarchy.specs.Conditions.{Meets};
 ghost use Rattle.flattening.specs.Flattening.{flatten};
 ghost use Rattle.runners.specs.Calls.{fresh_lent, fresh_call};
-ghost use Rattle.runners.specs.Answers.{IsFresh};
+ghost use Rattle.runners.specs.Answers.{IsFreshState};
 
 use crate::places::{Tokens, by_place};
 use crate::{State, Transfer};
+use card::room::with_table;
 use card::view::CardView;
-use card::{MOST_SIGNALS, MOST_TRANSITIONS, SMALL_CARD, SMALL_TABLE, TABLE};
+use card::{Counts, MOST_SIGNALS, MOST_TRANSITIONS};
 use hierarchy::CardRefusal;
 use hierarchy::check::load;
 
+// How many subnets, places and transitions an accepted card has, and its fresh state.
+#[derive(Clone, Copy)]
+pub struct FreshState {
+    pub counts: Counts,
+    pub state: State,
+}
+
 // The first tokens of each place, idle transitions, and degrees of zero.
+#[tactic(auto, using(crate::proofs::FreshLaws::fresh_is))]
 fn fresh_state(card: &CardView<'_>) -> State
     requires { Meets card.now }
     ensures { result ≡ fresh_lent (flatten card.now) }
@@ -28,24 +37,23 @@ fn fresh_state(card: &CardView<'_>) -> State
     }
 }
 
-// The fresh state, with the card's numbers in a table of this size, which has room for them.
-fn fresh_in<const SIZE: usize>(card: &[u8]) -> Result<State, CardRefusal>
-    requires room { has_room (length card.now) SIZE ≡ true }
-    requires small { SIZE ≤ TABLE }
-    ensures { IsFresh (fresh_call card.now) result }
+// The fresh state, with a table for the card's numbers that has room for them.
+#[tactic(auto, using(crate::proofs::NetLaws::loaded_meets, crate::proofs::FreshLaws::fresh_refused, crate::proofs::FreshLaws::fresh_accepted))]
+fn fresh_in(card: &[u8], numbers: &mut [u16]) -> Result<FreshState, CardRefusal>
+    requires { has_room (length card.now) (length numbers.old) ≡ true }
+    ensures { IsFreshState (fresh_call card.now) result }
 {
-    let mut numbers = [0; SIZE];
-    let checked = load(card, &mut numbers)?;
-    Ok(fresh_state(&CardView::new(&numbers, &checked.starts, checked.counts)))
+    let index = load(card, numbers)?;
+    Ok(FreshState {
+        counts: index.counts(),
+        state: fresh_state(&index.view(numbers)),
+    })
 }
 
-// The fresh state of a card. Two wrong ones that this rules out: one that counts first tokens as thousandths, and one that makes a state of a
+// The fresh state of a card, and the check's counts. Two wrong ones that this rules out: one that counts first tokens as thousandths, and one that makes a state of a
 // refused card.
-pub fn fresh(card: &[u8]) -> Result<State, CardRefusal>
-    ensures { IsFresh (fresh_call card.now) result }
+pub fn fresh(card: &[u8]) -> Result<FreshState, CardRefusal>
+    ensures { IsFreshState (fresh_call card.now) result }
 {
-    if card.len() <= SMALL_CARD {
-        return fresh_in::<SMALL_TABLE>(card);
-    }
-    fresh_in::<TABLE>(card)
+    with_table(card.len(), &mut |numbers| fresh_in(card, numbers))
 }

@@ -27,6 +27,7 @@ fn high_degree(card: &CardView<'_>, row: &[u16]) -> Option<usize>
 
 // 20 and 21: no degrees, or one for each signal and none above 1000. Two wrong tests that this rules out: one that names the highest such
 // signal, and one that refuses the empty row.
+#[tactic(auto, using(crate::proofs::GuardLaws::same_signals, crate::proofs::GuardLaws::row_empty, crate::proofs::GuardLaws::row_long))]
 pub fn row_test(card: &CardView<'_>, row: &[u16]) -> Result<(), Refusal>
     ensures { refusal_in result ≡ row_fault (flatten card.now) row.now }
 {
@@ -82,6 +83,7 @@ fn all_covered(net: &NetView<'_>, state: &State) -> bool
     .is_none()
 }
 
+#[tactic(auto, using(crate::proofs::GuardLaws::flat_fits))]
 fn has_counts(card: &CardView<'_>, state: &State) -> bool
     ensures { result ≡ in_state.fits (flatten card.now) state.now }
 {
@@ -90,6 +92,7 @@ fn has_counts(card: &CardView<'_>, state: &State) -> bool
         && state.signals == card.signals() as usize
 }
 
+#[tactic(auto, using(crate::proofs::GuardLaws::none_covered, crate::proofs::GuardLaws::none_ranged, crate::proofs::GuardLaws::few_used))]
 fn is_consistent(net: &NetView<'_>, state: &State) -> bool
     ensures { Counts net.now state.now → result ≡ consistent (flatten net.now) (view state.now) }
 {
@@ -99,6 +102,7 @@ fn is_consistent(net: &NetView<'_>, state: &State) -> bool
 }
 
 // Whether a lent state has the counts, the cover and the ranges of a net.
+#[tactic(auto, using(crate::proofs::GuardLaws::unfit))]
 fn is_valid(net: &NetView<'_>, state: &State) -> bool
     ensures { result ≡ valid (flatten net.now) state.now }
 {

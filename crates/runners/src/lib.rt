@@ -22,7 +22,7 @@ mod verdict;
 mod visits;
 mod work;
 
-// A transition is idle, or carrying and has come so many thousandths of its way.
+// A transition is idle, or carrying and has come so many thousandths of its way. An enum of its own and no `Option`: the cases are the paper's.
 #[derive(Clone, Copy, PartialEq, Eq)]
 pub enum Transfer {
     Idle,
@@ -30,7 +30,7 @@ pub enum Transfer {
 }
 
 // A lent state: markings by flat place, transfers by flat transition, each signal's last degree. Of each array the net uses as many entries,
-// from the first on, as the number below says.
+// from the first on, as the number below says: there is no heap here, and a state has room for any net's.
 #[derive(Clone, Copy)]
 pub struct State {
     pub markings: [u32; MOST_PLACES],
@@ -42,7 +42,8 @@ pub struct State {
 }
 
 impl State {
-    // The entries that the net uses.
+    // The entries that the net uses. Two wrong ones that this rules out: one that hands out the whole array, and one that counts the markings by
+    // the transitions.
     pub fn markings(&self) -> &[u32]
         ensures value { result.now ≡ take self.now.places self.now.markings }
         ensures long { self.now.places ≤ MOST_PLACES → length result.now ≡ self.now.places }
@@ -79,7 +80,7 @@ pub enum Refusal {
     Conflict(usize),
 }
 
-// The reply, and the next state; where the row is refused, the state as it was.
+// The reply, and the next state; where the row is refused, the state as it was. Both are always there, so that it is no `Result`.
 #[derive(Clone, Copy)]
 pub struct RowAnswer {
     pub reply: Result<(), Refusal>,

@@ -13,18 +13,18 @@ ghost use Rattle.runners.specs.inner.Markings.{capacity, Filled};
 use crate::places::{Capacity, by_place};
 use crate::row::{NetView, called_row, loaded_row, tested};
 use crate::{RowAnswer, State};
+use card::index::CardIndex;
 use card::view::CardView;
-use card::{Counts, MOST_PLACES, STARTS, TABLE};
+use card::{MOST_PLACES, TABLE};
 use hierarchy::CardRefusal;
 use hierarchy::check::load;
 use std::marker::Model;
 
-// An accepted card: its two tables, how many subnets, places and transitions it has, and the full marking of each place.
+// An accepted card: its numbers, their index, and the full marking of each place.
 #[derive(Drop)]
 pub struct Net {
     numbers: [u16; TABLE],
-    starts: [u32; STARTS],
-    counts: Counts,
+    index: CardIndex,
     full: [u32; MOST_PLACES],
 }
 
@@ -37,21 +37,21 @@ impl Model for Net {
 
     ghost view = { λ n. card_in n.numbers };
 
-    ghost invariant = { λ n. IsLoaded (card_in n.numbers) n.numbers n.starts n.counts n.full };
+    ghost invariant = { λ n. IsLoaded (card_in n.numbers) n.numbers n.index n.full };
 }
 
 impl Net {
-    // The net of a card in its two tables.
-    pub fn new(numbers: [u16; TABLE], starts: [u32; STARTS], counts: Counts) -> Net
-        requires holds { Holds (card_in numbers) numbers starts counts }
+    // The net of a card's numbers and their index. Two wrong ones that this rules out: one that holds first tokens for capacities, and one that holds
+    // no numbers.
+    pub fn new(numbers: [u16; TABLE], index: CardIndex) -> Net
+        requires holds { Holds (card_in numbers) numbers index }
         requires meets { Meets (card_in numbers) }
         ensures { result ≡ card_in numbers }
     {
-        let full = by_place::<Capacity>(&CardView::new(&numbers, &starts, counts));
+        let full = by_place::<Capacity>(&index.view(&numbers));
         Net {
             numbers,
-            starts,
-            counts,
+            index,
             full,
         }
     }
@@ -59,7 +59,7 @@ impl Net {
     pub fn card(&self) -> CardView<'_>
         ensures { result ≡ self.now }
     {
-        CardView::new(&self.numbers, &self.starts, self.counts)
+        self.index.view(&self.numbers)
     }
 
     // The card with its full markings, for the step.
@@ -69,7 +69,7 @@ impl Net {
         NetView::new(self.card(), &self.full)
     }
 
-    // How many signals the net's card has.
+    // How many signals the net's card has. Two wrong ones that this rules out: one that tells its places, and one that tells none.
     pub fn signals(&self) -> u16
         ensures value { result ≡ self.now.signals }
         ensures few { result ≤ 63 }
@@ -105,10 +105,11 @@ impl Net {
 }
 
 // The net of a card, or its refusal. Two wrong ones that this rules out: one that loads a refused card, and one that forgets the capacities.
+#[tactic(auto, using(crate::proofs::NetLaws::loaded_meets))]
 pub fn card_net(card: &[u8]) -> Result<Net, CardRefusal>
     ensures { IsNet (judge card.now) result }
 {
     let mut numbers = [0; TABLE];
-    let checked = load(card, &mut numbers)?;
-    Ok(Net::new(numbers, checked.starts, checked.counts))
+    let index = load(card, &mut numbers)?;
+    Ok(Net::new(numbers, index))
 }

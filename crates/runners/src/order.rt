@@ -9,8 +9,9 @@ use crate::Refusal;
 use card::view::CardView;
 
 // Whether the order names each subnet once: as many entries as there are subnets, all of them subnets, and so many distinct ones. A card has
-// at most 32 subnets. Two wrong tests that this rules out: one that lets an order of more entries name a subnet twice, and one that counts
+// at most 32 subnets, and a set of 32 bits is the paper's form. Two wrong tests that this rules out: one that lets an order of more entries name a subnet twice, and one that counts
 // the number past the last subnet as one.
+#[tactic(auto, using(crate::proofs::OrderLaws::gathered_more, crate::proofs::OrderLaws::wrong_length, crate::proofs::OrderLaws::past_last, crate::proofs::OrderLaws::all_gathered))]
 fn each_once(order: &[u16], subnets: u16) -> bool
     ensures { subnets ≤ 32 → result ≡ each_once subnets order.now }
 {

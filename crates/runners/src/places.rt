@@ -43,7 +43,8 @@ impl PlaceNumber for Tokens {
     }
 }
 
-// The places of subnet s.
+// The places of subnet s. By index: no contract of `iter_mut` beside another iterator says what the column has afterwards.
+#[tactic(auto, using(crate::proofs::MarkingLaws::few_places, crate::proofs::MarkingLaws::subnet_end, flattening::proofs::FlatPut::next_place))]
 fn fill_subnet<N: PlaceNumber>(card: &CardView<'_>, s: u16, column: &mut [u32])
     requires meets { Meets card.now }
     requires there { s < length card.now.subnets }
@@ -51,9 +52,8 @@ fn fill_subnet<N: PlaceNumber>(card: &CardView<'_>, s: u16, column: &mut [u32])
     ensures { FilledTo N.number card.now (first_place card.now (suc s)) column.new }
 {
     let first = card.first_place(s) as usize;
-    for n in 0..card.subnet(s).places {
-        let number = N::of(card.place(s, n));
-        column[first + n as usize] = u32::from(rules::scale(card)) * u32::from(number);
+    for (n, place) in card.places_of(s).enumerate() {
+        column[first + n] = u32::from(rules::scale(card)) * u32::from(N::of(place));
     }
 }
 

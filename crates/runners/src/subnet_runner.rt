@@ -1,6 +1,6 @@
 // The subnet runner: it visits the card's own subnets, in the order that is lent. Neither this module nor what it calls makes
 // or reads a flat card.
-ghost use Rattle.std.specs.Prelude.{◌≡◌, ◌≤◌, true, length};
+ghost use Rattle.std.specs.Prelude.{◌≡◌, true, length};
 ghost use Rattle.card.specs.Tables.{has_room};
 ghost use Rattle.runners.specs.Calls.{subnet_call};
 ghost use Rattle.runners.specs.Answers.{IsRow};
@@ -9,24 +9,23 @@ ghost use Rattle.runners.specs.inner.Steps.{answer_of};
 use crate::places::{Capacity, by_place};
 use crate::row::{NetView, called_row};
 use crate::{Refusal, RowAnswer, State};
-use card::view::CardView;
-use card::{SMALL_CARD, SMALL_TABLE, TABLE};
+use card::room::with_table;
 use hierarchy::check::load;
 
-// The row call, with the card's numbers in a table of this size, which has room for them.
-fn subnet_row_in<const SIZE: usize>(
+// The row call, with a table for the card's numbers that has room for them.
+#[tactic(auto, using(crate::proofs::NetLaws::loaded_meets, crate::proofs::CallLaws::subnet_refused, crate::proofs::CallLaws::subnet_called))]
+fn subnet_row_in(
     card: &[u8],
     state: &State,
     order: &[u16],
     row: &[u16],
+    numbers: &mut [u16],
 ) -> Result<State, Refusal>
-    requires room { has_room (length card.now) SIZE ≡ true }
-    requires small { SIZE ≤ TABLE }
+    requires { has_room (length card.now) (length numbers.old) ≡ true }
     ensures { answer_of state.now result ≡ subnet_call card.now order.now state.now row.now }
 {
-    let mut numbers = [0; SIZE];
-    let checked = load(card, &mut numbers)?;
-    let card = CardView::new(&numbers, &checked.starts, checked.counts);
+    let index = load(card, numbers)?;
+    let card = index.view(numbers);
     let full = by_place::<Capacity>(&card);
     called_row(&NetView::new(card, &full), order, state, row)
 }
@@ -36,11 +35,9 @@ fn subnet_row_in<const SIZE: usize>(
 pub fn subnet_row(card: &[u8], state: State, order: &[u16], row: &[u16]) -> RowAnswer
     ensures { IsRow (subnet_call card.now order.now state row.now) result }
 {
-    if card.len() <= SMALL_CARD {
-        return RowAnswer::new(
-            state,
-            subnet_row_in::<SMALL_TABLE>(card, &state, order, row),
-        );
-    }
-    RowAnswer::new(state, subnet_row_in::<TABLE>(card, &state, order, row))
+    let next = with_table(
+        card.len(),
+        &mut |numbers| subnet_row_in(card, &state, order, row, numbers),
+    );
+    RowAnswer::new(state, next)
 }

@@ -11,10 +11,7 @@ impl Transfer {
     pub fn is_idle(self) -> bool
         ensures { result ≡ idle self }
     {
-        match self {
-            Transfer::Idle => true,
-            Transfer::Carrying(_) => false,
-        }
+        self == Transfer::Idle
     }
 
     // What remains of a transfer: 1000 - c.

@@ -75,6 +75,7 @@ impl Round for Moving {
 }
 
 // These transitions, one after another.
+#[tactic(auto, using(crate::proofs::SpanLaws::span_start, crate::proofs::SpanLaws::span_more))]
 pub fn each<R: Round>(card: &CardView<'_>, transitions: Range<u16>, row: &[u16], work: &mut Work)
     ensures { IsSpan R.round transitions.start transitions.end card.now row.now work.old work.new }
 {
@@ -91,6 +92,7 @@ pub fn visit<R: Round>(card: &CardView<'_>, s: u16, row: &[u16], work: &mut Work
 }
 
 // A round visits the subnets in the order that was lent.
+#[tactic(auto, using(crate::proofs::RoundLaws::round_start, crate::proofs::RoundLaws::round_all))]
 pub fn visit_all<R: Round>(card: &CardView<'_>, order: &[u16], row: &[u16], work: &mut Work)
     ensures { IsRound R.round order.now card.now row.now work.old work.new }
 {

@@ -1,7 +1,8 @@
 // What a row works on, and what it reads there of one transition.
-ghost use Rattle.std.specs.Prelude.{◌≡◌, ◌<◌, min};
+ghost use Rattle.std.specs.Prelude.{◌≡◌, ℕ, ◌<◌, min};
 ghost use Rattle.card.specs.Card.{transition_at, arc_at};
 ghost use Rattle.card.specs.Finite.{every};
+ghost use Rattle.card.specs.View.{arc_in};
 ghost use Rattle.hierarchy.specs.Conditions.{Meets};
 ghost use Rattle.flattening.specs.Flattening.{flatten};
 ghost use Rattle.runners.specs.State.{entry, transfer as transfer_of, remaining};
@@ -11,7 +12,7 @@ ghost use Rattle.runners.specs.Columns.{state_in, posted, begun, noted};
 use crate::claims::{Claims, entry_at};
 use crate::{State, Transfer, rules};
 use card::MOST_TRANSITIONS;
-use card::view::{CardView, Direction};
+use card::view::{Arc, CardView, Direction};
 
 // The state that the row makes, the claims of unfinished transfers and those of candidates, and which transitions are candidates.
 #[derive(Clone, Copy)]
@@ -86,11 +87,10 @@ impl Work {
         self.candidates.get(t as usize).copied().unwrap_or(false)
     }
 
-    // Whether the place that arc j of transition t names has the tokens, or the room, for the arc's whole weight beside the claims that stand.
-    fn allows(&self, card: &CardView<'_>, t: u16, j: u16) -> bool
-        ensures { Meets card.now → j < (transition_at card.now t).arcs → result ≡ allows_of (flatten card.now) (posted self.now.standing) self.now.state.markings (arc_at (flatten card.now) t j) }
+    // Whether the place that the arc names has the tokens, or the room, for the arc's whole weight beside the claims that stand.
+    fn allows(&self, card: &CardView<'_>, arc: Arc) -> bool
+        ensures { (t j : ℕ) → Meets card.now → j < (transition_at card.now t).arcs → arc_in arc ≡ arc_at card.now t j → result ≡ allows_of (flatten card.now) (posted self.now.standing) self.now.state.markings (arc_at (flatten card.now) t j) }
     {
-        let arc = card.arc(t, j);
         let p = card.flat_place(arc);
         let scale = u64::from(rules::scale(card));
         let m = entry_at(&self.state.markings, p);
@@ -108,7 +108,7 @@ impl Work {
     fn all_allow(&self, card: &CardView<'_>, t: u16) -> bool
         ensures { Meets card.now → result ≡ every (transition_at card.now t).arcs (λ j. allows_of (flatten card.now) (posted self.now.standing) self.now.state.markings (arc_at (flatten card.now) t j)) }
     {
-        (0..card.transition(t).arcs).all(|j| self.allows(card, t, j))
+        card.arcs(t).all(|arc| self.allows(card, arc))
     }
 
     // A candidate is an idle transition with a new degree above 0 that each of its arcs allows.

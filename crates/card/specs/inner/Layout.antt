@@ -1,6 +1,6 @@
 -- The machine that reads and writes a card field by field: which field comes next, and where its number leads. Widths and faults are the
 -- grammar's.
-use Rattle.std.specs.Prelude.{ℕ, ◌+◌, ◌-◌, ◌≤◌, ◌≡◌, Bool, true, false, List, [], ◌∷◌, ltb, Result, Ok, Err}
+use Rattle.std.specs.Prelude.{ℕ, ◌+◌, ◌-◌, ◌≤◌, ◌≡◌, Bool, true, false, List, [], ◌∷◌, map, sum, ltb, Result, Ok, Err}
 use Rattle.std.proofs.Math.Option.{Option, none, some}
 use Rattle.card.specs.Format.{Format, done, get}
 use Rattle.card.specs.Grammar.{header, subnet, place, transition, arc}
@@ -50,6 +50,13 @@ width_at Weight v = next_width (fed arc (0 ∷ 0 ∷ 0 ∷ []))
 
 abbrev pub width_of : Layout → ℕ
 width_of l = width_at l.phase l.version
+
+-- the widths of a row's fields, and of the row
+abbrev pub widths : List Phase → (version : ℕ) → List ℕ
+widths row version = map (λ p. width_at p version) row
+
+abbrev pub row_width : List Phase → (version : ℕ) → ℕ
+row_width row version = sum (widths row version)
 
 -- what is wrong with a number, by what came before it
 abbrev pub fault_at : Phase → Layout → ℕ → Option FormatFault

@@ -3,6 +3,8 @@ use Rattle.std.specs.Prelude.{ℕ, ◌+◌, ◌*◌, ◌≤◌, ◌<◌, ◌≡�
 use Rattle.card.specs.Card.{Card, first_arc, header_fields, subnet_fields, place_fields, transition_fields, arc_fields}
 use Rattle.card.specs.Index.{starts_of}
 use Rattle.card.specs.Tables.{numbers_of, numbers_table}
+use Rattle.card.specs.View.{IsCounted}
+use Rattle.card.specs.declared.index.CardIndex.{CardIndex}
 use Rattle.hierarchy.specs.Conditions.{Meets}
 use Rattle.flattening.specs.Flattening.{flatten}
 
@@ -35,7 +37,8 @@ pub record Filled (c : Card) (n : ℕ) (out : List ℕ) : Type 0 where
 pub record Fills (c : Card) (from to : ℕ) (before after : List ℕ) : Type 0 where
   pub filled : Meets c → Filled c from before → Filled c to after
 
--- the two tables of the flat card, where there is room for it
-pub record FlatTables (c : Card) (out starts : List ℕ) : Type 0 where
+-- the numbers of the flat card and its index, where there is room for it
+pub record FlatTables (c : Card) (out : List ℕ) (i : CardIndex) : Type 0 where
   pub numbers : Meets c → length (numbers_of (flatten c)) ≤ length out → out ≡ numbers_table (length out) (flatten c)
-  pub rows : Meets c → length (numbers_of (flatten c)) ≤ length out → starts ≡ starts_of (flatten c)
+  pub rows : Meets c → length (numbers_of (flatten c)) ≤ length out → i.starts ≡ starts_of (flatten c)
+  pub counts : IsCounted (flatten c) i.counts

@@ -6,7 +6,7 @@ use Rattle.card.specs.View.{Holds}
 use Rattle.hierarchy.specs.Conditions.{Meets}
 use Rattle.runners.specs.Numbers.{RowOutcome, ok, refusal}
 use Rattle.runners.specs.inner.Markings.{capacity, Filled}
-use Rattle.card.specs.declared.Counts.{Counts}
+use Rattle.card.specs.declared.index.CardIndex.{CardIndex}
 use Rattle.runners.specs.declared.State.{State as Lent}
 use Rattle.runners.specs.declared.Refusal.{Refusal}
 
@@ -19,9 +19,9 @@ pub record HoldsNet (c : Card) (full : List ℕ) : Type 0 where
   pub meets : Meets c
   pub filled : Filled capacity c full
 
--- the same, with the card's two tables and its counts
-pub record IsLoaded (c : Card) (numbers starts : List ℕ) (k : Counts) (full : List ℕ) : Type 0 where
-  pub holds : Holds c numbers starts k
+-- the same, with the card's numbers and their index
+pub record IsLoaded (c : Card) (numbers : List ℕ) (i : CardIndex) (full : List ℕ) : Type 0 where
+  pub holds : Holds c numbers i
   pub net : HoldsNet c full
 
 -- what a test refuses

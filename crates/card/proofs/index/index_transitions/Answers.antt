@@ -1,6 +1,6 @@
 -- The walk stores where each transition of a subnet begins, and stays where a card can have rows.
 use Rattle.std.proofs.Common.{◌+◌, refl, sym, ◌∙◌, arith}
-use Rattle.card.proofs.TableLaws.{no_yes}
+use Rattle.std.proofs.lemmas.Bool.{false≢true}
 use Rattle.card.proofs.IndexLaws.{set_long, list_start, list_on, list_few, list_more, list_done}
 use Rattle.card.proofs.index.index_transitions.Goals as goal
 
@@ -21,14 +21,14 @@ pub returns-then-not-is_on_card-clause-by_index : goal.returns-then-not-is_on_ca
 returns-then-not-is_on_card-clause-by_index c =
     let b = c.args in
     let x = c.loop-t in
-    λ k s a. absurd (no_yes (sym c.if-not-is_on_card.true ∙ c.is_on_card.ensures.1 (list_on k s _ _ _ _ _ a _ _ _ (x.invariant.listed k s a))))
+    λ k s a. absurd (false≢true (sym c.if-not-is_on_card.true ∙ c.is_on_card.ensures.1 (list_on k s _ _ _ _ _ a _ _ _ (x.invariant.listed k s a))))
 
 pub loop-t-preserved : goal.loop-t-preserved
 loop-t-preserved c =
     let b = c.args in
     let x = c.loop-t in
-    let row = c.put_start in
-    let bit = c.put_start-in-loop-t in record {
+    let row = c.put_entry in
+    let bit = c.put_entry-in-loop-t in record {
       long = rw (bit.ensures, row.ensures) (set_long x.starts _ _ (132 + x.t) x.p.row (388 + x.t) x.p.bit refl refl ∙ x.invariant.long);
       listed = λ k s a. list_more k s _ _ _ _ _ a _ _ _ (x.invariant.listed k s a) c.loop-t-test.true c.arc_count.result c.arc_count.ensures _ _ c.after_transition-p.result row.ensures bit.ensures c.version.result c.version.ensures c.after_transition-p.ensures;
     }

@@ -12,4 +12,4 @@ returns-in-Err-clause-table c =
     (c.fill-in-Err.ensures.after (λ y e. e) ∙ ap (λ (n : ℕ). replicate n 0) (cleared_long _ _ _ (c.fill.ensures.after (λ y e. e)) c.read_fields.ensures.numbers_len_unchanged))).1
 
 pub returns-in-Ok-clause-read : goal.returns-in-Ok-clause-read
-returns-in-Ok-clause-read c = (fill_whole _ _ _ _ _ _ c.read_fields.ensures.filled c.in-Ok.is refl c.index.ensures).0
+returns-in-Ok-clause-read c = (fill_whole _ _ _ _ _ _ c.read_fields.ensures.filled c.in-Ok.is refl c.index.ensures.counts c.index.ensures.starts).0

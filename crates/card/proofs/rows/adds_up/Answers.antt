@@ -1,19 +1,23 @@
 -- What is left of the total is what the rest of the column adds up to.
-use Rattle.std.proofs.Common.{arith}
-use Rattle.card.proofs.RowLaws.{unspent_start, unspent_more, unspent_short, unspent_done}
+use Rattle.std.proofs.Common.{◌≡◌, ◌∙◌, get_or, arith}
+use Rattle.card.proofs.RowLaws.{unspent_more, unspent_short, unspent_done}
 use Rattle.card.proofs.rows.adds_up.Goals as goal
-
-pub loop-i-init : goal.loop-i-init
-loop-i-init c = unspent_start _ _ _ _
 
 pub returns-in_default : goal.returns-in_default
 returns-in_default c =
-    unspent_short _ _ _ _ _ _ c.loop-i.invariant c.loop-i-test.true (omega (arith, c.in_default.ensures))
+    let l = c.loop-row in
+    let x = c.in-Some.ensures.steps.1 in
+    unspent_short _ _ _ _ _ _ _ _ l.invariant.0 x.0 (x.1 ∙ l.invariant.1) c.requires (omega (arith, c.from.ensures, c.in_default.ensures))
 
-pub loop-i-preserved : goal.loop-i-preserved
-loop-i-preserved c =
-    let v = c.in-Some.ensures in
-    rw v.1 (unspent_more _ _ _ _ _ _ c.loop-i.invariant v.0)
+pub loop-row-preserved : goal.loop-row-preserved
+loop-row-preserved c =
+    let l = c.loop-row in
+    let x = c.in-Some.ensures.steps.1 in
+    let v = c.in-Some-checked_sub.ensures in
+    let q : c.from.result ≡ get_or c.in-Some.row.now c.args.column 0 = c.from.ensures in
+    (rw (v.1, q) (unspent_more _ _ _ _ _ _ _ _ l.invariant.0 x.0 (x.1 ∙ l.invariant.1) c.requires (omega (arith, q, v.0))), c.in-Some.ensures.steps.0 ∙ l.invariant.1)
 
 pub returns : goal.returns
-returns c = unspent_done _ _ _ _ _ _ c.loop-i.invariant (omega arith)
+returns c =
+    let l = c.loop-row in
+    unspent_done _ _ _ _ _ _ l.invariant.0 (omega (arith, c.in-None.ensures.steps.1.0, l.invariant.1))

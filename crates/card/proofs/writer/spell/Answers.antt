@@ -1,33 +1,15 @@
 -- Tables that are not whole, do not count or do not fit are refused; else their numbers are those of the card that they make.
-use Rattle.std.proofs.Common.{sym, ◌∙◌, arith}
-use Rattle.card.specs.Grammar.{header}
+use Rattle.std.proofs.Common.{sym, ◌∙◌}
 use Rattle.card.specs.Rows.{tables_in}
 use Rattle.card.proofs.RoundTrip.{counted_is}
-use Rattle.card.proofs.TableSpell.{tables_inside, rows_ragged, rows_uncounted, rows_unfit, rows_lines, rows_spelt}
+use Rattle.card.proofs.TableSpell.{tables_inside, rows_lines, rows_spelt}
 use Rattle.card.proofs.writer.spell.Goals as goal
-use Rattle.card.proofs.writer.spell.Goals.{then-not-is_whole-via-then-not-is_whole, then-not-is_whole-via-else-not-is_whole+then-not-counts_match, then-not-is_whole-via-else-not-is_whole+else-not-counts_match+then-not-values_fit}
-
-pub returns-then-not-is_whole : goal.returns-then-not-is_whole
-returns-then-not-is_whole c =
-    let r = sym c.is_whole.ensures in
-    elim c.then-not-is_whole.branch [
-      | then-not-is_whole-via-then-not-is_whole w ↦ rows_ragged _ _ _ _ _ (r ∙ w.if-not-is_whole.true)
-      | then-not-is_whole-via-else-not-is_whole+then-not-counts_match w ↦
-          rows_uncounted _ _ _ _ _ (r ∙ w.if-not-is_whole.false) (sym (w.counts_match.ensures c.args.head) ∙ w.if-not-counts_match.true)
-      | then-not-is_whole-via-else-not-is_whole+else-not-counts_match+then-not-values_fit w ↦
-          rows_unfit _ _ _ _ _ (r ∙ w.if-not-is_whole.false) (sym (w.counts_match.ensures c.args.head) ∙ w.if-not-counts_match.false)
-          w.values_fit.result w.values_fit.ensures w.if-not-values_fit.true
-    ]
 
 pub gather-numbers-requires-clause-tables_inside : goal.gather-numbers-requires-clause-tables_inside
 gather-numbers-requires-clause-tables_inside c =
     let a = c.args in
     tables_inside a.head a.rows.now.subnets.now a.rows.now.places.now a.rows.now.transitions.now a.rows.now.arcs.now
     ((counted_is (tables_in a.head a.rows.now.subnets.now a.rows.now.places.now a.rows.now.transitions.now a.rows.now.arcs.now)).0 (sym (c.counts_match.ensures a.head) ∙ c.if-not-counts_match.false))
-
-pub gather-numbers-requires-clause-few_subnets : goal.gather-numbers-requires-clause-few_subnets
-unfolding header
-gather-numbers-requires-clause-few_subnets c = let f = c.values_fit.ensures.0 c.if-not-values_fit.false in omega (arith, f.header.subnets)
 
 pub returns : goal.returns
 returns c =

@@ -1,8 +1,9 @@
-use Rattle.std.proofs.Common.{refl, eqb, ap, rules}
+use Rattle.std.proofs.Common.{eqb, rules}
 use borrow.Author.Tests.{tests}
-use Rattle.card.specs.Card.{Transition, transition_at, arc_at, place_of}
+use Rattle.card.specs.Card.{transition_at, arc_at, place_of}
+use Rattle.card.proofs.RowListLaws.{arcs_yield}
 use Rattle.hierarchy.specs.Check.{has_unit}
-use Rattle.hierarchy.proofs.AnyBelow.{any_below}
+use Rattle.hierarchy.proofs.AnyBelow.{any_row}
 use Rattle.hierarchy.proofs.arcs.has_unit.Goals as goal
 
 pub returns : goal.returns
@@ -10,5 +11,5 @@ unfolding has_unit
 returns c =
     let d = c.args.card.now in
     let t = c.args.t in
-    λ p. any_below (transition_at d t).arcs (λ j. eqb (place_of d (arc_at d t j)).capacity 1) (ap (λ (r : Transition). r.arcs) c.transition.ensures) refl c.any.ensures.ran
-    (λ x b q k. (search (rules, tests), λ l. search (rules, tests)))
+    λ p. any_row (transition_at d t).arcs (arc_at d t) (λ j. eqb (place_of d (arc_at d t j)).capacity 1) _ _ c.any.result c.any.ensures.ran (arcs_yield d t _ c.arcs.ensures.rows)
+    (λ x b q k. (search (rules, tests), λ j l z. search (rules, tests)))

@@ -1,9 +1,10 @@
-use Rattle.std.proofs.Common.{refl, not, eqb, ap, rules}
+use Rattle.std.proofs.Common.{◌+◌, eqb, not, rules}
 use borrow.Author.Tests.{tests}
-use Rattle.card.specs.Card.{Subnet, normal, subnet_at}
+use Rattle.card.specs.Card.{normal, subnet_at, place_at, first_place}
+use Rattle.card.proofs.RowListLaws.{places_yield}
 use Rattle.hierarchy.specs.Conditions.{kind_of}
 use Rattle.hierarchy.specs.Check.{has_interface}
-use Rattle.hierarchy.proofs.AnyBelow.{any_below}
+use Rattle.hierarchy.proofs.AnyBelow.{any_row}
 use Rattle.hierarchy.proofs.interfaces.has_interface.Goals as goal
 
 pub returns : goal.returns
@@ -11,5 +12,5 @@ unfolding has_interface
 returns c =
     let d = c.args.card.now in
     let i = c.args.i in
-    any_below (subnet_at d i).places (λ n. not (eqb (kind_of d i n) normal)) (ap (λ (r : Subnet). r.places) c.subnet.ensures) refl c.any.ensures.ran
-    (λ x b q k. (search (rules, tests), λ l. search (rules, tests)))
+    any_row (subnet_at d i).places (λ n. place_at d (first_place d i + n)) (λ n. not (eqb (kind_of d i n) normal)) _ _ c.any.result c.any.ensures.ran (places_yield d i _ c.places_of.ensures.rows)
+    (λ x b q k. (search (rules, tests), λ n l z. search (rules, tests)))

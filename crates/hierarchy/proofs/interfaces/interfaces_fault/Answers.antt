@@ -11,7 +11,7 @@ returns-then-not-has_interface c =
     let z = c.loop-i in
     let l : z.i < length d.subnets = omega arith in
     rw c.at.ensures (first_fails (length d.subnets) z.i (subnet_bit d) (interfaced d) NoInterface c.subnet_bit.result z.invariant.1 l
-    (later_interfaced d z.i z.invariant.0 ∙ sym c.if-not-has_interface.ensures) (c.subnet_bit.ensures l))
+    (later_interfaced d z.i z.invariant.0 ∙ sym c.if-not-has_interface.ensures) (c.subnet_bit.ensures.value l))
 
 pub returns : goal.returns
 returns c = let d = c.args.card.now in first_passes (length d.subnets) c.loop-i.i (subnet_bit d) (interfaced d) NoInterface c.loop-i.invariant.1 (omega arith)

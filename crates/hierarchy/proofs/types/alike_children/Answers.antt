@@ -1,12 +1,11 @@
 use Rattle.std.proofs.Common.{◌≡◌, ℕ, List, length, refl, sym, ap, ◌∙◌, rules, arith}
-use borrow.Author.Tests.{tests, ne_eqb}
+use borrow.Author.Tests.{tests}
 use Rattle.std.specs.List.{filter, range_with_len}
 use Rattle.std.proofs.lemmas.Iterator.{YieldsList-from_range}
 use Rattle.std.proofs.lemmas.Iterator.Consumers.{YieldsList-at, YieldsList-from_filter}
 use Rattle.hierarchy.specs.Conditions.{is_child, children}
 use Rattle.hierarchy.specs.Check.{same_type}
 use Rattle.hierarchy.specs.inner.Likeness.{child_alike}
-use Rattle.hierarchy.proofs.WalkLaws.{counts_differ}
 use Rattle.hierarchy.proofs.AllBelow.{all_beside, as_many}
 use Rattle.hierarchy.proofs.ChildLaws.{child_counted, ordinal_filtered, children_filtered}
 use Rattle.hierarchy.proofs.types.alike_children.Goals as goal
@@ -29,11 +28,3 @@ returns-then-ordinal c =
     (sym (c.ordinal.ensures ∙ ordinal_filtered d a.r m)) (sym (c.if-ordinal.true ∙ c.ordinal-2.ensures ∙ ordinal_filtered d a.s m))
     (λ i b q k. search (rules, tests))
     (λ k l. rw (x, y) refl))
-
-pub returns-else-ordinal : goal.returns-else-ordinal
-returns-else-ordinal c =
-    let a = c.args in
-    let d = a.card.now in
-    let m : ℕ = c.subnets-subnets.result in
-    rw (ne_eqb c.ordinal.result c.ordinal-2.result c.if-ordinal.false) (counts_differ (length (children d a.r)) (length (children d a.s)) c.ordinal.result c.ordinal-2.result (child_alike d a.r a.s)
-    (child_counted d m a.r c.ordinal.result c.subnets-subnets.ensures.value c.ordinal.ensures) (child_counted d m a.s c.ordinal-2.result c.subnets-subnets.ensures.value c.ordinal-2.ensures) c.if-ordinal.false)

@@ -1,5 +1,5 @@
 use Rattle.std.proofs.Common.{◌≡◌, ◌+◌, ◌*◌, ◌≤◌, ◌++◌, length, map, take}
-use Rattle.programs.specs.Text.{decimal}
+use Rattle.card.specs.Text.{decimal}
 use Rattle.programs.specs.Lines.{longest, spaced}
 use Rattle.programs.proofs.line.put_markings.Given as goal
 

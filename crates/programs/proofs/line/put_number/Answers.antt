@@ -1,7 +1,7 @@
 use Rattle.std.proofs.Common.{[], ◌∷◌}
-use Rattle.programs.specs.Text.{decimal}
+use Rattle.card.specs.Text.{decimal}
 use Rattle.programs.specs.Lines.{longest}
-use Rattle.programs.proofs.TextLaws.{append_twice}
+use Rattle.card.proofs.TextLaws.{append_twice}
 use Rattle.programs.proofs.line.put_number.Goals as goal
 
 pub returns : goal.returns

@@ -1,5 +1,5 @@
 use Rattle.std.proofs.Common.{[], ◌∷◌, arith}
-use Rattle.programs.specs.Text.{decimal}
+use Rattle.card.specs.Text.{decimal}
 use Rattle.programs.specs.Lines.{longest}
 use Rattle.programs.proofs.LineLaws.{appended_few, decimal_long, refusal_words_is}
 use Rattle.programs.proofs.line.put_refusal.Goals as goal

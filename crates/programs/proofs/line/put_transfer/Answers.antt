@@ -1,5 +1,6 @@
 use Rattle.std.proofs.Common.{[], ◌∷◌, arith}
-use Rattle.programs.specs.Text.{ascii, decimal}
+use Rattle.card.specs.Text.{decimal}
+use Rattle.programs.specs.Text.{ascii}
 use Rattle.programs.specs.Lines.{longest}
 use Rattle.programs.proofs.LineLaws.{appended_few, decimal_long}
 use Rattle.programs.proofs.line.put_transfer.Goals as goal

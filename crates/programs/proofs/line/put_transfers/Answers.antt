@@ -1,7 +1,7 @@
 use Rattle.std.proofs.Common.{refl, arith}
 use Rattle.runners.specs.declared.Transfer.TheVariants.{Idle}
 use Rattle.programs.specs.Lines.{longest, transfer_word}
-use Rattle.programs.proofs.LineLaws.{words_none, word_more, words_all}
+use Rattle.programs.proofs.LineLaws.{words_none, word_more}
 use Rattle.programs.proofs.line.put_transfers.Goals as goal
 
 pub loop-transfer-init : goal.loop-transfer-init
@@ -13,12 +13,4 @@ loop-transfer-preserved c = record {
       word_more transfer_word c.transfers-transfer-items.result.now longest c.args.line.now _ _ c.loop-transfer.transfer-index Idle _ c.loop-transfer.invariant.words
       c.loop-transfer-test.true refl c.put_transfer.ensures.word;
   short = omega (arith, c.put_transfer.ensures.short);
-}
-
-pub returns : goal.returns
-returns c = record {
-  words =
-      rw c.transfers-transfer-items.ensures.value at
-      (words_all transfer_word c.transfers-transfer-items.result.now longest c.args.line.now _ c.loop-transfer.transfer-index c.loop-transfer.invariant.words c.loop-transfer-test.false);
-  short = omega (arith, c.loop-transfer.invariant.short, c.loop-transfer.auto.transfer-index-end, c.transfers-transfer-items.ensures.few);
 }

@@ -1,17 +1,9 @@
 -- `runners::guards::row_test` meets its contract.
-use Rattle.std.proofs.Common.{◌∙◌, sym, rules, tests, arith}
+use Rattle.std.proofs.Common.{arith}
 use Rattle.std.specs.Prelude.{Some, None}
 use Rattle.flattening.specs.Flattening.{flatten}
-use Rattle.runners.proofs.GuardLaws.{same_signals, row_empty, row_long, row_high}
+use Rattle.runners.proofs.GuardLaws.{same_signals, row_high}
 use Rattle.runners.proofs.guards.row_test.Goals as goal
-
-pub returns-then-is_empty : goal.returns-then-is_empty
-returns-then-is_empty c = row_empty (flatten c.args.card.now) c.args.row.now (search (rules, tests))
-
-pub returns-then-row-signals : goal.returns-then-row-signals
-returns-then-row-signals c =
-    let a = c.args in
-    row_long (flatten a.card.now) a.row.now (search (rules, tests)) (λ e. c.if-row-signals.true (e ∙ same_signals a.card.now ∙ sym c.signals.ensures.value))
 
 pub returns-in-Some : goal.returns-in-Some
 returns-in-Some c =

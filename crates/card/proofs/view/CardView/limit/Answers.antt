@@ -4,4 +4,4 @@ use Rattle.card.proofs.ViewLaws.{header_held}
 use Rattle.card.proofs.view.CardView.limit.Goals as goal
 
 pub bounds-self-inside-3 : goal.bounds-self-inside-3
-bounds-self-inside-3 c = let x = c.self in omega (arith, header_held _ _ _ x.inside.counts x.invariant x.view_is)
+bounds-self-inside-3 c = let x = c.self in omega (arith, header_held _ _ _ x.invariant x.view_is)

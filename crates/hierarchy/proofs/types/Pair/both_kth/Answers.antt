@@ -1,23 +1,9 @@
 use Rattle.std.proofs.Common.{◌≡◌, refl, sym, ◌∙◌, ◌&&◌, eqb, slice_index_or}
 use Rattle.hierarchy.specs.Conditions.{is_child}
 use Rattle.hierarchy.specs.inner.Ordinals.{ordinal}
-use Rattle.hierarchy.proofs.WalkLaws.{part_fails, part_holds}
+use Rattle.hierarchy.proofs.WalkLaws.{part_holds}
 use Rattle.hierarchy.proofs.ChildLaws.{both_kth_is}
-use Rattle.hierarchy.proofs.types.Pair.both_kth.Goals.{then-not-is_child-via-then-not-is_child, then-not-is_child-via-else-not-is_child+then-not-is_child-2}
 use Rattle.hierarchy.proofs.types.Pair.both_kth.Goals as goal
-
-pub returns-then-not-is_child : goal.returns-then-not-is_child
-returns-then-not-is_child c =
-    let a = c.args in
-    let p = a.self.now in
-    let d = p.card.now in
-    let x = is_child d p.lower a.a in
-    let y = is_child d p.upper a.b in
-    let z = eqb (ordinal d p.upper a.b) (ordinal d p.lower a.a) in
-    elim c.then-not-is_child.branch [
-      | then-not-is_child-via-then-not-is_child w ↦ part_fails x (y && z) w.if-not-is_child.ensures.value ∙ sym (both_kth_is d p.lower p.upper a.a a.b p.as_many)
-      | then-not-is_child-via-else-not-is_child+then-not-is_child-2 w ↦ part_holds _ x (y && z) w.if-not-is_child.ensures.value (part_fails y z w.if-not-is_child-2.ensures.value) ∙ sym (both_kth_is d p.lower p.upper a.a a.b p.as_many)
-    ]
 
 pub returns : goal.returns
 returns c =

@@ -1,5 +1,5 @@
 use Rattle.std.proofs.Common.{arith}
-use Rattle.programs.proofs.BlockLaws.{turn_tight, turn_over, turn_all}
+use Rattle.programs.proofs.BlockLaws.{turn_tight, turn_over}
 use Rattle.programs.proofs.blocks.CardRun.answer_block.Goals as goal
 
 pub returns-then-out-block-clause-turn : goal.returns-then-out-block-clause-turn
@@ -10,8 +10,3 @@ pub returns-then-size-len-clause-turn : goal.returns-then-size-len-clause-turn
 returns-then-size-len-clause-turn c =
     turn_over c.args.self.now c.args.block.now c.args.out.now _ _ c.signals.ensures.value c.row_bytes-size.ensures
     (omega (arith, c.if-size-len.true, c.len.ensures.value))
-
-pub returns-clause-turn : goal.returns-clause-turn
-returns-clause-turn c =
-    turn_all c.args.self.now c.args.block.now c.args.out.now _ _ c.signals.ensures.value c.row_bytes-size.ensures _ _ _ c.if-out-block.false
-    (omega (arith, c.if-size-len.false, c.len.ensures.value)) c.answer_all.ensures.turn

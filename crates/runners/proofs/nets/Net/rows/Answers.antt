@@ -3,7 +3,7 @@ use Rattle.std.proofs.Common.{rules, ◌≡◌, true, false, ◌∙◌, subst}
 use Rattle.std.specs.Prelude.{Ok, Err}
 use Rattle.std.specs.Result.{is_err}
 use Rattle.hierarchy.specs.Conditions.{Meets}
-use Rattle.runners.proofs.NetLaws.{rows_refused, rows_valid, going_start, going_end, going_more}
+use Rattle.runners.proofs.NetLaws.{rows_refused, rows_valid, going_end, going_more}
 use Rattle.runners.proofs.nets.Net.rows.Goals as goal
 
 pub returns-then-is_err : goal.returns-then-is_err
@@ -11,22 +11,6 @@ returns-then-is_err c =
     let a = c.args in
     let n : is_err c.tested.result ≡ true = search rules in
     rows_refused a.self.now a.order.now a.state c.view-net.result c.view-net.ensures c.tested.result c.tested.ensures n _
-
-pub loop-row-init : goal.loop-row-init
-loop-row-init c =
-    let a = c.args in
-    let n : is_err c.tested.result ≡ false = search rules in
-    let e : c.into_iter-row-iterator.result.rest.now ≡ a.rows.now = search rules in
-    (going_start a.self.now a.order.now a.state a.rows.now c.into_iter-row-iterator.result.rest.now e (rows_valid a.self.now a.order.now a.state c.view-net.result c.view-net.ensures c.tested.result c.tested.ensures n).0, search rules)
-
-pub loaded_row-requires-clause-valid : goal.loaded_row-requires-clause-valid
-loaded_row-requires-clause-valid c = rw c.view-net.ensures c.loop-row.invariant.0.valid
-
-pub loaded_row-requires-clause-ordered : goal.loaded_row-requires-clause-ordered
-loaded_row-requires-clause-ordered c =
-    let a = c.args in
-    let n : is_err c.tested.result ≡ false = search rules in
-    rw c.view-net.ensures (rows_valid a.self.now a.order.now a.state c.view-net.result c.view-net.ensures c.tested.result c.tested.ensures n).1
 
 pub loop-row-preserved-in-Ok : goal.loop-row-preserved-in-Ok
 loop-row-preserved-in-Ok c =
