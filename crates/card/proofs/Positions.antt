@@ -231,3 +231,18 @@ module _ (c : Card) (w : Wellformed c) (numbers : List ℕ) (entered : (i : ℕ)
     transition = there_transition;
     arc = there_arc;
   }
+
+-- the numbers of an arc, one behind the other
+field_on : (row j i k : ℕ) → i ≡ arc_field row j 0 → i + k ≡ arc_field row j k
+unfolding arc_field
+field_on row j i k e = omega (arith, e)
+
+pub arc_from : (numbers : List ℕ) (row j i : ℕ) → i ≡ arc_field row j 0
+    → ArcThere numbers row j (record { direction = get_or numbers i 0; subnet = get_or numbers (i + 1) 0; place = get_or numbers (i + 2) 0; weight = get_or numbers (i + 3) 0 })
+arc_from numbers row j i e =
+    record {
+      direction = rw e;
+      subnet = rw (field_on row j i 1 e);
+      place = rw (field_on row j i 2 e);
+      weight = rw (field_on row j i 3 e);
+    }

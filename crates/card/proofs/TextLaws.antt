@@ -7,7 +7,7 @@ use Rattle.std.proofs.lemmas.Bool.{cases_lt}
 use borrow.Author.Tests.{lt-ltb, le-ltb, ltb-false}
 use borrow.Rule.Slice.PartMut.{put_mid}
 use Rattle.card.specs.Text.{digit, digits, decimal}
-use Rattle.card.specs.inner.Rooms.{IsFilled, filled_long}
+use Rattle.card.specs.Rooms.{IsFilled, filled_long}
 
 -- bytes behind bytes
 pub take_again : {A : Type 0} (n : ℕ) (xs ys : List A) → take n (take n xs ++ ys) ≡ take n (xs ++ ys)

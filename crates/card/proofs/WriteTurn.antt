@@ -12,7 +12,7 @@ use lib.Seq.{ext_get_or, append_snoc, get_or-take, get_or-drop, length-take-le}
 use lib.Dec.{ltb}
 use borrow.Author.Tests.{ltb-true}
 use Rattle.card.specs.Numbers.{number}
-use Rattle.card.specs.inner.Rooms.{IsFilled}
+use Rattle.card.specs.Rooms.{IsFilled}
 use Rattle.card.specs.Bits.{bit, bit_field}
 use Rattle.card.specs.inner.Spans.{Put}
 use Rattle.card.specs.Card.{Card}

@@ -5,6 +5,7 @@ use Rattle.card.specs.Card.{Subnet, Place, Transition, Arc, Card, subnet_at, pla
 use Rattle.card.specs.Format.{count}
 use Rattle.card.specs.Grammar.{max_subnets, max_count, header, subnet, place, transition, arc}
 use Rattle.card.specs.Writing.{subnet_bit, transition_bit}
+use Rattle.card.specs.declared.tables.Arc as declared
 
 -- the fields in front of so many subnets, places, transitions and arcs
 abbrev pub fields_before : (subnets places transitions arcs : ℕ) → ℕ
@@ -46,6 +47,10 @@ pub record ArcThere (numbers : List ℕ) (row j : ℕ) (a : Arc) : Type 0 where
   pub subnet : get_or numbers (arc_field row j 1) 0 ≡ a.subnet
   pub place : get_or numbers (arc_field row j 2) 0 ≡ a.place
   pub weight : get_or numbers (arc_field row j 3) 0 ≡ a.weight
+
+-- an arc that the tables hold, as one of a card
+abbrev pub arc_of : declared.Arc → Arc
+arc_of a = record { direction = a.direction; subnet = a.subnet; place = a.place; weight = a.weight }
 
 -- transition t is one of subnet s
 pub record Lists (c : Card) (s t : ℕ) : Type 0 where

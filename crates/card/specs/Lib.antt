@@ -14,5 +14,6 @@ pub mod Spelling
 pub mod Rows
 pub mod RowList
 pub mod View
+pub mod Rooms
 pub mod Text
 pub mod inner

@@ -4,4 +4,3 @@ pub mod Layout
 pub mod Reader
 pub mod Indexing
 pub mod Runs
-pub mod Rooms

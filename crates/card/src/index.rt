@@ -10,6 +10,8 @@ ghost use Rattle.card.specs.inner.Runs.{Tells};
 
 use crate::bits::put_entry;
 use crate::layout::{ARC, HEADER, PLACE, SUBNET, TRANSITION, row_width};
+pub use crate::tables::number_at;
+use crate::tables::{arc_count, place_count, transition_count, version};
 use crate::{
     ARC_FIELDS, Counts, FIRST_PLACES, FIRST_TRANSITIONS, HEADER_FIELDS, PLACE_FIELDS, STARTS,
     SUBNET_BITS, SUBNET_FIELDS, TRANSITION_BITS, TRANSITION_FIELDS, TRANSITION_ROWS,
@@ -18,8 +20,8 @@ use crate::{
 // Where a card's rows begin, among its numbers and on the card, and how many it has.
 #[derive(Clone, Copy)]
 pub struct CardIndex {
-    pub(crate) counts: Counts,
-    pub(crate) starts: [u32; STARTS],
+    pub counts: Counts,
+    pub starts: [u32; STARTS],
 }
 
 impl CardIndex {
@@ -82,38 +84,6 @@ impl Position {
             row_width(&SUBNET, 0) + row_width(&PLACE, 0) * places as u32,
         )
     }
-}
-
-// Number i of a table, and 0 past its end.
-pub fn number_at(numbers: &[u16], i: usize) -> u16
-    ensures { result ≡ get_or numbers.now i 0 }
-{
-    numbers.get(i).copied().unwrap_or(0)
-}
-
-// What the walk reads: the version, and the counts of a subnet or a transition whose row begins at row.
-fn version(numbers: &[u16]) -> u16
-    ensures { result ≡ get_or numbers.now 0 0 }
-{
-    number_at(numbers, 0)
-}
-
-fn place_count(numbers: &[u16], row: u32) -> u16
-    ensures { result ≡ get_or numbers.now (row + 2) 0 }
-{
-    number_at(numbers, row as usize + 2)
-}
-
-fn transition_count(numbers: &[u16], row: u32) -> u16
-    ensures { result ≡ get_or numbers.now (row + 3) 0 }
-{
-    number_at(numbers, row as usize + 3)
-}
-
-fn arc_count(numbers: &[u16], row: u32) -> u16
-    ensures { result ≡ get_or numbers.now (row + 1) 0 }
-{
-    number_at(numbers, row as usize + 1)
 }
 
 // Stores where subnet s begins, and the flat numbers of its first place and transition.

@@ -9,6 +9,7 @@ pub mod reader;
 pub mod room;
 pub mod row;
 mod rows;
+pub mod tables;
 pub mod text;
 pub mod view;
 pub mod writer;

@@ -1,7 +1,7 @@
 // Bytes one after another, in a room of their own.
 ghost use Rattle.std.specs.Prelude.{◌≡◌, ℕ, ◌-◌, ◌≤◌, ◌↔◌, List, [], ◌∷◌, ◌++◌, length, take, IsTrue};
 ghost use Rattle.card.specs.Text.{decimal};
-ghost use Rattle.card.specs.inner.Rooms.{IsFilled};
+ghost use Rattle.card.specs.Rooms.{IsFilled};
 
 use std::marker::Model;
 
@@ -16,7 +16,7 @@ pub struct Text<const N: usize> {
 // Clauses see the bytes alone. Zeros stand behind them, so that the fields are known from the bytes.
 impl<const N: usize> Model for Text<N> {
     ghost use Rattle.std.specs.Prelude.{ℕ, ◌-◌, List, ◌++◌, length, take, replicate};
-    ghost use Rattle.card.specs.inner.Rooms.{IsFilled, filled_long, filled_back};
+    ghost use Rattle.card.specs.Rooms.{IsFilled, filled_long, filled_back};
 
     ghost Value = { List ℕ };
 

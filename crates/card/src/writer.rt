@@ -7,9 +7,9 @@ ghost use Rattle.card.specs.Rows.{on_rows, read_rows};
 ghost use Rattle.card.specs.Spelling.{IsSpelt, Lines, put_into};
 
 use crate::bits::{put_field, too_wide};
-use crate::index::number_at;
 use crate::layout::{Next, arc_step, start, step, width};
 use crate::rows::Rows;
+use crate::tables::number_at;
 use crate::text::Text;
 use crate::{CARD_BYTES, FormatFault, FormatRefusal, Head, TABLE};
 
