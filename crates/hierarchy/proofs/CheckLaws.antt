@@ -1,14 +1,14 @@
 -- What the check found is what judging a card says. Assumes nothing.
 use Prim.Native.Nat.{ℕ}
-use mathlib.Core.Path.{◌≡◌, sym, ap, subst, ◌∙◌}
-use mathlib.Core.Bool.{Bool, true}
+use mathlib.Core.Path.{◌≡◌, refl, sym, ap, subst, ◌∙◌}
+use mathlib.Core.Bool.{Bool, true, false}
 use mathlib.Core.List.{List}
-use mathlib.Core.Option.{Option}
+use mathlib.Core.Option.{Option, none, some}
 use native.Mathlib.Omega.{arith}
-use lib.ListN.{length}
+use lib.ListN.{length, replicate}
 use Rattle.card.specs.Finite.{◌otherwise◌}
 use Rattle.card.specs.Card.{Card}
-use Rattle.card.specs.Index.{starts_of}
+use Rattle.card.specs.Index.{starts_of, starts_size}
 use Rattle.card.specs.Parsing.{Parsing, read_card}
 use Rattle.card.specs.Tables.{read_outcome, outcome_of, IsRead, IsTable, IsLent}
 use Rattle.card.specs.Numbers
@@ -16,11 +16,11 @@ use Rattle.card.specs.declared.FormatRefusal.{FormatRefusal}
 use Rattle.card.specs.declared.index.CardIndex.{CardIndex}
 use Rattle.std.specs.Prelude.{Result, Ok, Err, IfOk}
 use Rattle.card.specs.View.{card_in}
-use Rattle.card.proofs.ReadLaws.{lent_is}
+use Rattle.card.proofs.ReadLaws.{lent_is, blank_table}
 use Rattle.card.proofs.ViewLaws.{View, read_holds}
 use Rattle.hierarchy.specs.Check.{Found, finding_of, check}
 use Rattle.hierarchy.specs.Numbers.{as_refusal, check_outcome}
-use Rattle.hierarchy.specs.Judgement.{judge, judged, accepted, answer, IsChecked, IsAccepted}
+use Rattle.hierarchy.specs.Judgement.{judge, judged, checked, accepted, answer, counts_of, starts_read, IsChecked, IsAccepted}
 use Rattle.hierarchy.specs.Judgement
 use Rattle.hierarchy.specs.declared.CardRefusal.{CardRefusal}
 
@@ -94,3 +94,46 @@ module _ (bytes : List ℕ) (r : Result CardIndex FormatRefusal) (h : IsRead (re
           record { answer = answer_accepted d s u x; starts = λ c p. starts_are ∙ ap starts_of (let y : card_in numbers ≡ c = accepted_same _ _ (sym j ∙ p) in y) },
           record { judged = j; holds = view.holds },
         )
+
+-- WHERE THE ROWS BEGIN IS TOLD OF EACH CARD THAT PASS ONE READS
+module _ (x : Parsing Card) (r : Result CardIndex FormatRefusal) (h : IsRead x r) where
+  pub starts_whole : (k : CardIndex) → r ≡ Ok k → k.starts ≡ starts_read x
+  starts_whole k e = go x refl (sym (ap read_outcome e) ∙ h.answer)
+    where
+      go : (y : Parsing Card) → x ≡ y → read_outcome (Ok k) ≡ outcome_of y → k.starts ≡ starts_read y
+      go (Parsing.whole c end) p q = subst (λ (z : Result CardIndex FormatRefusal). IfOk z (λ i. i.starts ≡ starts_of c)) e (h.starts c end p)
+      go (Parsing.refused n at) p q = absurd (let z : ◌≡◌ {A = ℕ} 0 1 = cc in omega arith)
+
+  pub starts_none : (e : FormatRefusal) → r ≡ Err e → replicate starts_size 0 ≡ starts_read x
+  starts_none e q = go x (sym (ap read_outcome q) ∙ h.answer)
+    where
+      go : (y : Parsing Card) → read_outcome (Err e) ≡ outcome_of y → replicate starts_size 0 ≡ starts_read y
+      go (Parsing.whole c end) p = absurd (let z : ◌≡◌ {A = ℕ} 0 1 = cc in omega arith)
+      go (Parsing.refused n at) p = blank_table starts_size
+
+module _ (bytes : List ℕ) (r : Result CardIndex CardRefusal) (h : IsChecked bytes r) (k : CardIndex) (e : r ≡ Ok k) where
+  told : check_outcome (Ok k.counts) ≡ answer bytes
+  told = sym (ap (λ (z : Result CardIndex CardRefusal). check_outcome (counts_of z)) e) ∙ h.answer
+
+  pub starts_accepted : k.starts ≡ starts_read (read_card bytes)
+  unfolding judge
+  starts_accepted = go (read_card bytes) refl
+    where
+      apart : (j : Judgement.Judgement) → judge bytes ≡ j → check_outcome (Ok k.counts) ≡ Judgement.outcome_of j
+      apart j p = told ∙ ap Judgement.outcome_of p
+
+      found : (c : Card) (x : Option Found) → judge bytes ≡ checked x c → check_outcome (Ok k.counts) ≡ Judgement.outcome_of (checked x c) → k.starts ≡ starts_of c
+      found c none p q = subst (λ (z : Result CardIndex CardRefusal). IfOk z (λ i. i.starts ≡ starts_of c)) e (h.starts c p)
+      found c (some f) p q = absurd (let z : ◌≡◌ {A = ℕ} 0 1 = cc in omega arith)
+
+      unread_not : (n at : ℕ) → check_outcome (Ok k.counts) ≡ Judgement.outcome_of (Judgement.refused n at) → k.starts ≡ starts_read (Parsing.refused n at)
+      unread_not n at q = absurd (let z : ◌≡◌ {A = ℕ} 0 1 = cc in omega arith)
+
+      go : (y : Parsing Card) → read_card bytes ≡ y → k.starts ≡ starts_read y
+      go (Parsing.whole c end) p = let j : judge bytes ≡ checked (check c) c = ap judged p in found c (check c) j (apart _ j)
+      go (Parsing.refused n at) p = let j : judge bytes ≡ Judgement.refused n at = ap judged p in unread_not n at (apart _ j)
+
+-- a table that is filled a second time
+pub lent_again : (x : Parsing Card) (room : Bool) (a b c : List ℕ) → length b ≡ length a → IsLent x room a b → IsLent x room b c → IsLent x room a c
+lent_again x true a b c e h k = subst (λ (n : ℕ). IsTable x n c) e k
+lent_again x false a b c e h k = k ∙ h

@@ -2,8 +2,9 @@
 use Rattle.std.specs.Prelude.{ℕ, ◌≡◌, List, length, Result, Ok, Err, IfOk}
 use Rattle.std.proofs.Math.Option.{Option, none, some}
 use Rattle.card.specs.Card.{Card}
-use Rattle.card.specs.Index.{starts_of}
+use Rattle.card.specs.Index.{starts_of, starts_size}
 use Rattle.card.specs.Parsing.{Parsing, read_card}
+use Rattle.card.specs.Tables.{zeros}
 use Rattle.card.specs.Writing.{read_tables}
 use Rattle.hierarchy.specs.Numbers.{number, CheckOutcome, check_outcome}
 use Rattle.hierarchy.specs.Numbers
@@ -11,6 +12,7 @@ use Rattle.hierarchy.specs.Check.{Found, check}
 use Rattle.card.specs.View.{card_in, Holds}
 use Rattle.card.specs.declared.Counts.{Counts}
 use Rattle.hierarchy.specs.declared.CardRefusal.{CardRefusal}
+use Rattle.hierarchy.specs.declared.check.CheckedCard.{CheckedCard}
 use Rattle.card.specs.declared.index.CardIndex.{CardIndex}
 
 -- accepted: the card; refused: the paper's number and the bit
@@ -55,3 +57,13 @@ pub record IsChecked (bytes : List ℕ) (r : Result CardIndex CardRefusal) : Typ
 pub record IsAccepted (bytes numbers : List ℕ) (i : CardIndex) : Type 0 where
   pub judged : judge bytes ≡ accepted (card_in numbers)
   pub holds : Holds (card_in numbers) numbers i
+
+-- where the rows begin of the card that pass one read, be it one that pass two turns back; of bytes that it refuses, zeros
+abbrev pub starts_read : Parsing Card → List ℕ
+starts_read (Parsing.whole c end) = starts_of c
+starts_read (Parsing.refused n at) = zeros starts_size
+
+-- the answer, and these starts, whatever the answer is
+pub record IsCheckedCard (bytes : List ℕ) (r : CheckedCard) : Type 0 where
+  pub answer : check_outcome r.answer ≡ answer bytes
+  pub starts : r.starts ≡ starts_read (read_card bytes)

@@ -4,7 +4,7 @@ ghost use Rattle.card.specs.Parsing.{read_card};
 ghost use Rattle.card.specs.Tables.{has_room, IsTable, IsLent};
 ghost use Rattle.hierarchy.specs.Numbers.{check_outcome};
 ghost use Rattle.hierarchy.specs.Check.{finding_of, check as first_fault};
-ghost use Rattle.hierarchy.specs.Judgement.{answer, IsChecked, IsAccepted};
+ghost use Rattle.hierarchy.specs.Judgement.{answer, starts_read, IsChecked, IsAccepted, IsCheckedCard};
 
 use crate::CardRefusal;
 use crate::arcs::arcs_fault;
@@ -13,7 +13,14 @@ use crate::types::types_fault;
 use card::index::CardIndex;
 use card::reader::{has_room, read};
 use card::view::CardView;
-use card::{Counts, SMALL_TABLE, TABLE};
+use card::{Counts, SMALL_TABLE, STARTS, TABLE};
+
+// The check's answer, and where the rows begin of the card that pass one read.
+#[derive(Clone, Copy)]
+pub struct CheckedCard {
+    pub answer: Result<Counts, CardRefusal>,
+    pub starts: [u32; STARTS],
+}
 
 // The first fault of pass two.
 #[tactic(auto, using(crate::proofs::CheckLaws::found_first, crate::proofs::CheckLaws::found_later), unfolding(crate::specs::Check::check))]
@@ -52,6 +59,47 @@ pub fn load(card: &[u8], numbers: &mut [u16]) -> Result<CardIndex, CardRefusal>
     }
     let mut own = [0; TABLE];
     load_into(card, &mut own)
+}
+
+// Where the rows of a card begin, whatever pass two says of it; zeros where pass one refuses it.
+#[tactic(auto, using(crate::proofs::CheckLaws::starts_whole, crate::proofs::CheckLaws::starts_none))]
+fn starts_in(card: &[u8], numbers: &mut [u16]) -> [u32; STARTS]
+    ensures numbers_len_unchanged { length numbers.new ≡ length numbers.old }
+    ensures starts { result ≡ starts_read (read_card card.now) }
+    ensures lent { IsLent (read_card card.now) (has_room (length card.now) (length numbers.old)) numbers.old numbers.new }
+{
+    let none = [0; STARTS];
+    match read(card, numbers) {
+        Ok(index) => index.starts,
+        Err(_refusal) => none,
+    }
+}
+
+// Checks a card, for a caller that goes on with its tables also where pass two turns it back: the answer and both tables of what pass one read. (Of a
+// card that is turned back it is read once more.) Two wrong ones that this rules out: one whose starts are zeros wherever the card is turned back,
+// and one that answers what pass one answers.
+#[tactic(auto, using(crate::proofs::CheckLaws::starts_accepted, crate::proofs::CheckLaws::lent_again))]
+pub fn checked(card: &[u8], numbers: &mut [u16]) -> CheckedCard
+    ensures numbers_len_unchanged { length numbers.new ≡ length numbers.old }
+    ensures checked { IsCheckedCard card.now result }
+    ensures lent { IsLent (read_card card.now) (has_room (length card.now) (length numbers.old)) numbers.old numbers.new }
+{
+    match load(card, numbers) {
+        Ok(index) => {
+            let starts = index.starts;
+            CheckedCard {
+                answer: Ok(index.counts),
+                starts,
+            }
+        }
+        Err(refusal) => {
+            let starts = starts_in(card, numbers);
+            CheckedCard {
+                answer: Err(refusal),
+                starts,
+            }
+        }
+    }
 }
 
 // Checks a card. Two wrong checks that this rules out: one that invents the counts, and one that answers with a later fault.

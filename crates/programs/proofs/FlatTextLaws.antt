@@ -22,7 +22,7 @@ use Rattle.hierarchy.proofs.Accepted.{accepted_meets}
 use Rattle.flattening.specs.Flattening.{flatten, flatten_call}
 use Rattle.flattening.proofs.FlatLaws.{flat_meets}
 use Rattle.programs.specs.Programs.{card_line, flattens, flatten_program}
-use Rattle.card.specs.inner.Rooms.{IsFilled}
+use Rattle.card.specs.Rooms.{IsFilled}
 use Rattle.programs.proofs.TextLaws.{filled_front, front_taken}
 
 abbrev zeros : ℕ → List ℕ

@@ -2,7 +2,7 @@
 use Rattle.std.proofs.Common.{◌≡◌, ℕ, suc, ◌+◌, ◌-◌, ◌<◌, ◌≤◌, List, [], ◌∷◌, ◌++◌, length, take, drop, set, replicate, sym, ap, ◌∙◌, arith, append_assoc, length-append}
 use Rattle.std.proofs.Math.Seq.{take_all, take_at, drop_at, set_at}
 use Rattle.std.proofs.lemmas.List.{length-replicate}
-use Rattle.card.specs.inner.Rooms.{IsFilled}
+use Rattle.card.specs.Rooms.{IsFilled}
 
 -- one more entry in front of zeros
 pub set_next : (room n v : ℕ) (xs : List ℕ) → length xs ≡ n → n < room → set (xs ++ replicate (room - n) 0) n v ≡ (xs ++ v ∷ []) ++ replicate (room - (n + 1)) 0

@@ -28,7 +28,7 @@ pub struct FileRow {
 // Clauses see the degrees. Zeros stand behind them, so that the fields are known from the degrees.
 impl Model for FileRow {
     ghost use Rattle.std.specs.Prelude.{ℕ, ◌-◌, List, ◌++◌, length, take, replicate};
-    ghost use Rattle.card.specs.inner.Rooms.{IsFilled, filled_long, filled_back};
+    ghost use Rattle.card.specs.Rooms.{IsFilled, filled_long, filled_back};
 
     ghost Value = { List ℕ };
 
