@@ -14,7 +14,7 @@ use crate::tables::Tables;
 use crate::writers::put_writers;
 use card::reader::read;
 use card::{Counts, TABLE};
-use console::cases::{EndOfRun, numbers_in, read_lead, read_rest};
+use console::cases::{BUFFER_BYTES, EndOfRun, numbers_in, read_lead, read_rest};
 use console::put;
 use hierarchy::CardRefusal;
 use hierarchy::check::check;
@@ -60,8 +60,7 @@ fn put_card_case(rt: &HostRuntime, card: &[u8]) -> io::Result<()> {
     match read(card, &mut numbers) {
         Ok(index) => {
             put_answer(rt, b"read", Ok(index.counts()))?;
-            let rows = CardRows::of_card(rt.alloc(), &numbers)?;
-            put_writers(rt, rows.tables(card.len()))
+            put_writers(rt, CardRows::of_card(&numbers).tables(card.len()))
         }
         Err(refusal) => put_answer(rt, b"read", Err(CardRefusal::from(refusal))),
     }
@@ -98,6 +97,6 @@ fn put_cases(rt: &HostRuntime, buffer: &mut [u8]) -> io::Result<()> {
 }
 
 fn main(rt: HostRuntime) -> io::Result<()> {
-    let mut buffer = [0; 65536];
+    let mut buffer = [0; BUFFER_BYTES];
     put_cases(&rt, &mut buffer)
 }

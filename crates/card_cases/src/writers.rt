@@ -2,21 +2,22 @@
 use crate::lines::{put_bytes, put_length, put_refusal};
 use crate::tables::Tables;
 use card::writer::{put_card, spell};
-use console::cases::FILLER;
+use console::cases::{BUFFER_BYTES, FILLER};
 use console::{put, put_text};
 use hierarchy::write::write;
 use std::io;
 
 // The length of a card, whether the buffer has room for it, and the buffer.
 fn put_into(rt: &HostRuntime, card: &[u8], room: usize) -> io::Result<()> {
-    let mut out = vec![in rt.alloc(); FILLER; room]?;
+    let mut buffer = [FILLER; BUFFER_BYTES];
+    let out = &mut buffer[..room.min(BUFFER_BYTES)];
     let n = card.len();
-    if put_card(card, &mut out) {
+    if put_card(card, out) {
         put_length(rt, n)?;
     } else {
         put_text(rt, format_args!(" short {n}"))?;
     }
-    put_bytes(rt, &out)
+    put_bytes(rt, out)
 }
 
 fn put_spelt(rt: &HostRuntime, t: Tables) -> io::Result<()> {
@@ -30,12 +31,13 @@ fn put_spelt(rt: &HostRuntime, t: Tables) -> io::Result<()> {
 
 fn put_written(rt: &HostRuntime, t: Tables) -> io::Result<()> {
     put(rt, b"write")?;
-    let mut out = vec![in rt.alloc(); FILLER; t.room]?;
-    match write(t.head, &t.rows, &mut out) {
+    let mut buffer = [FILLER; BUFFER_BYTES];
+    let out = &mut buffer[..t.room.min(BUFFER_BYTES)];
+    match write(t.head, &t.rows, out) {
         Ok(n) => put_length(rt, n),
         Err(refusal) => put_refusal(rt, refusal.number(), refusal.value()),
     }?;
-    put_bytes(rt, &out)?;
+    put_bytes(rt, out)?;
     put(rt, b"\n")
 }
 

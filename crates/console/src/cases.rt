@@ -13,6 +13,9 @@ pub struct EndOfRun;
 // What the buffers that answers are written into are filled with.
 pub const FILLER: u8 = 165;
 
+// How long these buffers are, and those of the cases: a 16-bit number never says more. Of the first as much is lent as a case names.
+pub const BUFFER_BYTES: usize = 65536;
+
 // A case's kind and length. The kind is a number here: each of the two programs that read cases has kinds of its own.
 #[derive(Clone, Copy)]
 pub struct Lead {
