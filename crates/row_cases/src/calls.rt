@@ -1,7 +1,7 @@
 // The cases, each answered on the card and the states that are held.
 use crate::lines::{put_answer, put_line, put_state};
 use crate::states::{Field, blank, with_entry};
-use console::cases::{FILLER, number_at, numbers_in};
+use console::cases::{BUFFER_BYTES, FILLER, number_at, numbers_in};
 use console::{put, put_text};
 use flattening::flatten;
 use programs::line::turned_back_line;
@@ -91,11 +91,12 @@ fn put_refusal(rt: &HostRuntime, number: u64, value: usize) -> io::Result<()> {
 // The flat card, put into a buffer of so many bytes that is filled with other bytes.
 pub fn put_flat(rt: &HostRuntime, card: &[u8], body: &[u8]) -> io::Result<()> {
     let room = usize::from(number_at(body, 0));
-    let mut out = vec![in rt.alloc(); FILLER; room]?;
-    match flatten(card, &mut out) {
+    let mut buffer = [FILLER; BUFFER_BYTES];
+    let out = &mut buffer[..room];
+    match flatten(card, out) {
         Ok(n) => put_text(rt, format_args!("flat ok 0 {n}\n")),
         Err(why) => put_refusal(rt, why.number(), why.value()),
     }?;
-    put(rt, &out)?;
+    put(rt, out)?;
     put(rt, b"\n")
 }

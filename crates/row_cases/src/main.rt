@@ -17,7 +17,7 @@ ghost use Rattle.std.specs.Prelude.{◌≡◌, length};
 
 use crate::calls::{Held, begin, put_call, put_flat, set_entry};
 use crate::files::put_file;
-use console::cases::{EndOfRun, Lead, read_lead, read_rest};
+use console::cases::{BUFFER_BYTES, EndOfRun, Lead, read_lead, read_rest};
 use std::io;
 
 // What a case is. No `Option` of a call: a card is a case too, and ends the calls with the one before it.
@@ -121,7 +121,7 @@ fn put_cases(rt: &HostRuntime, buffer: &mut [u8], body: &mut [u8]) -> io::Result
 }
 
 fn main(rt: HostRuntime) -> io::Result<()> {
-    let mut buffer = [0; 65536];
-    let mut body = [0; 65536];
+    let mut buffer = [0; BUFFER_BYTES];
+    let mut body = [0; BUFFER_BYTES];
     put_cases(&rt, &mut buffer, &mut body)
 }
