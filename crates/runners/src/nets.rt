@@ -43,7 +43,7 @@ impl Model for Net {
 impl Net {
     // The net of a card's numbers and their index. Two wrong ones that this rules out: one that holds first tokens for capacities, and one that holds
     // no numbers.
-    pub fn new(numbers: [u16; TABLE], index: CardIndex) -> Net
+    pub(crate) fn new(numbers: [u16; TABLE], index: CardIndex) -> Net
         requires holds { Holds (card_in numbers) numbers index }
         requires meets { Meets (card_in numbers) }
         ensures { result ≡ card_in numbers }
