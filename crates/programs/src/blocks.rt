@@ -22,7 +22,7 @@ pub const LINES_BYTES: usize = LONGEST * BLOCK_BYTES;
 
 // A card that is run row by row: the net of its flat card, the number of the next row, the state in front of it, and those of its bytes that are
 // there. Only this crate makes one or looks into it.
-#[derive(Drop)]
+#[derive(Clone, Copy)]
 pub struct CardRun {
     net: Net,
     number: u64,

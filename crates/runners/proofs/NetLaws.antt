@@ -8,7 +8,7 @@ use Rattle.std.proofs.lemmas.Bool.{cases_lt}
 use Rattle.std.proofs.lemmas.List.{nil_from_length}
 use Rattle.card.specs.Finite.{some_unless, ◌otherwise◌}
 use Rattle.card.specs.Card.{Card}
-use Rattle.card.specs.Index.{Loaded}
+use Rattle.card.specs.Index.{Loaded, starts_of}
 use Rattle.card.specs.Parsing.{read_card}
 use Rattle.card.specs.Tables.{IsTable}
 use Rattle.card.specs.View.{card_in}
@@ -129,6 +129,10 @@ module _ (c : Card) (m : Meets c) (order : List ℕ) (first : Lent) (rows : List
 pub loaded_meets : (bytes numbers : List ℕ) (k : CardIndex) → IsAccepted bytes numbers k → Meets (card_in numbers)
 loaded_meets bytes numbers k h = accepted_meets bytes (card_in numbers) h.judged
 
+-- and its index is whole
+pub loaded_starts : (bytes numbers : List ℕ) (r : Result CardIndex CardRefusal) (k : CardIndex) → IsChecked bytes r → r ≡ Ok k → IsAccepted bytes numbers k → k.starts ≡ starts_of (card_in numbers)
+loaded_starts bytes numbers r k h e a = subst (λ (x : Result CardIndex CardRefusal). IfOk x (λ k. k.starts ≡ starts_of (card_in numbers))) e (h.starts (card_in numbers) a.judged)
+
 -- what a load leaves is the net of what the card was judged to be
 pub net_refused : (bytes : List ℕ) (e : CardRefusal) → check_outcome (Err e) ≡ answer bytes → IsNet (judge bytes) (Err e)
 net_refused bytes e h = judged_refused bytes e h
@@ -170,3 +174,8 @@ own_net_row bytes order row l x h = h
 module _ (bytes numbers flat : List ℕ) (k : FlatCard) (h : IsFlattened bytes numbers flat k) where
   pub flat_loaded_meets : Meets (card_in flat)
   flat_loaded_meets = rw h.flattened (flat_meets (card_in numbers) (accepted_meets bytes (card_in numbers) h.judged))
+
+pub flat_loaded_starts : (bytes numbers flat : List ℕ) (r : Result FlatCard CardRefusal) (k : FlatCard) → IsFlatCard bytes r → r ≡ Ok k → IsFlattened bytes numbers flat k
+    → k.flat.starts ≡ starts_of (card_in flat)
+flat_loaded_starts bytes numbers flat r k h e a =
+    subst (λ (x : Result FlatCard CardRefusal). IfOk x (λ k. k.flat.starts ≡ starts_of (flatten (card_in numbers)))) e (h.flat (card_in numbers) a.judged) ∙ ap starts_of (sym a.flattened)

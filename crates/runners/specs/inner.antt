@@ -6,3 +6,4 @@ pub mod Counts
 pub mod Verdict
 pub mod Markings
 pub mod Steps
+pub mod Fields

@@ -56,7 +56,7 @@ pub fn flat_row(card: &[u8], state: State, row: &[u16]) -> RowAnswer
 
 // The net of a card's flat card. Two wrong ones that this rules out: one that hands on the card's own net, and one that takes a refused card's
 // header for a net.
-#[tactic(auto, using(crate::proofs::NetLaws::flat_loaded_meets))]
+#[tactic(auto, using(crate::proofs::NetLaws::flat_loaded_meets, crate::proofs::NetLaws::flat_loaded_starts))]
 pub fn flat_net(card: &[u8]) -> Result<Net, CardRefusal>
     ensures { IsNet (flat_judged (judge card.now)) result }
 {

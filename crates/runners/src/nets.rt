@@ -1,6 +1,7 @@
 // A card that is loaded once, for many rows.
 ghost use Rattle.std.specs.Prelude.{◌≡◌, ◌≤◌};
 ghost use Rattle.card.specs.Card.{Card};
+ghost use Rattle.card.specs.Index.{starts_of};
 ghost use Rattle.card.specs.View.{card_in, Holds};
 ghost use Rattle.hierarchy.specs.Conditions.{Meets};
 ghost use Rattle.hierarchy.specs.Judgement.{accepted, judge};
@@ -21,7 +22,7 @@ use hierarchy::check::load;
 use std::marker::Model;
 
 // An accepted card: its numbers, their index, and the full marking of each place.
-#[derive(Drop)]
+#[derive(Clone, Copy)]
 pub struct Net {
     numbers: [u16; TABLE],
     index: CardIndex,
@@ -31,13 +32,22 @@ pub struct Net {
 impl Model for Net {
     ghost use Rattle.card.specs.Card.{Card};
     ghost use Rattle.card.specs.View.{card_in};
-    ghost use Rattle.runners.specs.inner.Steps.{IsLoaded};
+    ghost use Rattle.card.specs.Tables.{table_size, numbers_table};
+    ghost use Rattle.runners.specs.inner.Fields.{IsWhole, index_of, full_markings, numbers_back, index_back, full_back};
 
     ghost Value = { Card };
 
     ghost view = { λ n. card_in n.numbers };
 
-    ghost invariant = { λ n. IsLoaded (card_in n.numbers) n.numbers n.index n.full };
+    ghost invariant = { λ n. IsWhole (card_in n.numbers) n.numbers n.index n.full };
+
+    ghost inverse = { λ c. record { numbers = numbers_table table_size c; index = index_of c; full = full_markings c } };
+
+    ghost inverse_ok = { λ n h i. record {
+      numbers = numbers_back (card_in n.numbers) n.numbers n.index n.full h i;
+      index = index_back (card_in n.numbers) n.numbers n.index n.full h i;
+      full = full_back (card_in n.numbers) n.numbers n.index n.full h i;
+    } };
 }
 
 impl Net {
@@ -46,6 +56,7 @@ impl Net {
     pub(crate) fn new(numbers: [u16; TABLE], index: CardIndex) -> Net
         requires holds { Holds (card_in numbers) numbers index }
         requires meets { Meets (card_in numbers) }
+        requires starts { index.starts ≡ starts_of (card_in numbers) }
         ensures { result ≡ card_in numbers }
     {
         let full = by_place::<Capacity>(&index.view(&numbers));
@@ -105,7 +116,7 @@ impl Net {
 }
 
 // The net of a card, or its refusal. Two wrong ones that this rules out: one that loads a refused card, and one that forgets the capacities.
-#[tactic(auto, using(crate::proofs::NetLaws::loaded_meets))]
+#[tactic(auto, using(crate::proofs::NetLaws::loaded_meets, crate::proofs::NetLaws::loaded_starts))]
 pub fn card_net(card: &[u8]) -> Result<Net, CardRefusal>
     ensures { IsNet (judge card.now) result }
 {
