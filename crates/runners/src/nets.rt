@@ -4,16 +4,16 @@ ghost use Rattle.card.specs.Card.{Card};
 ghost use Rattle.card.specs.Index.{starts_of};
 ghost use Rattle.card.specs.View.{card_in, Holds};
 ghost use Rattle.hierarchy.specs.Conditions.{Meets};
-ghost use Rattle.hierarchy.specs.Judgement.{accepted, judge};
+ghost use Rattle.hierarchy.specs.Judgement.{Judgement, accepted, judge};
 ghost use Rattle.runners.specs.Calls.{called, in_order};
 ghost use Rattle.runners.specs.Rows.{pieces};
 ghost use Rattle.runners.specs.Answers.{IsRow};
-ghost use Rattle.runners.specs.Nets.{IsNet, leaves};
+ghost use Rattle.runners.specs.Nets.{signals_in, IsNet, leaves, rows_in};
 ghost use Rattle.runners.specs.inner.Markings.{capacity, Filled};
 
 use crate::places::{Capacity, by_place};
 use crate::row::{NetView, called_row, loaded_row, tested};
-use crate::{RowAnswer, State};
+use crate::{Refusal, RowAnswer, State};
 use card::index::CardIndex;
 use card::view::CardView;
 use card::{MOST_PLACES, TABLE};
@@ -123,4 +123,43 @@ pub fn card_net(card: &[u8]) -> Result<Net, CardRefusal>
     let mut numbers = [0; TABLE];
     let index = load(card, &mut numbers)?;
     Ok(Net::new(numbers, index))
+}
+
+// The same calls on what `card_net` or `flat_net` answered, a refusal too. How many signals the card has; none, of a refused one. Two wrong ones
+// that this rules out: one that tells its places, and one that tells a signal of a refused card.
+pub fn net_signals(net: &Result<Net, CardRefusal>) -> u16
+    ensures { (j : Judgement) → IsNet j net.now → result ≡ signals_in j }
+{
+    match net {
+        Ok(net) => net.signals(),
+        Err(_) => 0,
+    }
+}
+
+// A row call: the card's own refusal, 25, 23, 20, 21, 22. Two wrong ones that this rules out: one that takes a row on a refused card, and one that
+// turns it back with 25.
+pub fn net_row(
+    net: &Result<Net, CardRefusal>,
+    order: &[u16],
+    state: State,
+    row: &[u16],
+) -> RowAnswer
+    ensures { (j : Judgement) → IsNet j net.now → IsRow (called (in_order order.now) j state row.now) result }
+{
+    match net {
+        Ok(net) => net.row(order, state, row),
+        Err(refusal) => RowAnswer::new(state, Err(Refusal::BadCard(*refusal))),
+    }
+}
+
+// Many rows in one list, and the state that they leave; a refused card leaves it as it was. Two wrong ones that this rules out: one that clears
+// the markings there, and one that hands the first row alone on.
+#[tactic(auto, unfolding(crate::specs::Nets::leaves))]
+pub fn net_rows(net: &Result<Net, CardRefusal>, order: &[u16], state: State, rows: &[u16]) -> State
+    ensures { (j : Judgement) → IsNet j net.now → result ≡ leaves (called (in_order order.now) j) state (rows_in j rows.now) }
+{
+    match net {
+        Ok(net) => net.rows(order, state, rows),
+        Err(_) => state,
+    }
 }
