@@ -1,13 +1,13 @@
 // The cases, each answered on the card and the states that are held.
 use crate::lines::{put_answer, put_line, put_state};
-use crate::states::{Field, blank, with_entry};
+use crate::states::{Field, with_entry};
 use console::cases::{BUFFER_BYTES, FILLER, number_at, numbers_in};
 use console::{put, put_text};
 use flattening::flatten;
 use programs::line::turned_back_line;
 use runners::State;
 use runners::flat_runner::flat_row;
-use runners::fresh::fresh;
+use runners::fresh::{first_state, fresh};
 use runners::subnet_runner::subnet_row;
 use std::io;
 
@@ -21,12 +21,12 @@ pub struct Held {
 
 // A card: its refusal, or its fresh state. With a refused card both runners hold the blank state.
 pub fn begin(rt: &HostRuntime, card: &[u8]) -> io::Result<Held> {
-    let start = fresh(card).map(|first| first.state);
+    let start = fresh(card);
     match start {
-        Ok(state) => put_state(rt, 0, &state),
+        Ok(first) => put_state(rt, 0, &first.state),
         Err(refusal) => put_line(rt, turned_back_line(refusal)),
     }?;
-    let state = start.unwrap_or(blank());
+    let state = first_state(&start);
     Ok(Held {
         flat: state,
         subnet: state,

@@ -1,5 +1,4 @@
 // States with one entry set.
-use card::{MOST_PLACES, MOST_SIGNALS, MOST_TRANSITIONS};
 use runners::{State, Transfer};
 
 // Where an entry stands: in the markings, the transfers or the degrees (of a transfer 65,535 is idle), or as one of the counts.
@@ -24,18 +23,6 @@ impl From<u16> for Field {
             4 => Field::Transitions,
             _ => Field::Signals,
         }
-    }
-}
-
-// The state of no net.
-pub fn blank() -> State {
-    State {
-        markings: [0; MOST_PLACES],
-        transfers: [Transfer::Idle; MOST_TRANSITIONS],
-        degrees: [0; MOST_SIGNALS],
-        places: 0,
-        transitions: 0,
-        signals: 0,
     }
 }
 

@@ -2,15 +2,16 @@
 ghost use Rattle.std.specs.Prelude.{◌≡◌, true, length};
 ghost use Rattle.card.specs.Tables.{has_room};
 ghost use Rattle.hierarchy.specs.Conditions.{Meets};
+ghost use Rattle.hierarchy.specs.Judgement.{Judgement};
 ghost use Rattle.flattening.specs.Flattening.{flatten};
-ghost use Rattle.runners.specs.Calls.{fresh_lent, fresh_call};
+ghost use Rattle.runners.specs.Calls.{fresh_lent, fresh_of, fresh_call};
 ghost use Rattle.runners.specs.Answers.{IsFreshState};
 
 use crate::places::{Tokens, by_place};
 use crate::{State, Transfer};
 use card::room::with_table;
 use card::view::CardView;
-use card::{Counts, MOST_SIGNALS, MOST_TRANSITIONS};
+use card::{Counts, MOST_PLACES, MOST_SIGNALS, MOST_TRANSITIONS};
 use hierarchy::CardRefusal;
 use hierarchy::check::load;
 
@@ -56,4 +57,22 @@ pub fn fresh(card: &[u8]) -> Result<FreshState, CardRefusal>
     ensures { IsFreshState (fresh_call card.now) result }
 {
     with_table(card.len(), &mut |numbers| fresh_in(card, numbers))
+}
+
+// The state that a call is lent first: the fresh one, and of a refused card the blank state of no net. Two wrong ones that this rules out: one
+// that hands a net's counts on where the card is refused, and one that hands out the blank state of each card.
+pub fn first_state(fresh: &Result<FreshState, CardRefusal>) -> State
+    ensures { (j : Judgement) → IsFreshState (fresh_of j) fresh.now → result ≡ (fresh_of j).1 }
+{
+    match fresh {
+        Ok(fresh) => fresh.state,
+        Err(_) => State {
+            markings: [0; MOST_PLACES],
+            transfers: [Transfer::Idle; MOST_TRANSITIONS],
+            degrees: [0; MOST_SIGNALS],
+            places: 0,
+            transitions: 0,
+            signals: 0,
+        },
+    }
 }
