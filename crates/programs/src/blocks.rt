@@ -1,5 +1,5 @@
 // A run as its input comes in: the card, then block after block of rows, then the end.
-ghost use Rattle.std.specs.Prelude.{◌≡◌, ◌+◌, ◌*◌, ◌≤◌, ◌<◌, length, IfOk, IfErr};
+ghost use Rattle.std.specs.Prelude.{◌≡◌, ◌+◌, ◌*◌, ◌≤◌, ◌<◌, [], length, IfOk, IfErr};
 ghost use Rattle.programs.specs.Lines.{longest};
 ghost use Rattle.programs.specs.Runs.{answered, feed, last_line, fed_block, run_in, size_in, call_in, IsBegun, IsTurnedBack, IsTurn};
 
@@ -21,7 +21,7 @@ pub const BLOCK_BYTES: usize = 64;
 pub const LINES_BYTES: usize = LONGEST * BLOCK_BYTES;
 
 // A card that is run row by row: the net of its flat card, the number of the next row, the state in front of it, and those of its bytes that are
-// there. Only this crate makes one or looks into it.
+// there. Only this crate looks into it.
 #[derive(Clone, Copy)]
 pub struct CardRun {
     net: Net,
@@ -38,15 +38,24 @@ pub fn begin(card: &[u8]) -> Result<CardRun, Line>
 {
     let first = fresh(card).map_err(turned_back_line)?;
     let net = flat_net(card).map_err(turned_back_line)?;
-    Ok(CardRun {
-        net,
-        number: 1,
-        state: first.state,
-        left: Text::new(),
-    })
+    Ok(CardRun::on(net, first.state))
 }
 
 impl CardRun {
+    // A run in front of its first row, on any net and from any state. Two wrong ones that this rules out: one that begins with row 0, and one that
+    // begins with a byte of a row.
+    pub fn on(net: Net, state: State) -> CardRun
+        ensures net { result.net ≡ net }
+        ensures run { run_in result ≡ record { number = 1; state = state; left = [] } }
+    {
+        CardRun {
+            net,
+            number: 1,
+            state,
+            left: Text::new(),
+        }
+    }
+
     // A block of the input, in a buffer that has room for the longest line for each of its bytes; of another nothing is taken. It answers how
     // many bytes the lines have, which stand at the buffer's front, and no slice: what a buffer holds that is lent on takes a clause that is proved
     // by hand. Two wrong ones that this rules out: one that keeps or prints the state in front of a row, and one that loses the bytes of a row

@@ -1,5 +1,5 @@
-use Rattle.std.proofs.Common.{List, ℕ, ap₂}
-use Rattle.hierarchy.specs.Judgement.{judge}
+use Rattle.std.proofs.Common.{[], sym, ap, ◌∙◌}
+use Rattle.hierarchy.specs.Judgement.{accepted, judge}
 use Rattle.runners.specs.declared.State.{State as Lent}
 use Rattle.programs.specs.Runs.{Run}
 use Rattle.programs.proofs.StoryLaws.{story}
@@ -19,14 +19,14 @@ returns-in_err-net-clause-turned_back c =
 pub returns-clause-begun : goal.returns-clause-begun
 returns-clause-begun c =
     let card = c.args.card.now in
-    let net = rw (turned_ok card _ _ c.map_err-2.ensures.cases _ c.in_ok-net.was) at c.flat_net.ensures in
+    let net = (rw (turned_ok card _ _ c.map_err-2.ensures.cases _ c.in_ok-net.was) at c.flat_net.ensures) ∙ ap accepted (sym c.on.ensures.net) in
     let first = rw (turned_ok card _ _ c.map_err.ensures.cases _ c.in_ok-first.was) at c.fresh.ensures in
     let state = first.fresh.state in
-    let run = ap₂ {C = Run} (λ (s : Lent) (xs : List ℕ). record { number = 1; state = s; left = xs }) state c.new.ensures in
-    let accepted = begun (judge card) _ net in
+    let run = c.on.ensures.run ∙ ap {B = Run} (λ (s : Lent). record { number = 1; state = s; left = [] }) state in
+    let is = begun (judge card) _ net in
     record {
-      accepted = accepted;
+      accepted = is;
       net = net;
       run = run;
-      program = λ room calls last h e fit. story card _ room calls last accepted run h e fit;
+      program = λ room calls last h e fit. story card _ room calls last is run h e fit;
     }
