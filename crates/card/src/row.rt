@@ -53,6 +53,7 @@ impl<'a, R: Row> Iterator for RowsOf<'a, R> {
 
     ghost remaining = { item_count (λ rows. rows) };
 
+    #[inline(always)]
     fn next(&mut self) -> Option<R> {
         let (row, rest) = self.numbers.split_at_checked(R::FIELDS)?;
         self.numbers = rest;

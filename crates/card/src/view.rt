@@ -102,6 +102,7 @@ impl From<Direction> for u16 {
 }
 
 // No card has another number for a kind or a direction. Functions and no From: not every number of 16 bits is one of a kind.
+#[inline(always)]
 fn kind_of(number: u16) -> Kind
     ensures { result ≡ kind_from number }
 {
@@ -113,6 +114,7 @@ fn kind_of(number: u16) -> Kind
     }
 }
 
+#[inline(always)]
 fn direction_of(number: u16) -> Direction
     ensures { result ≡ direction_from number }
 {
@@ -131,6 +133,7 @@ impl Row for Place {
 
     ghost some = { Prim.search rules };
 
+    #[inline(always)]
     fn of(numbers: &[u16]) -> Place {
         Place {
             kind: kind_of(numbers[0]),
@@ -149,6 +152,7 @@ impl Row for Arc {
 
     ghost some = { Prim.search rules };
 
+    #[inline(always)]
     fn of(numbers: &[u16]) -> Arc {
         Arc {
             direction: direction_of(numbers[0]),

@@ -48,12 +48,14 @@ fn weighted(card: &CardView<'_>, a: Arc) -> bool
 }
 
 // Places differ most often, so they are compared first. (A part of the fields, as in the likeness of places and arcs in types.rt: no derive says it.)
+#[inline(always)]
 fn same_place(a: Arc, b: Arc) -> bool
     ensures { result ≡ at_same_place (arc_in a) (arc_in b) }
 {
     a.place == b.place && a.subnet == b.subnet
 }
 
+#[inline(always)]
 fn repeats(a: Arc, b: Arc) -> bool
     ensures { result ≡ is_repeated (arc_in a) (arc_in b) }
 {
@@ -61,6 +63,7 @@ fn repeats(a: Arc, b: Arc) -> bool
 }
 
 // Whether two arcs have their weights within this capacity together, where they are a self-loop at a place that has it.
+#[inline(always)]
 fn loop_fits(capacity: u16, a: Arc, b: Arc) -> bool
     ensures { result ≡ fits_in capacity (arc_in a) (arc_in b) }
 {

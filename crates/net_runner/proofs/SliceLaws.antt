@@ -1,12 +1,12 @@
 -- A call on a state in slices is the runners' call on the state that they make. Assumes nothing.
-use Prim.Native.Nat.{ℕ}
+use Prim.Native.Nat.{ℕ, zero, suc, ◌+◌, ◌<◌}
 use mathlib.Core.Path.{◌≡◌, refl, sym, ap, subst, ◌∙◌}
 use mathlib.Core.Bool.{Bool, true, false, ◌&&◌}
-use mathlib.Core.List.{List, map}
+use mathlib.Core.List.{List, [], ◌∷◌, ◌++◌, map}
 use mathlib.Core.Option.{Option, none, some, some-ne-none}
 use native.Mathlib.Omega.{arith}
 use denote.Param.Members.{Mut}
-use lib.ListN.{length, take}
+use lib.ListN.{length, get_or, set, take, drop}
 use lib.Seq.{ext_get_or}
 use lib.Dec.{eqb}
 use borrow.Author.Tests.{eqb-true}
@@ -43,20 +43,40 @@ use Rattle.net_runner.specs.Slices.{Slices, slices, state_of, slices_of, sized, 
 use Rattle.net_runner.specs.Copies.{held, SameSlices, Fits, Lends, IsLent, IsHanded, sized_as, taken_back, handed_back, too_long}
 use Rattle.net_runner.proofs.ToldLaws.{FreshNet, fresh_yes}
 
--- an array that a function made of another, element by element
-module _ {F A B : Type 0} (g : Mut F (A × Unit {0}) B) (f : A → B) where
-  pub mapped : (d : A) (e : B) (p : F) (xs : List A) (ys : List B) (n : ℕ) → IsMapOf g p xs ys n → length xs ≡ n
-      → ((p q : F) (x : A) (y : B) → Called g p (x, tt) y q → y ≡ f x) → ys ≡ map f xs
-  mapped d e p xs ys n h l each =
-      ext_get_or e ys (map f xs) (h.long ∙ sym l ∙ sym (length-map xs f))
-      (λ i b. let z = h.at i d e (omega (arith, h.long)) in each _ _ _ _ z.2 ∙ sym (get_or-map f xs i d e (omega (arith, h.long, l))))
+-- a turn of a loop that stores what a function makes of a list's elements, one after another
+made_suc : {A B : Type 0} (f : A → B) (d : A) (xs : List A) (out : List B) (i : ℕ) → i < length xs → i < length out
+    → set (map f (take i xs) ++ drop i out) i (f (get_or xs i d)) ≡ map f (take (suc i) xs) ++ drop (suc i) out
+made_suc f d [] out i h l = absurd (omega arith)
+made_suc f d (x ∷ xs) [] i h l = absurd (omega arith)
+made_suc f d (x ∷ xs) (y ∷ out) zero h l = refl
+made_suc f d (x ∷ xs) (y ∷ out) (suc i) h l = ap (λ zs. f x ∷ zs) (made_suc f d xs out i (omega arith) (omega arith))
+
+pub made_more : {A B : Type 0} (f : A → B) (d : A) (xs : List A) (out : List B) (i : ℕ) → i < length xs → i < length out
+    → (now : List B) → now ≡ map f (take i xs) ++ drop i out → (v : B) → v ≡ f (get_or xs i d) → set now i v ≡ map f (take (i + 1) xs) ++ drop (i + 1) out
+made_more f d xs out i h l now e v q =
+    let n : suc i ≡ i + 1 = omega arith in
+    rw (e, q, ← n) (made_suc f d xs out i h l)
+
+-- the same where they are stored as they are
+copied_suc : {A : Type 0} (xs out : List A) (i : ℕ) → i < length xs → i < length out → (v : A) → v ≡ get_or xs i v
+    → set (take i xs ++ drop i out) i v ≡ take (suc i) xs ++ drop (suc i) out
+copied_suc [] out i h l v q = absurd (omega arith)
+copied_suc (x ∷ xs) [] i h l v q = absurd (omega arith)
+copied_suc (x ∷ xs) (y ∷ out) zero h l v q = ap (λ z. z ∷ out) q
+copied_suc (x ∷ xs) (y ∷ out) (suc i) h l v q = ap (λ zs. x ∷ zs) (copied_suc xs out i (omega arith) (omega arith) v q)
+
+pub copied_more : {A : Type 0} (xs out : List A) (i : ℕ) → i < length xs → i < length out → (now : List A) → now ≡ take i xs ++ drop i out → (v : A) → v ≡ get_or xs i v
+    → set now i v ≡ take (i + 1) xs ++ drop (i + 1) out
+copied_more xs out i h l now e v q =
+    let n : suc i ≡ i + 1 = omega arith in
+    rw (e, ← n) (copied_suc xs out i h l v q)
 
 -- the state that slices make
-pub lends : (ms ts ds m d c : List ℕ) (s : List Transfer) → take (length ms) m ≡ ms → take (length ts) c ≡ ts → take (length ds) d ≡ ds → s ≡ map transfer_of c
+pub lends : (ms ts ds m d : List ℕ) (s : List Transfer) → take (length ms) m ≡ ms → take (length ts) s ≡ map transfer_of ts → take (length ds) d ≡ ds
     → Lends (slices ms ts ds) (record { markings = m; transfers = s; degrees = d; places = length ms; transitions = length ts; signals = length ds })
-lends ms ts ds m d c s em ec ed es =
+lends ms ts ds m d s em es ed =
     record {
-      state = same (take (length ms) m) (take (length ts) s) (take (length ds) d) em (ap (take (length ts)) es ∙ take-map transfer_of (length ts) c ∙ ap (map transfer_of) ec) ed;
+      state = same (take (length ms) m) (take (length ts) s) (take (length ds) d) em es ed;
       places = refl;
       transitions = refl;
       signals = refl;
@@ -66,9 +86,6 @@ lends ms ts ds m d c s em ec ed es =
     same a b c ea eb ec = rw (ea, eb, ec)
 
 -- what is handed back
-pub taken : (n : ℕ) (xs : List Transfer) → take n (map code_of xs) ≡ map code_of (take n xs)
-taken n xs = take-map code_of n xs
-
 taken_view : (l : Own) (x : Slices) → l.places ≡ length x.markings → l.transitions ≡ length x.transfers → l.signals ≡ length x.degrees → taken_back l x ≡ slices_of (view l)
 taken_view l x ep et es = rw (ep, et, es)
 

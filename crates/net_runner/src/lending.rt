@@ -33,24 +33,37 @@ fn padded<T: Copy, const SIZE: usize>(entries: &[T], rest: T) -> [T; SIZE]
     all
 }
 
-// The first entries of a column, as many as a slice has.
+// The first entries of a column, as many as a slice has. By index: `copy_from_slice` would call `memmove`, which callers in C need not have.
 fn put<T: Copy>(entries: &[T], out: &mut [T])
     ensures { length out.old ≤ length entries.now → out.new ≡ take (length out.old) entries.now }
 {
     let size = out.len().min(entries.len());
-    out[..size].copy_from_slice(&entries[..size]);
+    for i in 0..size {
+        out[i] = entries[i];
+    }
 }
 
-fn transfers_of(codes: [u16; MOST_TRANSITIONS]) -> [Transfer; MOST_TRANSITIONS]
-    ensures { result ≡ map transfer_of codes }
+// The transfers that have these numbers, and idle ones behind them. As many are turned as there are, here and below: `map` of the whole array costs a
+// small card's call more than its row. By index: no contract of `iter_mut` beside another iterator says what it has afterwards.
+fn transfers_of(codes: &[u16]) -> [Transfer; MOST_TRANSITIONS]
+    ensures { length codes.now ≤ MOST_TRANSITIONS → take (length codes.now) result ≡ map transfer_of codes.now }
 {
-    codes.map(Transfer::from)
+    let mut all = [Transfer::Idle; MOST_TRANSITIONS];
+    let size = codes.len().min(MOST_TRANSITIONS);
+    for i in 0..size {
+        all[i] = Transfer::from(codes[i]);
+    }
+    all
 }
 
-fn codes_of(transfers: [Transfer; MOST_TRANSITIONS]) -> [u16; MOST_TRANSITIONS]
-    ensures { result ≡ map code_of transfers }
+// The numbers of the first transfers, as many as a slice has entries.
+fn put_codes(transfers: &[Transfer], out: &mut [u16])
+    ensures { length out.old ≤ length transfers.now → out.new ≡ map code_of (take (length out.old) transfers.now) }
 {
-    transfers.map(u16::from)
+    let size = out.len().min(transfers.len());
+    for i in 0..size {
+        out[i] = u16::from(transfers[i]);
+    }
 }
 
 impl Lent<'_> {
@@ -79,7 +92,7 @@ impl Lent<'_> {
     {
         State {
             markings: padded(self.markings, 0),
-            transfers: transfers_of(padded(self.transfers, 0)),
+            transfers: transfers_of(self.transfers),
             degrees: padded(self.degrees, 0),
             places: self.markings.len(),
             transitions: self.transfers.len(),
@@ -99,13 +112,12 @@ impl Lent<'_> {
     }
 
     // Takes the numbers of a state, as many as the slices have entries.
-    #[tactic(auto, using(crate::proofs::SliceLaws::taken))]
     fn put(&mut self, state: &State)
         ensures same { SameSlices self.old self.new }
         ensures numbers { Fits (held self.old) → held self.new ≡ taken_back state.now (held self.old) }
     {
         put(&state.markings, self.markings);
-        put(&codes_of(state.transfers), self.transfers);
+        put_codes(&state.transfers, self.transfers);
         put(&state.degrees, self.degrees);
     }
 
