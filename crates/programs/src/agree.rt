@@ -14,9 +14,9 @@ use runners::subnet_runner::subnet_row;
 
 // The states of both runners.
 #[derive(Clone, Copy)]
-struct Both {
-    flat: State,
-    subnet: State,
+pub struct Both {
+    pub flat: State,
+    pub subnet: State,
 }
 
 // A row call of both: the states that it leaves, if it answered alike and they are equal.

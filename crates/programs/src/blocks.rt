@@ -32,6 +32,7 @@ pub struct CardRun {
 
 // A run in front of its first row, or of a refused card the one line that is written. Two wrong ones that this rules out: one that counts rows
 // from 0, and one that runs a refused card.
+#[inline(never)]
 pub fn begin(card: &[u8]) -> Result<CardRun, Line>
     ensures begun { IfOk result (IsBegun card.now) }
     ensures turned_back { IfErr result (IsTurnedBack card.now) }

@@ -43,6 +43,8 @@ fn put_blocks(
     Ok(())
 }
 
+// A frame of its own, and so has `begin`: the tables that a card is loaded with are gone before the lines of a block have room.
+#[inline(never)]
 fn put_rows(rt: &HostRuntime, run: &mut CardRun) -> io::Result<()> {
     let mut block = [0; BLOCK_BYTES];
     let mut lines = [0; LINES_BYTES];
