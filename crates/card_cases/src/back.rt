@@ -1,4 +1,7 @@
 // The numbers of a card, in its order, taken apart into tables.
+ghost use Rattle.std.specs.Prelude.{◌≡◌, ◌+◌, ◌≤◌, ◌++◌, length};
+ghost use Rattle.arrayvec.specs.ArrayVec.{array_vec_len};
+
 use crate::tables::Tables;
 use arrayvec::ArrayVec;
 use card::{
@@ -31,7 +34,9 @@ fn cut(numbers: &[u16], n: usize) -> (&[u16], &[u16]) {
 }
 
 // Puts rows behind those of a table; nothing where there is no room, which no card that was read comes to.
-fn push<const ROOM: usize>(table: &mut ArrayVec<u16, ROOM>, rows: &[u16]) {
+fn push<const ROOM: usize>(table: &mut ArrayVec<u16, ROOM>, rows: &[u16])
+    ensures { array_vec_len table.old + length rows.now ≤ ROOM → table.new.items ≡ table.old.items ++ rows.now }
+{
     let _full = table.try_extend_from_slice(rows);
 }
 
