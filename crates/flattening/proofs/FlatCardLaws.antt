@@ -9,7 +9,7 @@ use lib.ListN.{length, replicate}
 use lib.Dec.{eqb}
 use borrow.Author.Tests.{eqb-true}
 use Rattle.card.specs.Card.{Card}
-use Rattle.card.specs.Index.{Loaded, starts_of}
+use Rattle.card.specs.Index.{Loaded, starts_of, starts_size}
 use Rattle.card.specs.Parsing.{Parsing, read_card}
 use Rattle.card.specs.Tables.{numbers_of, numbers_table, has_room, IsTable}
 use Rattle.card.specs.View.{card_in, IsCounted}
@@ -17,19 +17,19 @@ use Rattle.card.proofs.ReadLaws.{blank_table, tables_loaded}
 use Rattle.card.proofs.ViewLaws.{card_in_table, table_holds}
 use Rattle.hierarchy.specs.Check.{Found, check}
 use Rattle.hierarchy.specs.Numbers.{check_outcome}
-use Rattle.hierarchy.specs.Judgement.{Judgement, accepted, refused, checked, judged, judge, answer, outcome_of, counts_of, IsChecked, IsAccepted}
+use Rattle.hierarchy.specs.Judgement.{Judgement, accepted, refused, checked, judged, judge, answer, outcome_of, counts_of, starts_read, IsChecked, IsAccepted}
 use Rattle.hierarchy.specs.declared.CardRefusal.{CardRefusal}
 use Rattle.std.specs.Prelude.{Result, Ok, Err, IfOk}
 use Rattle.card.specs.declared.index.CardIndex.{CardIndex}
 use Rattle.hierarchy.proofs.Accepted.{not_accepted, accepted_meets}
 use Rattle.hierarchy.specs.Conditions.{Meets}
 use Rattle.flattening.specs.Flattening.{flatten}
-use Rattle.flattening.specs.FlatCards.{flat_table, IsFlatTable, IsFlatCard, IsFlattened, flat_room, IsLentFlat}
+use Rattle.flattening.specs.FlatCards.{flat_table, flat_counts, flat_starts, IsFlatTable, IsFlatCard, IsFlattened, flat_room, IsLentFlat, IsCheckedFlatCard}
 use Rattle.flattening.specs.inner.FlatNumbers.{FlatTables}
 use Rattle.flattening.specs.declared.FlatCard.{FlatCard}
 use Rattle.flattening.proofs.FlatLaws.{flat_meets}
 use Rattle.flattening.proofs.FlatNumberLaws.{flat_few}
-use Rattle.hierarchy.proofs.CheckLaws.{accepted_same}
+use Rattle.hierarchy.proofs.CheckLaws.{accepted_same, starts_accepted}
 
 pub flat_room_is : (bytes n m : ℕ) → flat_room bytes n m ≡ true → (has_room bytes n ≡ true) × (n ≡ m)
 flat_room_is bytes n m e = go (has_room bytes n) refl e
@@ -134,3 +134,30 @@ flat_loaded bytes r size n numbers flat h t f same c e = go r (h.flat c e)
         let a : flat ≡ numbers_table n (flatten c) = f ∙ ap (flat_table n) e in
         rw (a, b) (tables_loaded n (flatten c) (flat_meets c m).wellformed (omega (arith, accepted_fits bytes size numbers t c e, flat_few c m, same)))
     go (Err x) b = tt
+
+-- WHERE THE ROWS OF BOTH CARDS BEGIN IS TOLD WHATEVER THE ANSWER IS
+module _ (bytes : List ℕ) (r : Result FlatCard CardRefusal) (h : IsFlatCard bytes r) where
+  flat_answer : (y : Result FlatCard CardRefusal) → r ≡ y → check_outcome (flat_counts y) ≡ answer bytes
+  flat_answer y e = sym (ap (λ (z : Result FlatCard CardRefusal). check_outcome (flat_counts z)) e) ∙ h.answer
+
+  pub both_told : (k : FlatCard) → r ≡ Ok k → IsCheckedFlatCard bytes (record { answer = Ok k.card.counts; starts = k.card.starts; flat_starts = k.flat.starts })
+  both_told k e =
+      record {
+        answer = flat_answer (Ok k) e;
+        starts = starts_accepted bytes (Ok k.card) own k.card refl;
+        flat = go (judge bytes) refl (flat_answer (Ok k) e);
+      }
+    where
+      own : IsChecked bytes (Ok k.card)
+      own = record { answer = flat_answer (Ok k) e; starts = λ c j. subst (λ (y : Result FlatCard CardRefusal). IfOk y (λ z. z.card.starts ≡ starts_of c)) e (h.starts c j) }
+
+      go : (j : Judgement) → judge bytes ≡ j → check_outcome (Ok k.card.counts) ≡ outcome_of j → k.flat.starts ≡ flat_starts j
+      go (accepted c) p q = subst (λ (y : Result FlatCard CardRefusal). IfOk y (λ z. z.flat.starts ≡ starts_of (flatten c))) e (h.flat c p)
+      go (refused n at) p q = absurd (let z : ◌≡◌ {A = ℕ} 0 1 = cc in omega arith)
+
+  pub none_told : (e : CardRefusal) → r ≡ Err e → (s : List ℕ) → s ≡ starts_read (read_card bytes) → IsCheckedFlatCard bytes (record { answer = Err e; starts = s; flat_starts = replicate starts_size 0 })
+  none_told e q s p = record { answer = flat_answer (Err e) q; starts = p; flat = go (judge bytes) (flat_answer (Err e) q) }
+    where
+      go : (j : Judgement) → check_outcome (Err e) ≡ outcome_of j → replicate starts_size 0 ≡ flat_starts j
+      go (accepted c) w = absurd (let z : ◌≡◌ {A = ℕ} 0 1 = cc in omega arith)
+      go (refused n at) w = blank_table starts_size

@@ -1,16 +1,17 @@
 -- A card that was loaded with its flat card: two tables of each, the numbers in tables that a caller lends.
 use Rattle.std.specs.Prelude.{ℕ, ◌≡◌, Bool, true, false, ◌&&◌, List, length, eqb, Result, Ok, Err, IfOk}
 use Rattle.card.specs.Card.{Card}
-use Rattle.card.specs.Index.{starts_of}
+use Rattle.card.specs.Index.{starts_of, starts_size}
 use Rattle.card.specs.Parsing.{read_card}
 use Rattle.card.specs.Tables.{numbers_table, zeros, has_room, IsTable}
 use Rattle.card.specs.View.{card_in, IsCounted, Holds}
 use Rattle.hierarchy.specs.Numbers.{check_outcome}
-use Rattle.hierarchy.specs.Judgement.{Judgement, accepted, refused, judge, answer}
+use Rattle.hierarchy.specs.Judgement.{Judgement, accepted, refused, judge, answer, starts_read}
 use Rattle.flattening.specs.Flattening.{flatten}
 use Rattle.card.specs.declared.Counts.{Counts}
 use Rattle.hierarchy.specs.declared.CardRefusal.{CardRefusal}
 use Rattle.flattening.specs.declared.FlatCard.{FlatCard}
+use Rattle.flattening.specs.declared.CheckedFlatCard.{CheckedFlatCard}
 
 -- the numbers of the flat card of an accepted card; of a refused one, zeros
 abbrev pub flat_table : (size : ℕ) → Judgement → List ℕ
@@ -46,3 +47,14 @@ pub record IsFlattened (bytes numbers flat : List ℕ) (k : FlatCard) : Type 0 w
   pub holds : Holds (card_in numbers) numbers k.card
   pub flattened : card_in flat ≡ flatten (card_in numbers)
   pub flat_holds : Holds (card_in flat) flat k.flat
+
+-- where the rows begin of an accepted card's flat card; of a refused card, zeros
+abbrev pub flat_starts : Judgement → List ℕ
+flat_starts (accepted c) = starts_of (flatten c)
+flat_starts (refused n at) = zeros starts_size
+
+-- the answer, and where the rows of both cards begin, whatever the answer is
+pub record IsCheckedFlatCard (bytes : List ℕ) (r : CheckedFlatCard) : Type 0 where
+  pub answer : check_outcome r.answer ≡ answer bytes
+  pub starts : r.starts ≡ starts_read (read_card bytes)
+  pub flat : r.flat_starts ≡ flat_starts (judge bytes)

@@ -9,13 +9,13 @@ ghost use Rattle.card.specs.Tables.{IsTable, IsRoomFor};
 ghost use Rattle.hierarchy.specs.Judgement.{judge};
 ghost use Rattle.hierarchy.specs.Output.{IsWritten};
 ghost use Rattle.flattening.specs.Flattening.{flatten_call};
-ghost use Rattle.flattening.specs.FlatCards.{flat_room, IsFlatCard, IsFlatTable, IsLentFlat, IsFlattened};
+ghost use Rattle.flattening.specs.FlatCards.{flat_room, IsFlatCard, IsFlatTable, IsLentFlat, IsFlattened, IsCheckedFlatCard};
 
-use card::TABLE;
 use card::index::CardIndex;
 use card::reader::has_room;
 use card::room::with_table;
-use hierarchy::check::load;
+use card::{Counts, STARTS, TABLE};
+use hierarchy::check::{checked, load};
 use hierarchy::write::put_written;
 use hierarchy::{CardRefusal, WriteRefusal};
 use tables::flat_tables;
@@ -25,6 +25,14 @@ use tables::flat_tables;
 pub struct FlatCard {
     pub card: CardIndex,
     pub flat: CardIndex,
+}
+
+// The check's answer, and where the rows begin of the card that pass one read and of an accepted card's flat card.
+#[derive(Clone, Copy)]
+pub struct CheckedFlatCard {
+    pub answer: Result<Counts, CardRefusal>,
+    pub starts: [u32; STARTS],
+    pub flat_starts: [u32; STARTS],
 }
 
 // Whether two tables of these lengths have room for the numbers of any card of so many bytes, and for those of its flat card.
@@ -77,6 +85,39 @@ pub fn load_flat(
     let mut own = [0; TABLE];
     let mut own_flat = [0; TABLE];
     load_flat_into(card, &mut own, &mut own_flat)
+}
+
+// Loads a card and makes the tables of its flat card, for a caller that goes on with the card's own also where pass two turns it back. (Of a card that
+// is turned back it is read once more.) Two wrong ones that this rules out: one whose starts are zeros wherever the card is turned back, and one that
+// answers with the card's starts for its flat card's.
+pub fn checked_flat(card: &[u8], numbers: &mut [u16], flat: &mut [u16]) -> CheckedFlatCard
+    ensures numbers_len_unchanged { length numbers.new ≡ length numbers.old }
+    ensures flat_len_unchanged { length flat.new ≡ length flat.old }
+    ensures checked { IsCheckedFlatCard card.now result }
+    ensures lent_flat { IsLentFlat card.now (flat_room (length card.now) (length numbers.old) (length flat.old)) numbers.old numbers.new flat.old flat.new }
+{
+    match load_flat(card, numbers, flat) {
+        Ok(loaded) => {
+            let starts = loaded.card.starts;
+            let flat_starts = loaded.flat.starts;
+            CheckedFlatCard {
+                answer: Ok(loaded.card.counts),
+                starts,
+                flat_starts,
+            }
+        }
+        Err(refusal) => {
+            let mut own = [0; TABLE];
+            let read = checked(card, &mut own);
+            let starts = read.starts;
+            let flat_starts = [0; STARTS];
+            CheckedFlatCard {
+                answer: Err(refusal),
+                starts,
+                flat_starts,
+            }
+        }
+    }
 }
 
 // Flattens a card, with tables for its numbers and those of its flat card that have room for them.

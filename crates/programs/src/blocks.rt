@@ -57,6 +57,14 @@ impl CardRun {
         }
     }
 
+    // The same run on another net. Two wrong ones that this rules out: one that begins again, and one that keeps the net.
+    pub fn over(&self, net: Net) -> CardRun
+        ensures net { result.net ≡ net }
+        ensures run { run_in result ≡ run_in self.now }
+    {
+        CardRun { net, ..*self }
+    }
+
     // A block of the input, in a buffer that has room for the longest line for each of its bytes; of another nothing is taken. It answers how
     // many bytes the lines have, which stand at the buffer's front, and no slice: what a buffer holds that is lent on takes a clause that is proved
     // by hand. Two wrong ones that this rules out: one that keeps or prints the state in front of a row, and one that loses the bytes of a row
