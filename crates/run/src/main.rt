@@ -54,10 +54,8 @@ fn put_rows(rt: &HostRuntime, run: &mut CardRun) -> io::Result<()> {
 fn main(rt: HostRuntime) -> io::Result<()> {
     let mut card = [0; INPUT_BYTES];
     let n = read_file(&rt, b"net.card", &mut card);
-    // The run stays where it was made: it has the largest card's tables.
-    let mut begun = begin(&card[..n]);
-    match &mut begun {
-        Ok(run) => put_rows(&rt, run),
+    match begin(&card[..n]) {
+        Ok(mut run) => put_rows(&rt, &mut run),
         Err(line) => put(&rt, line.as_slice()),
     }
 }
