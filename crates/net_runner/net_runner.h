@@ -28,7 +28,7 @@ extern "C" {
 #define NET_SUBNETS 32
 #define NET_CARD_BYTES 22770
 
-/* The stack that a call needs, at most. The most that was measured is some 469000 bytes (docs/PERFORMANCE.md has each function's). */
+/* The stack that a call needs, at most. The most that was measured is some 471000 bytes (docs/PERFORMANCE.md has each function's). */
 #define NET_STACK_BYTES 524288
 
 /* An idle transition, among transfers; a carrying one is its progress, 0 to 999. */
