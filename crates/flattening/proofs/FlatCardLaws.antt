@@ -3,30 +3,29 @@ use Prim.Native.Nat.{ℕ, ◌≤◌}
 use mathlib.Core.Path.{◌≡◌, refl, sym, ap, subst, ◌∙◌}
 use mathlib.Core.Bool.{Bool, true, false, ◌&&◌}
 use mathlib.Core.List.{List}
-use mathlib.Core.Option.{Option, none, some}
 use native.Mathlib.Omega.{arith}
 use lib.ListN.{length, replicate}
 use lib.Dec.{eqb}
 use borrow.Author.Tests.{eqb-true}
 use Rattle.card.specs.Card.{Card}
 use Rattle.card.specs.Index.{Loaded, starts_of, starts_size}
-use Rattle.card.specs.Parsing.{Parsing, read_card}
+use Rattle.card.specs.Parsing.{read_card}
 use Rattle.card.specs.Tables.{numbers_of, numbers_table, has_room, IsTable}
 use Rattle.card.specs.View.{card_in, IsCounted}
 use Rattle.card.proofs.ReadLaws.{blank_table, tables_loaded}
 use Rattle.card.proofs.ViewLaws.{card_in_table, table_holds}
-use Rattle.hierarchy.specs.Check.{Found, check}
 use Rattle.hierarchy.specs.Numbers.{check_outcome}
-use Rattle.hierarchy.specs.Judgement.{Judgement, accepted, refused, checked, judged, judge, answer, outcome_of, counts_of, starts_read, IsChecked, IsAccepted}
+use Rattle.hierarchy.specs.Judgement.{Judgement, accepted, refused, judge, answer, outcome_of, counts_of, starts_read, IsChecked, IsAccepted}
 use Rattle.hierarchy.specs.declared.CardRefusal.{CardRefusal}
-use Rattle.std.specs.Prelude.{Result, Ok, Err, IfOk}
+use Rattle.std.specs.Prelude.{Result, Ok, Err, IfOk, IsOkAnd}
 use Rattle.card.specs.declared.index.CardIndex.{CardIndex}
-use Rattle.hierarchy.proofs.Accepted.{not_accepted, accepted_meets}
+use Rattle.hierarchy.proofs.Accepted.{accepted_meets, accepted_read}
 use Rattle.hierarchy.specs.Conditions.{Meets}
 use Rattle.flattening.specs.Flattening.{flatten}
 use Rattle.flattening.specs.FlatCards.{flat_table, flat_counts, flat_starts, IsFlatTable, IsFlatCard, IsFlattened, flat_room, IsLentFlat, IsCheckedFlatCard}
 use Rattle.flattening.specs.inner.FlatNumbers.{FlatTables}
 use Rattle.flattening.specs.declared.FlatCard.{FlatCard}
+use Rattle.flattening.specs.declared.CheckedFlatCard.{CheckedFlatCard}
 use Rattle.flattening.proofs.FlatLaws.{flat_meets}
 use Rattle.flattening.proofs.FlatNumberLaws.{flat_few}
 use Rattle.hierarchy.proofs.CheckLaws.{accepted_same, starts_accepted}
@@ -41,16 +40,7 @@ flat_room_is bytes n m e = go (has_room bytes n) refl e
 module _ (bytes : List ℕ) (size : ℕ) (numbers : List ℕ) (tables : IsTable (read_card bytes) size numbers) where
   -- an accepted card was read, and its table has room for its numbers
   accepted_fits : (c : Card) → judge bytes ≡ accepted c → length (numbers_of c) ≤ size
-  unfolding judge
-  accepted_fits c e = go (read_card bytes) refl e
-    where
-      found : (d : Card) (end : ℕ) (x : Option Found) → read_card bytes ≡ Parsing.whole d end → checked x d ≡ accepted c → length (numbers_of c) ≤ size
-      found d end (some f) p r = absurd (not_accepted _ _ _ r)
-      found d end none p r = let s : d ≡ c = cc in subst (λ (x : Card). length (numbers_of x) ≤ size) s (tables.fits d end p)
-
-      go : (x : Parsing Card) → read_card bytes ≡ x → judged x ≡ accepted c → length (numbers_of c) ≤ size
-      go (Parsing.refused n at) p q = absurd (not_accepted _ _ _ q)
-      go (Parsing.whole d end) p q = found d end (check d) p q
+  accepted_fits c e = accepted_read bytes c e (λ end p. tables.fits c end p)
 
 -- what the check says of a card
 module _ (bytes : List ℕ) (r : Result CardIndex CardRefusal) (h : IsChecked bytes r) where
@@ -121,19 +111,28 @@ lent_flat bytes room n n' f f' e h g = rw e (h, g)
 pub lent_flat_kept : (bytes : List ℕ) (room : Bool) (n f : List ℕ) → room ≡ false → IsLentFlat bytes room n n f f
 lent_flat_kept bytes room n f e = rw e (refl, refl)
 
+-- the flat table holds the flat card's rows
+flat_rows : (bytes : List ℕ) (size n : ℕ) (numbers flat starts : List ℕ) → IsTable (read_card bytes) size numbers → IsFlatTable (judge bytes) n flat → size ≡ n
+    → (c : Card) → judge bytes ≡ accepted c → starts ≡ starts_of (flatten c) → Loaded (flatten c) flat starts
+flat_rows bytes size n numbers flat starts t f same c e b =
+    let m = accepted_meets bytes c e in
+    let a : flat ≡ numbers_table n (flatten c) = f ∙ ap (flat_table n) e in
+    rw (a, b) (tables_loaded n (flatten c) (flat_meets c m).wellformed (omega (arith, accepted_fits bytes size numbers t c e, flat_few c m, same)))
+
 -- `flat_loaded`: THE TWO TABLES HOLD THE FLAT CARD'S ROWS
 pub flat_loaded : (bytes : List ℕ) (r : Result FlatCard CardRefusal) (size n : ℕ) (numbers flat : List ℕ) → IsFlatCard bytes r → IsTable (read_card bytes) size numbers → IsFlatTable (judge bytes) n flat → size ≡ n
-    → (c : Card) → judge bytes ≡ accepted c → IfOk r (λ k. Loaded (flatten c) flat k.flat.starts)
-flat_loaded bytes r size n numbers flat h t f same c e = go r (h.flat c e)
+    → (c : Card) → judge bytes ≡ accepted c → IsOkAnd r (λ k. Loaded (flatten c) flat k.flat.starts)
+flat_loaded bytes r size n numbers flat h t f same c e = go r (h.answer ∙ ap outcome_of e) (h.flat c e)
   where
-    m : Meets c
-    m = accepted_meets bytes c e
+    go : (y : Result FlatCard CardRefusal) → check_outcome (flat_counts y) ≡ outcome_of (accepted c) → IfOk y (λ k. k.flat.starts ≡ starts_of (flatten c))
+        → IsOkAnd y (λ k. Loaded (flatten c) flat k.flat.starts)
+    go (Ok k) q b = flat_rows bytes size n numbers flat k.flat.starts t f same c e b
+    go (Err x) q b = absurd (let z : ◌≡◌ {A = ℕ} 0 1 = cc in omega arith)
 
-    go : (y : Result FlatCard CardRefusal) → IfOk y (λ k. k.flat.starts ≡ starts_of (flatten c)) → IfOk y (λ k. Loaded (flatten c) flat k.flat.starts)
-    go (Ok k) b =
-        let a : flat ≡ numbers_table n (flatten c) = f ∙ ap (flat_table n) e in
-        rw (a, b) (tables_loaded n (flatten c) (flat_meets c m).wellformed (omega (arith, accepted_fits bytes size numbers t c e, flat_few c m, same)))
-    go (Err x) b = tt
+-- `checked_flat_loaded`: THEY DO SO FROM WHERE `checked_flat` SAYS THAT THE ROWS BEGIN
+pub checked_flat_loaded : (bytes : List ℕ) (r : CheckedFlatCard) (size n : ℕ) (numbers flat : List ℕ) → IsCheckedFlatCard bytes r → IsTable (read_card bytes) size numbers → IsFlatTable (judge bytes) n flat → size ≡ n
+    → (c : Card) → judge bytes ≡ accepted c → Loaded (flatten c) flat r.flat_starts
+checked_flat_loaded bytes r size n numbers flat h t f same c e = flat_rows bytes size n numbers flat r.flat_starts t f same c e (h.flat ∙ ap flat_starts e)
 
 -- WHERE THE ROWS OF BOTH CARDS BEGIN IS TOLD WHATEVER THE ANSWER IS
 module _ (bytes : List ℕ) (r : Result FlatCard CardRefusal) (h : IsFlatCard bytes r) where

@@ -8,7 +8,7 @@ use native.Mathlib.Omega.{arith}
 use lib.ListN.{get_or}
 use Rattle.card.specs.Card.{Card}
 use Rattle.card.specs.Index.{Loaded, starts_of}
-use Rattle.std.specs.Prelude.{Result, Ok, Err, IfOk}
+use Rattle.std.specs.Prelude.{Result, Ok, Err, IfOk, IsOkAnd}
 use Rattle.card.specs.Parsing.{Parsing, read_card}
 use Rattle.card.specs.Tables.{IsTable}
 use Rattle.card.specs.Writing.{encode, read_tables}
@@ -17,9 +17,10 @@ use Rattle.card.proofs.ReadLaws.{read_loaded}
 use Rattle.card.proofs.RoundTrip.{read_write, write_read, wellformed_reads, wellformed_tables}
 use Rattle.hierarchy.specs.Conditions.{Meets}
 use Rattle.hierarchy.specs.Check.{Found, check}
-use Rattle.hierarchy.specs.Judgement.{Judgement, accepted, refused, checked, judged, judge, judge_tables, outcome_of, counts_of, IsChecked}
+use Rattle.hierarchy.specs.Judgement.{Judgement, accepted, refused, checked, judged, judge, judge_tables, outcome_of, counts_of, starts_read, IsChecked, IsCheckedCard}
 use Rattle.hierarchy.specs.Numbers.{check_outcome}
 use Rattle.hierarchy.specs.declared.CardRefusal.{CardRefusal}
+use Rattle.hierarchy.specs.declared.check.CheckedCard.{CheckedCard}
 use Rattle.card.specs.declared.index.CardIndex.{CardIndex}
 use Rattle.hierarchy.proofs.Agree.{check_is}
 
@@ -88,25 +89,41 @@ written_accepted c d e = go (read_tables c) refl e
     go (Parsing.refused n at) p q = absurd (not_accepted _ _ _ q)
     go (Parsing.whole x end) p q = found x end (check x) p refl q
 
+-- an accepted card is the one that was read
+pub accepted_read : {A : Type 0} (bytes : List ℕ) (c : Card) → judge bytes ≡ accepted c → ((end : ℕ) → read_card bytes ≡ Parsing.whole c end → A) → A
+unfolding judge
+accepted_read {A} bytes c e f = go (read_card bytes) refl e
+  where
+    found : (d : Card) (end : ℕ) (x : Option Found) → read_card bytes ≡ Parsing.whole d end → checked x d ≡ accepted c → A
+    found d end (some g) p q = absurd (not_accepted _ _ _ q)
+    found d end none p q = let s : d ≡ c = cc in f end (p ∙ ap (λ (x : Card). Parsing.whole x end) s)
+
+    go : (x : Parsing Card) → read_card bytes ≡ x → judged x ≡ accepted c → A
+    go (Parsing.refused n at) p q = absurd (not_accepted _ _ _ q)
+    go (Parsing.whole d end) p q = found d end (check d) p q
+
 -- the check's answer to a card's bytes, and the tables that it left
 pub record Checked (j : Judgement) (r : Result CardIndex CardRefusal) (numbers : List ℕ) : Type 0 where
   pub answer : check_outcome (counts_of r) ≡ outcome_of j
-  pub loaded : (c : Card) → j ≡ accepted c → IfOk r (λ k. Loaded c numbers k.starts)
+  pub loaded : (c : Card) → j ≡ accepted c → IsOkAnd r (λ k. Loaded c numbers k.starts)
 
 -- `accepted_loaded`: THE TABLES THAT THE CHECK LEAVES HOLD AN ACCEPTED CARD'S ROWS
 pub accepted_loaded : (bytes : List ℕ) (r : Result CardIndex CardRefusal) (size : ℕ) (numbers : List ℕ) → IsChecked bytes r → IsTable (read_card bytes) size numbers
     → Checked (judge bytes) r numbers
-unfolding judge
-accepted_loaded bytes r size numbers h t = record { answer = h.answer; loaded = λ c e. read c (read_card bytes) refl e (h.starts c e) }
+accepted_loaded bytes r size numbers h t = record { answer = h.answer; loaded = λ c e. go c e r (h.answer ∙ ap outcome_of e) (h.starts c e) }
   where
-    rows : (c : Card) (end : ℕ) (y : Result CardIndex CardRefusal) → read_card bytes ≡ Parsing.whole c end → IfOk y (λ k. k.starts ≡ starts_of c) → IfOk y (λ k. Loaded c numbers k.starts)
-    rows c end (Ok k) p s = read_loaded bytes c end size numbers k.starts p s t
-    rows c end (Err e) p s = tt
+    go : (c : Card) → judge bytes ≡ accepted c → (y : Result CardIndex CardRefusal) → check_outcome (counts_of y) ≡ outcome_of (accepted c) → IfOk y (λ k. k.starts ≡ starts_of c)
+        → IsOkAnd y (λ k. Loaded c numbers k.starts)
+    go c e (Ok k) q s = accepted_read bytes c e (λ end p. read_loaded bytes c end size numbers k.starts p s t)
+    go c e (Err w) q s = absurd (let z : ◌≡◌ {A = ℕ} 0 1 = cc in omega arith)
 
-    found : (c d : Card) (end : ℕ) (x : Option Found) → read_card bytes ≡ Parsing.whole d end → checked x d ≡ accepted c → IfOk r (λ k. k.starts ≡ starts_of c) → IfOk r (λ k. Loaded c numbers k.starts)
-    found c d end (some f) p q s = absurd (not_accepted _ _ _ q)
-    found c d end none p q s = let e : d ≡ c = cc in rows c end r (p ∙ ap (λ (y : Card). Parsing.whole y end) e) s
+-- the same of what is told whatever the answer is
+pub record CheckedRows (j : Judgement) (r : CheckedCard) (numbers : List ℕ) : Type 0 where
+  pub answer : check_outcome r.answer ≡ outcome_of j
+  pub loaded : (c : Card) → j ≡ accepted c → Loaded c numbers r.starts
 
-    read : (c : Card) (x : Parsing Card) → read_card bytes ≡ x → judged x ≡ accepted c → IfOk r (λ k. k.starts ≡ starts_of c) → IfOk r (λ k. Loaded c numbers k.starts)
-    read c (Parsing.refused n at) p q s = absurd (not_accepted _ _ _ q)
-    read c (Parsing.whole d end) p q s = found c d end (check d) p q s
+-- `checked_loaded`: THEY DO SO FROM WHERE `checked` SAYS THAT THE ROWS BEGIN
+pub checked_loaded : (bytes : List ℕ) (r : CheckedCard) (size : ℕ) (numbers : List ℕ) → IsCheckedCard bytes r → IsTable (read_card bytes) size numbers
+    → CheckedRows (judge bytes) r numbers
+checked_loaded bytes r size numbers h t =
+    record { answer = h.answer; loaded = λ c e. accepted_read bytes c e (λ end p. read_loaded bytes c end size numbers r.starts p (h.starts ∙ ap starts_read p) t) }
