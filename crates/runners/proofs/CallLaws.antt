@@ -14,12 +14,12 @@ use Rattle.runners.specs.declared.State.{State as Lent}
 use Rattle.runners.specs.declared.Refusal.TheVariants.{BadCard}
 
 -- the check's refusal of a card
+pub outcome_refused : (j : Judgement) (e : CardRefusal) → check_outcome (Err e) ≡ outcome_of j → j ≡ refused (number e.fault) e.bit
+outcome_refused (refused n at) e q = sym (cc)
+outcome_refused (accepted c) e q = absurd (let z : ◌≡◌ {A = ℕ} 0 1 = cc in omega arith)
+
 pub judged_refused : (bytes : List ℕ) (e : CardRefusal) → check_outcome (Err e) ≡ answer bytes → judge bytes ≡ refused (number e.fault) e.bit
-judged_refused bytes e h = go (judge bytes) h
-  where
-    go : (j : Judgement) → check_outcome (Err e) ≡ outcome_of j → j ≡ refused (number e.fault) e.bit
-    go (refused n at) q = sym (cc)
-    go (accepted c) q = absurd (let z : ◌≡◌ {A = ℕ} 0 1 = cc in omega arith)
+judged_refused bytes e h = outcome_refused (judge bytes) e h
 
 -- the flat card has one subnet, and the order that names it
 pub one_visited : (c : Card) → each_once (length (flatten c).subnets) (0 ∷ []) ≡ true

@@ -1,6 +1,6 @@
 -- The net of a card, and rows on it. Assumes nothing.
 use Rattle.std.proofs.Common.{◌≡◌, ℕ, ◌+◌, ◌<◌, ◌≤◌, min, Bool, true, false, ◌⊎◌, List, [], ◌∷◌, ◌++◌, length, take, drop, sym, refl, ap, ◌∙◌, subst, ap₂, inl, inr, arith, length-append, append-nil, take_at, take_all, drop_at, drop_of_length-le}
-use Rattle.std.specs.Prelude.{Result, Ok, Err, IfOk}
+use Rattle.std.specs.Prelude.{Result, Ok, Err, IfOk, IsOkAnd}
 use Rattle.std.specs.Result.{is_err}
 use mathlib.Core.Bool.{false≢true}
 use mathlib.Core.Option.{none, some, some-ne-none}
@@ -14,7 +14,7 @@ use Rattle.card.specs.Tables.{IsTable}
 use Rattle.card.specs.View.{card_in}
 use Rattle.hierarchy.specs.Conditions.{Meets}
 use Rattle.hierarchy.specs.Numbers.{check_outcome}
-use Rattle.hierarchy.specs.Judgement.{Judgement, accepted, refused, judge, answer, IsChecked, IsAccepted}
+use Rattle.hierarchy.specs.Judgement.{Judgement, accepted, refused, judge, outcome_of, IsChecked, IsAccepted}
 use Rattle.hierarchy.specs.declared.CardRefusal.{CardRefusal}
 use Rattle.hierarchy.proofs.Accepted.{not_accepted, accepted_meets, accepted_loaded}
 use Rattle.card.specs.declared.index.CardIndex.{CardIndex}
@@ -36,7 +36,7 @@ use Rattle.runners.specs.declared.Refusal.{Refusal}
 use Rattle.runners.specs.declared.Refusal.TheVariants.{BadState, BadOrder}
 use Rattle.runners.proofs.TraceLaws.{valid_is, kept}
 use Rattle.runners.proofs.PieceLaws.{pieces_none, pieces_more}
-use Rattle.runners.proofs.CallLaws.{judged_refused, flat_called}
+use Rattle.runners.proofs.CallLaws.{outcome_refused, flat_called}
 
 -- many rows: where no row changes the state it is left as it is
 leaves_still : {S C : Type 0} (call : S → C → RowOutcome × S) (s : S) (rows : List C) → ((row : C) → (call s row).1 ≡ s) → s ≡ leaves call s rows
@@ -134,8 +134,8 @@ pub loaded_starts : (bytes numbers : List ℕ) (r : Result CardIndex CardRefusal
 loaded_starts bytes numbers r k h e a = subst (λ (x : Result CardIndex CardRefusal). IfOk x (λ k. k.starts ≡ starts_of (card_in numbers))) e (h.starts (card_in numbers) a.judged)
 
 -- what a load leaves is the net of what the card was judged to be
-pub net_refused : (bytes : List ℕ) (e : CardRefusal) → check_outcome (Err e) ≡ answer bytes → IsNet (judge bytes) (Err e)
-net_refused bytes e h = judged_refused bytes e h
+pub net_refused : (j : Judgement) (e : CardRefusal) → check_outcome (Err e) ≡ outcome_of j → IsNet j (Err e)
+net_refused j e h = outcome_refused j e h
 
 pub net_accepted : (bytes numbers : List ℕ) (k : CardIndex) (full : List ℕ) → IsAccepted bytes numbers k → Filled capacity (card_in numbers) full
     → IsNet (judge bytes) (Ok (card_in numbers)) × IsLoaded (card_in numbers) numbers k full
@@ -143,18 +143,18 @@ net_accepted bytes numbers k full h f = (h.judged, record { holds = h.holds; net
 
 -- a card that was checked is loaded, and its flat card with it
 pub card_loaded : (bytes : List ℕ) (r : Result CardIndex CardRefusal) (size : ℕ) (numbers : List ℕ) → IsChecked bytes r → IsTable (read_card bytes) size numbers
-    → (c : Card) → judge bytes ≡ accepted c → Meets c × IfOk r (λ k. Loaded c numbers k.starts)
+    → (c : Card) → judge bytes ≡ accepted c → Meets c × IsOkAnd r (λ k. Loaded c numbers k.starts)
 card_loaded bytes r size numbers h t c e = (accepted_meets bytes c e, (accepted_loaded bytes r size numbers h t).loaded c e)
 
 pub flat_card_loaded : (bytes : List ℕ) (r : Result FlatCard CardRefusal) (size n : ℕ) (numbers flat : List ℕ) → IsFlatCard bytes r → IsTable (read_card bytes) size numbers → IsFlatTable (judge bytes) n flat → size ≡ n
-    → (c : Card) → flat_judged (judge bytes) ≡ accepted c → Meets c × IfOk r (λ k. Loaded c flat k.flat.starts)
+    → (c : Card) → flat_judged (judge bytes) ≡ accepted c → Meets c × IsOkAnd r (λ k. Loaded c flat k.flat.starts)
 flat_card_loaded bytes r size n numbers flat h t f same d e = go (judge bytes) refl e
   where
-    go : (j : Judgement) → judge bytes ≡ j → flat_judged j ≡ accepted d → Meets d × IfOk r (λ k. Loaded d flat k.flat.starts)
+    go : (j : Judgement) → judge bytes ≡ j → flat_judged j ≡ accepted d → Meets d × IsOkAnd r (λ k. Loaded d flat k.flat.starts)
     go (refused m b) p q = absurd (not_accepted _ _ _ q)
     go (accepted c) p q =
         let s : flatten c ≡ d = cc in
-        subst (λ (x : Card). Meets x × IfOk r (λ k. Loaded x flat k.flat.starts)) s (flat_meets c (accepted_meets bytes c p), flat_loaded bytes r size n numbers flat h t f same c p)
+        subst (λ (x : Card). Meets x × IsOkAnd r (λ k. Loaded x flat k.flat.starts)) s (flat_meets c (accepted_meets bytes c p), flat_loaded bytes r size n numbers flat h t f same c p)
 
 -- a call on the flat card's net, in the order that names its one subnet, is the flat runner's
 pub flat_net_called : (j : Judgement) (l : Lent) (row : List ℕ) → called (in_order (0 ∷ [])) (flat_judged j) l row ≡ called (λ c. true) j l row

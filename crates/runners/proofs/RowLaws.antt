@@ -44,10 +44,10 @@ module _ (c : Card) (m : Meets c) (l : Lent) (v : valid (flatten c) l ≡ true) 
   pub step_refused : (i : ℕ) → q ≡ Some i → Settled (refusal (Conflict i), l)
   step_refused i e = row_conflict (flatten c) (view l) row q (shown c m l v order o row k₁ k₂ first second full fu q told) i e l (store l (next (flatten c) (view l) row))
 
-  pub step_made : q ≡ None → (k₃ : Work) (r3 : IsRound moving order d row k₂ k₃) → length row ≡ c.signals → length l.markings ≡ 255 → length l.transfers ≡ 255
-      → (s : Lent) → s ≡ with_degrees k₃.state row → Settled (ok, s)
-  step_made e k₃ r3 rl ml xl s es =
-      made c m l v order o row k₁ k₂ first second full fu q told e k₃ (subst (λ (k : Card). IsRound moving order k row k₂ k₃) ed r3) rl ml xl s es
+  pub step_made : q ≡ None → (third : List ℕ) (o₃ : each_once (length c.subnets) third ≡ true) (k₃ : Work) (r3 : IsRound moving third d row k₂ k₃) → length row ≡ c.signals
+      → length l.markings ≡ 255 → length l.transfers ≡ 255 → (s : Lent) → s ≡ with_degrees k₃.state row → Settled (ok, s)
+  step_made e third o₃ k₃ r3 rl ml xl s es =
+      made c m l v order o row k₁ k₂ first second full fu q told e third o₃ k₃ (subst (λ (k : Card). IsRound moving third k row k₂ k₃) ed r3) rl ml xl s es
 
 -- 20 and 21, then the step on the effective row
 module _ (c : Card) (l : Lent) (row : List ℕ) (d : Card) (ed : d ≡ c) (r : Result (Unit {0}) Refusal) (e : refusal_in r ≡ row_fault (flatten d) row) where

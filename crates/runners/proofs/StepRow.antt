@@ -326,14 +326,14 @@ module _ (c : Card) (m : Meets c) (l : Lent) (v : valid (flatten c) l ≡ true) 
   pub shown : found_of q ≡ conflict (flatten c) (view l) row
   shown = verdict c m (view l) row (begun l) (begins c l counts) k₁ first k₂ second full fu (length c.places) q refl eq
 
-  -- and where it shows none, the third round makes the next state
-  pub made : q ≡ Std.None → (k₃ : Work) → IsRound moving order c row k₂ k₃ → length row ≡ c.signals → length l.markings ≡ 255 → length l.transfers ≡ 255 → (s : Lent) → s ≡ with_degrees k₃.state row
+  -- and where it shows none, the third round, in any order that names each subnet once, makes the next state
+  pub made : q ≡ Std.None → (third : List ℕ) → each_once (length c.subnets) third ≡ true → (k₃ : Work) → IsRound moving third c row k₂ k₃ → length row ≡ c.signals → length l.markings ≡ 255 → length l.transfers ≡ 255 → (s : Lent) → s ≡ with_degrees k₃.state row
       → (ok, s) ≡ settle (Math.map Conflict (conflict (flatten c) (view l) row)) l (store l (next (flatten c) (view l) row))
-  made n k₃ r3 rl ml xl =
+  made n third o₃ k₃ r3 rl ml xl =
       let still = ap (λ (k : Work). k.state) second.only ∙ ap (λ (k : Work). k.state) first.only in
       let state = begins c l counts in
       let found = found_is c m (view l) row (begun l) state k₁ first k₂ second (length-replicate {A = Bool} 255 false) in
-      let third =
-      r3 (view l) m o
+      let moved =
+      r3 (view l) m o₃
       (turn_move c m (view l) row k₂ (λ t b. ap (λ (k : Lent). transfer k.transfers t) still ∙ state.transfers t b) (λ g b. ap (λ (k : Lent). entry k.degrees g) still ∙ state.degrees g b) found) in
-      row_moved c m l counts row k₂ k₃ still third rl (sym shown ∙ ap found_of n) ml xl
+      row_moved c m l counts row k₂ k₃ still moved rl (sym shown ∙ ap found_of n) ml xl

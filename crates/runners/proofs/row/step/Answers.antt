@@ -19,4 +19,4 @@ returns c =
     let ml : length a.state.now.markings ≡ 255 = search rules in
     let xl : length a.state.now.transfers ≡ 255 = search rules in
     step_made a.net.now k.ensures.meets a.state.now q.valid a.order.now q.ordered a.row.now k.result.now k.ensures.value c.new-work.result c.visit_all.new.work c.visit_all-2.new.work c.new-work.ensures c.visit_all.ensures c.visit_all-2.ensures
-    c.full.result.now c.full.ensures c.places.result c.places.ensures.value c.uncovered.result c.uncovered.ensures (search rules) c.visit_all-3.new.work c.visit_all-3.ensures q.long ml xl c.record_degrees.new.state c.record_degrees.ensures
+    c.full.result.now c.full.ensures c.places.result c.places.ensures.value c.uncovered.result c.uncovered.ensures (search rules) _ (search rules) c.visit_all-3.new.work c.visit_all-3.ensures q.long ml xl c.record_degrees.new.state c.record_degrees.ensures
