@@ -26,8 +26,9 @@ use Rattle.runners.specs.declared.RowAnswer.{RowAnswer}
 use Rattle.card.specs.Text.{decimal}
 use Rattle.programs.specs.Text.{line}
 use Rattle.programs.specs.Programs.{reply_words, card_line, runs, run_program}
+use Rattle.programs.specs.Feeds.{file_call}
 use Rattle.programs.specs.Lines.{longest}
-use Rattle.programs.specs.Runs.{Run, FileCall, following, answered, keeping, feed, fed_block, last_line, first_text, is_accepted, run_in, size_in, call_in, IsTurn, IsTurnedBack}
+use Rattle.programs.specs.Runs.{Run, FileCall, following, answered, keeping, feed, fed_block, last_line, row_size_in, first_text, is_accepted, run_in, size_in, call_in, IsTurn, IsTurnedBack}
 use Rattle.programs.specs.declared.blocks.CardRun.{CardRun}
 use Rattle.programs.proofs.RunLaws.{feed_append, feed_kept, feed_row, block_tight, block_over}
 
@@ -125,6 +126,17 @@ module _ (r : CardRun) (block out : List ℕ) (n size : ℕ) (e : n ≡ r.net.si
 
   pub turn_over : size ≤ length r.left → IsTurn fed out 0 r out
   turn_over l = turn_none fed r out (block_over (size_in r) (call_in r) (length out) (run_in r) block (omega (arith, sym same_size, l)))
+
+-- a block on what a card was loaded to: on an accepted card's net it is the run's on that net, and of a refused one nothing is taken
+pub turn_on : (j : Judgement) (c : Card) (k : CardRun) (r : Run) (block before : List ℕ) (n : ℕ) (q : CardRun) (after : List ℕ) → j ≡ accepted c → k.net ≡ c → run_in k ≡ r
+    → IsTurn (fed_block (size_in k) (call_in k) (length before) (run_in k) block) before n q after
+    → IsTurn (fed_block (row_size_in j) (file_call j) (length before) r block) before n q after
+turn_on j c k r block before n q after e i s t =
+    subst (λ (z : Run). IsTurn (fed_block (row_size_in j) (file_call j) (length before) z block) before n q after) s
+    (subst (λ (z : Judgement). IsTurn (fed_block (row_size_in z) (file_call z) (length before) (run_in k) block) before n q after) (sym (e ∙ ap accepted (sym i))) t)
+
+pub turn_refused : (j : Judgement) (n at : ℕ) (r : CardRun) (block out : List ℕ) → j ≡ refused n at → IsTurn (fed_block (row_size_in j) (file_call j) (length out) (run_in r) block) out 0 r out
+turn_refused j n at r block out e = turn_none _ r out (block_over (row_size_in j) (file_call j) (length out) (run_in r) block (omega (arith, ap row_size_in e)))
 
 -- the end of the input
 pub last_none : (call : FileCall) (r : Run) (text : List ℕ) → r.left ≡ [] → text ≡ [] → text ≡ last_line call r

@@ -36,20 +36,21 @@ calls_text j room r (k ∷ calls) last h i =
     ∙ ap₂ (λ (u v : List ℕ). u ++ v) (turn_text x k.before k.length k.run k.after t)
     (calls_text j room k.run calls last h.2 i ∙ ap (λ (q : Run). over_blocks (row_size_in j) (file_call j) room q (map (λ b. b.block) calls)) t.run)
 
--- ALL THE BYTES THAT A RUN'S CALLS HAND OUT ARE `run_program`'S, over any cutting of the input into blocks
-pub story : (card : List ℕ) (r : CardRun) (room : ℕ) (calls : List BlockCall) (last : List ℕ) → is_accepted (judge card) ≡ true → run_in r ≡ first_run card
+-- ALL THE BYTES THAT A RUN'S CALLS HAND OUT, behind what stands in front of the first row, ARE `run_program`'S, over any cutting of the input into
+-- blocks. (Calls on a refused card's net take nothing, and what they hand out is empty.)
+pub story : (card first : List ℕ) (r : CardRun) (room : ℕ) (calls : List BlockCall) (last : List ℕ) → first ≡ first_text (judge card) → run_in r ≡ first_run card
     → Follow (flat_judged (judge card)) room r calls → last ≡ last_line (file_call (flat_judged (judge card))) (run_in (behind r calls))
     → Fitting room (map (λ k. k.block) calls)
-    → handed_out calls ++ last ≡ run_program card (List.flatten (map (λ k. k.block) calls))
+    → first ++ (handed_out calls ++ last) ≡ run_program card (List.flatten (map (λ k. k.block) calls))
 unfolding run_from
-story card r room calls last a same h e fit =
-    calls_text (flat_judged (judge card)) room r calls last h e
-    ∙ ap (λ (w : List ℕ). w ++ over_blocks (row_size_in (flat_judged (judge card))) (file_call (flat_judged (judge card))) room (run_in r) (map (λ k. k.block) calls)) (sym (nothing (judge card) a))
+story card first r room calls last begins same h e fit =
+    ap₂ (λ (u v : List ℕ). u ++ v) begins (calls_text (flat_judged (judge card)) room r calls last h e)
     ∙ any_cutting room card (run_in r) (map (λ k. k.block) calls) same fit
-  where
-    nothing : (j : Judgement) → is_accepted j ≡ true → first_text j ≡ []
-    nothing (accepted c) e = refl
-    nothing (refused n at) e = absurd (clash e)
+
+-- nothing stands in front of an accepted card's rows
+pub no_first_text : (j : Judgement) → is_accepted j ≡ true → [] ≡ first_text j
+no_first_text (accepted c) e = refl
+no_first_text (refused n at) e = absurd (clash e)
 
 -- of a refused card its line is, whatever the rows
 pub story_refused : (card text : List ℕ) → is_accepted (judge card) ≡ false → text ≡ first_text (judge card) → (rows : List ℕ) → text ≡ run_program card rows

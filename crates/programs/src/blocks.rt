@@ -1,12 +1,16 @@
 // A run as its input comes in: the card, then block after block of rows, then the end.
 ghost use Rattle.std.specs.Prelude.{◌≡◌, ◌+◌, ◌*◌, ◌≤◌, ◌<◌, [], length, IfOk, IfErr};
+ghost use Rattle.hierarchy.specs.Judgement.{Judgement};
+ghost use Rattle.runners.specs.Nets.{IsNet};
+ghost use Rattle.programs.specs.Feeds.{file_call};
 ghost use Rattle.programs.specs.Lines.{longest};
-ghost use Rattle.programs.specs.Runs.{answered, feed, last_line, fed_block, run_in, size_in, call_in, IsBegun, IsTurnedBack, IsTurn};
+ghost use Rattle.programs.specs.Runs.{answered, feed, last_line, fed_block, row_size_in, run_in, size_in, call_in, IsBegun, IsTurnedBack, IsTurn};
 
-use crate::feed::file_row;
+use crate::feed::{file_row, net_file_row};
 use crate::file::row_bytes;
 use crate::line::{LONGEST, Line, reply_line, turned_back_line};
 use card::text::Text;
+use hierarchy::CardRefusal;
 use runners::State;
 use runners::flat_runner::flat_net;
 use runners::fresh::fresh;
@@ -38,8 +42,11 @@ pub fn begin(card: &[u8]) -> Result<CardRun, Line>
     ensures turned_back { IfErr result (IsTurnedBack card.now) }
 {
     let first = fresh(card).map_err(turned_back_line)?;
-    let net = flat_net(card).map_err(turned_back_line)?;
-    Ok(CardRun::on(net, first.state))
+    // No `map_err`, which would keep one more net in this frame.
+    match flat_net(card) {
+        Ok(net) => Ok(CardRun::on(net, first.state)),
+        Err(why) => Err(turned_back_line(why)),
+    }
 }
 
 impl CardRun {
@@ -134,4 +141,36 @@ impl CardRun {
         let answer = file_row(&self.net, self.state, self.left.as_slice());
         reply_line(self.number, answer.reply, &answer.state)
     }
+}
+
+// A block on what a card was loaded to; of a refused card nothing is taken. Two wrong ones that this rules out: one that takes its rows on the net
+// that the run has, and one that takes nothing of an accepted card either.
+pub fn net_answer_block(
+    net: &Result<Net, CardRefusal>,
+    run: &mut CardRun,
+    block: &[u8],
+    out: &mut [u8],
+) -> usize
+    ensures turn { (j : Judgement) → IsNet j net.now → IsTurn (fed_block (row_size_in j) (file_call j) (length out.old) (run_in run.old) block.now) out.old result run.new out.new }
+    ensures out_len_unchanged { length out.new ≡ length out.old }
+{
+    match net {
+        Ok(net) => {
+            *run = run.over(*net);
+            run.answer_block(block, out)
+        }
+        Err(_refusal) => 0,
+    }
+}
+
+// The end of the input on what a card was loaded to; of a refused card a short last row gets its refusal. Two wrong ones that this rules out: one that
+// answers it on the net that the run has, and one that prints a line where no byte is left.
+pub fn net_last_line(net: &Result<Net, CardRefusal>, run: &CardRun) -> Line
+    ensures { (j : Judgement) → IsNet j net.now → result ≡ last_line (file_call j) (run_in run.now) }
+{
+    if run.left.is_empty() {
+        return Line::new();
+    }
+    let answer = net_file_row(net, run.state, run.left.as_slice());
+    reply_line(run.number, answer.reply, &answer.state)
 }
