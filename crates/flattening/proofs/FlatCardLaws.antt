@@ -19,7 +19,7 @@ use Rattle.hierarchy.specs.Judgement.{Judgement, accepted, refused, judge, answe
 use Rattle.hierarchy.specs.declared.CardRefusal.{CardRefusal}
 use Rattle.std.specs.Prelude.{Result, Ok, Err, IfOk, IsOkAnd}
 use Rattle.card.specs.declared.index.CardIndex.{CardIndex}
-use Rattle.hierarchy.proofs.Accepted.{accepted_meets, accepted_read}
+use Rattle.hierarchy.proofs.Accepted.{accepted_meets, accepted_read, checked_accepted}
 use Rattle.hierarchy.specs.Conditions.{Meets}
 use Rattle.flattening.specs.Flattening.{flatten}
 use Rattle.flattening.specs.FlatCards.{flat_table, flat_counts, flat_starts, IsFlatTable, IsFlatCard, IsFlattened, flat_room, IsLentFlat, IsCheckedFlatCard}
@@ -133,6 +133,20 @@ flat_loaded bytes r size n numbers flat h t f same c e = go r (h.answer ∙ ap o
 pub checked_flat_loaded : (bytes : List ℕ) (r : CheckedFlatCard) (size n : ℕ) (numbers flat : List ℕ) → IsCheckedFlatCard bytes r → IsTable (read_card bytes) size numbers → IsFlatTable (judge bytes) n flat → size ≡ n
     → (c : Card) → judge bytes ≡ accepted c → Loaded (flatten c) flat r.flat_starts
 checked_flat_loaded bytes r size n numbers flat h t f same c e = flat_rows bytes size n numbers flat r.flat_starts t f same c e (h.flat ∙ ap flat_starts e)
+
+-- `flat_checked`: WHAT WAS ACCEPTED AND FLATTENED ARE TWO VIEWS, in whatever tables have the numbers of both cards
+pub flat_checked : (bytes : List ℕ) (k : FlatCard) (size n : ℕ) (numbers flat : List ℕ) → IsFlatCard bytes (Ok k) → IsTable (read_card bytes) size numbers → IsFlatTable (judge bytes) n flat → size ≡ n
+    → IsFlattened bytes numbers flat k
+flat_checked bytes k size n numbers flat h t f same =
+    let a = checked_accepted bytes k.card size numbers (record { answer = h.answer; starts = h.starts }) t in
+    let c = card_in numbers in
+    let m = accepted_meets bytes c a.judged in
+    let w = (flat_meets c m).wellformed in
+    let room : length (numbers_of (flatten c)) ≤ n = omega (arith, accepted_fits bytes size numbers t c a.judged, flat_few c m, same) in
+    let is : flat ≡ numbers_table n (flatten c) = f ∙ ap (flat_table n) a.judged in
+    let s : k.flat.starts ≡ starts_of (flatten c) = h.flat c a.judged in
+    let v : card_in flat ≡ flatten c = ap card_in is ∙ card_in_table n (flatten c) w room in
+    record { judged = a.judged; holds = a.holds; flattened = v; flat_holds = rw v (rw (is, s) (table_holds n (flatten c) k.flat.counts w room (h.flat_counts c a.judged))) }
 
 -- WHERE THE ROWS OF BOTH CARDS BEGIN IS TOLD WHATEVER THE ANSWER IS
 module _ (bytes : List ℕ) (r : Result FlatCard CardRefusal) (h : IsFlatCard bytes r) where

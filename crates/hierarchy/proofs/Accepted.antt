@@ -5,19 +5,21 @@ use mathlib.Core.List.{List}
 use mathlib.Core.Option.{Option, none, some}
 use mathlib.Core.Logic.{◌↔◌}
 use native.Mathlib.Omega.{arith}
-use lib.ListN.{get_or}
+use lib.ListN.{length, get_or}
 use Rattle.card.specs.Card.{Card}
 use Rattle.card.specs.Index.{Loaded, starts_of}
 use Rattle.std.specs.Prelude.{Result, Ok, Err, IfOk, IsOkAnd}
 use Rattle.card.specs.Parsing.{Parsing, read_card}
-use Rattle.card.specs.Tables.{IsTable}
+use Rattle.card.specs.Tables.{numbers_table, table_of, IsTable}
+use Rattle.card.specs.View.{card_in, IsCounted}
 use Rattle.card.specs.Writing.{encode, read_tables}
 use Rattle.card.proofs.Ranges.{read_wellformed}
 use Rattle.card.proofs.ReadLaws.{read_loaded}
+use Rattle.card.proofs.ViewLaws.{card_in_table, table_holds}
 use Rattle.card.proofs.RoundTrip.{read_write, write_read, wellformed_reads, wellformed_tables}
 use Rattle.hierarchy.specs.Conditions.{Meets}
 use Rattle.hierarchy.specs.Check.{Found, check}
-use Rattle.hierarchy.specs.Judgement.{Judgement, accepted, refused, checked, judged, judge, judge_tables, outcome_of, counts_of, starts_read, IsChecked, IsCheckedCard}
+use Rattle.hierarchy.specs.Judgement.{Judgement, accepted, refused, checked, judged, judge, judge_tables, outcome_of, counts_of, starts_read, IsChecked, IsAccepted, IsCheckedCard}
 use Rattle.hierarchy.specs.Numbers.{check_outcome}
 use Rattle.hierarchy.specs.declared.CardRefusal.{CardRefusal}
 use Rattle.hierarchy.specs.declared.check.CheckedCard.{CheckedCard}
@@ -127,3 +129,24 @@ pub checked_loaded : (bytes : List ℕ) (r : CheckedCard) (size : ℕ) (numbers 
     → CheckedRows (judge bytes) r numbers
 checked_loaded bytes r size numbers h t =
     record { answer = h.answer; loaded = λ c e. accepted_read bytes c e (λ end p. read_loaded bytes c end size numbers r.starts p (h.starts ∙ ap starts_read p) t) }
+
+-- `checked_accepted`: WHAT THE CHECK ACCEPTED IS A VIEW, in whatever table has the numbers that were read
+pub checked_accepted : (bytes : List ℕ) (k : CardIndex) (size : ℕ) (numbers : List ℕ) → IsChecked bytes (Ok k) → IsTable (read_card bytes) size numbers → IsAccepted bytes numbers k
+checked_accepted bytes k size numbers h t = go (judge bytes) refl h.answer
+  where
+    view : (c : Card) (end : ℕ) → judge bytes ≡ accepted c → IsCounted c k.counts → read_card bytes ≡ Parsing.whole c end → IsAccepted bytes numbers k
+    view c end p n r =
+        let w = (accepted_meets bytes c p).wellformed in
+        let few = t.fits c end r in
+        let is : numbers ≡ numbers_table size c = t.is ∙ ap (table_of size) r in
+        let s : k.starts ≡ starts_of c = h.starts c p in
+        let v : card_in numbers ≡ c = ap card_in is ∙ card_in_table size c w few in
+        record { judged = p ∙ ap accepted (sym v); holds = rw v (rw (is, s) (table_holds size c k.counts w few n)) }
+
+    go : (j : Judgement) → judge bytes ≡ j → check_outcome (Ok k.counts) ≡ outcome_of j → IsAccepted bytes numbers k
+    go (refused n at) p q = absurd (let z : ◌≡◌ {A = ℕ} 0 1 = cc in omega arith)
+    go (accepted c) p q =
+        let es : k.counts.subnets ≡ length c.subnets = cc in
+        let ep : k.counts.places ≡ length c.places = cc in
+        let et : k.counts.transitions ≡ length c.transitions = cc in
+        accepted_read bytes c p (λ end r. view c end p (record { subnets = es; places = ep; transitions = et }) r)

@@ -5,15 +5,11 @@ use mathlib.Core.Bool.{Bool, true, false, ◌&&◌}
 use mathlib.Core.List.{List, [], ◌∷◌, ◌++◌, map}
 use mathlib.Core.Option.{Option, none, some, some-ne-none}
 use native.Mathlib.Omega.{arith}
-use denote.Param.Members.{Mut}
 use lib.ListN.{length, get_or, set, take, drop}
-use lib.Seq.{ext_get_or}
 use lib.Dec.{eqb}
 use borrow.Author.Tests.{eqb-true}
 use Rattle.std.specs.Prelude.{Result, Ok, Err}
-use Rattle.std.specs.Array.{IsMapOf}
-use Rattle.std.specs.Fn.{Called}
-use Rattle.std.proofs.lemmas.List.{take-map, get_or-map, length-map}
+use Rattle.std.proofs.lemmas.List.{length-map}
 use Rattle.std.proofs.lemmas.Bool.{and_parts}
 use Rattle.card.specs.Finite.{some_unless, ◌otherwise◌}
 use Rattle.card.specs.Card.{Card}
@@ -27,7 +23,7 @@ use Rattle.runners.specs.Numbers.{RowOutcome, refusal}
 use Rattle.runners.specs.State.{NetState, fresh}
 use Rattle.runners.specs.Rows.{settle, Act, act_of}
 use Rattle.runners.specs.Calls.{view, store, blank, fresh_of, fresh_call, consistent, valid_in, in_state, valid, Given, lent_call, call_on, flat_call, subnet_call}
-use Rattle.runners.specs.Columns.{code_of, transfer_of}
+use Rattle.runners.specs.Columns.{transfer_of}
 use Rattle.runners.specs.inner.Counts.{Counts}
 use Rattle.runners.specs.declared.Transfer.{Transfer}
 use Rattle.runners.specs.declared.State.{State as Own}

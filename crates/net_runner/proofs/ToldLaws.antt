@@ -4,14 +4,15 @@ use mathlib.Core.Path.{◌≡◌, refl, sym, ap, ◌∙◌}
 use mathlib.Core.List.{List, [], ◌∷◌}
 use native.Mathlib.Omega.{arith}
 use lib.ListN.{length, get_or}
-use Rattle.std.specs.Prelude.{Result, Ok}
+use Rattle.std.specs.Prelude.{Result, Ok, Err, IsOkAnd}
 use Rattle.std.proofs.lemmas.List.{length-map}
 use Rattle.card.specs.Card.{Card}
+use Rattle.card.specs.Index.{Loaded}
 use Rattle.card.specs.Parsing.{read_card}
 use Rattle.card.specs.Tables.{IsTable}
 use Rattle.hierarchy.specs.Conditions.{Meets}
-use Rattle.hierarchy.specs.Numbers.{check_outcome, number}
-use Rattle.hierarchy.specs.Judgement.{Judgement, accepted, refused, judge, outcome_of, IsChecked}
+use Rattle.hierarchy.specs.Numbers.{check_outcome}
+use Rattle.hierarchy.specs.Judgement.{Judgement, accepted, refused, judge, outcome_of, counts_of, IsChecked}
 use Rattle.hierarchy.specs.declared.CardRefusal.{CardRefusal}
 use Rattle.card.specs.declared.index.CardIndex.{CardIndex}
 use Rattle.hierarchy.proofs.Accepted.{accepted_meets, accepted_loaded}
@@ -20,6 +21,7 @@ use Rattle.runners.specs.Numbers.{RowOutcome, number_of}
 use Rattle.runners.specs.Calls.{fresh_lent, fresh_of, fresh_call}
 use Rattle.runners.specs.Answers.{IsFresh, IsAccepting}
 use Rattle.runners.specs.declared.State.{State as Own}
+use Rattle.runners.proofs.CallLaws.{outcome_refused}
 use Rattle.net_runner.specs.Told.{row_told, counts_told}
 use Rattle.net_runner.specs.Slices.{Slices, fresh_in, fresh_on}
 use Rattle.net_runner.specs.Copies.{IsCounted}
@@ -32,19 +34,27 @@ code_number (RowOutcome.refused n v) = refl
 pub counts_accepted : (card : List ℕ) (r : Result (List ℕ) CardRefusal) → IsCounted (judge card) r → (k counts : List ℕ) → r ≡ Ok k → k ≡ counts_told (judge card) counts
 counts_accepted card r h k counts e = let x = rw e at h in x.2 ∙ sym (ap (λ (j : Judgement). counts_told j counts) x.1)
 
--- and those of the check, with the number of signals out of the table that it left
-module _ (card : List ℕ) (size g : ℕ) (numbers : List ℕ) (t : IsTable (read_card card) size numbers) (e : g ≡ get_or numbers 2 0) where
-  pub is_counted : (k : CardIndex) → IsChecked card (Ok k) → IsCounted (judge card) (Ok (k.counts.subnets ∷ k.counts.places ∷ k.counts.transitions ∷ g ∷ []))
-  is_counted k h = go (judge card) refl h.answer
-    where
-      go : (j : Judgement) → judge card ≡ j → check_outcome (Ok k.counts) ≡ outcome_of j → IsCounted j (Ok (k.counts.subnets ∷ k.counts.places ∷ k.counts.transitions ∷ g ∷ []))
-      go (refused n b) i w = absurd (let z : ◌≡◌ {A = ℕ} 0 1 = cc in omega arith)
-      go (accepted c) i w =
-          let es : k.counts.subnets ≡ length c.subnets = cc in
-          let ep : k.counts.places ≡ length c.places = cc in
-          let et : k.counts.transitions ≡ length c.transitions = cc in
-          let eg : g ≡ c.signals = e ∙ ((accepted_loaded card (Ok k) size numbers h t).loaded c i).laid.signals in
-          (c, refl, rw (es, ep, et, eg) refl)
+-- the check's counts with the number of signals
+abbrev pub with_signals : (signals : ℕ) → Result CardIndex CardRefusal → Result (List ℕ) CardRefusal
+with_signals g (Ok k) = Ok (k.counts.subnets ∷ k.counts.places ∷ k.counts.transitions ∷ g ∷ [])
+with_signals g (Err e) = Err e
+
+-- are those that a caller is told, with the number out of the table that it left
+pub is_counted : (card : List ℕ) (r : Result CardIndex CardRefusal) (size g : ℕ) (numbers : List ℕ) → IsChecked card r → IsTable (read_card card) size numbers → g ≡ get_or numbers 2 0
+    → IsCounted (judge card) (with_signals g r)
+is_counted card r size g numbers h t e = go (judge card) refl r h.answer (λ c i. (accepted_loaded card r size numbers h t).loaded c i)
+  where
+    go : (j : Judgement) → judge card ≡ j → (y : Result CardIndex CardRefusal) → check_outcome (counts_of y) ≡ outcome_of j
+        → ((c : Card) → judge card ≡ accepted c → IsOkAnd y (λ k. Loaded c numbers k.starts)) → IsCounted j (with_signals g y)
+    go (refused n b) i (Ok k) w l = absurd (let z : ◌≡◌ {A = ℕ} 0 1 = cc in omega arith)
+    go (refused n b) i (Err x) w l = outcome_refused (refused n b) x w
+    go (accepted c) i (Err x) w l = absurd (let z : ◌≡◌ {A = ℕ} 0 1 = cc in omega arith)
+    go (accepted c) i (Ok k) w l =
+        let es : k.counts.subnets ≡ length c.subnets = cc in
+        let ep : k.counts.places ≡ length c.places = cc in
+        let et : k.counts.transitions ≡ length c.transitions = cc in
+        let eg : g ≡ c.signals = e ∙ (l c i).laid.signals in
+        (c, refl, rw (es, ep, et, eg) refl)
 
 -- the fresh state of an accepted card
 pub record FreshNet (card : List ℕ) (l : Own) : Type 0 where

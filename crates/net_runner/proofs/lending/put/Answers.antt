@@ -1,4 +1,4 @@
-use Rattle.std.proofs.Common.{rules, arith}
+use Rattle.std.proofs.Common.{arith}
 use Rattle.net_runner.proofs.SliceLaws.{copied_more}
 use Rattle.net_runner.proofs.lending.put.Goals as goal
 
