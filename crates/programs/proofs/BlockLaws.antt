@@ -28,7 +28,7 @@ use Rattle.programs.specs.Text.{line}
 use Rattle.programs.specs.Programs.{reply_words, card_line, runs, run_program}
 use Rattle.programs.specs.Feeds.{file_call}
 use Rattle.programs.specs.Lines.{longest}
-use Rattle.programs.specs.Runs.{Run, FileCall, following, answered, keeping, feed, fed_block, last_line, row_size_in, first_text, is_accepted, run_in, size_in, call_in, IsTurn, IsTurnedBack}
+use Rattle.programs.specs.Runs.{Run, FileCall, following, answered, keeping, feed, fed_block, last_line, row_size_in, first_text, is_accepted, run_in, size_in, call_in, IsTaken, IsTurn, IsTurnedBack}
 use Rattle.programs.specs.declared.blocks.CardRun.{CardRun}
 use Rattle.programs.proofs.RunLaws.{feed_append, feed_kept, feed_row, block_tight, block_over}
 
@@ -108,10 +108,10 @@ module _ (size : ℕ) (call : FileCall) (first : Run) (before : List ℕ) where
       }
 
 -- the tests in front of a block
-turn_none : (x : List ℕ × Run) (r : CardRun) (out : List ℕ) → x ≡ ([], run_in r) → IsTurn x out 0 r out
+turn_none : (x : List ℕ × Run) (r : Run) (out : List ℕ) → x ≡ ([], r) → IsTaken x out 0 r out
 unfolding put_into
 turn_none x r out e =
-    subst (λ (z : List ℕ × Run). IsTurn z out 0 r out) (sym e)
+    subst (λ (z : List ℕ × Run). IsTaken z out 0 r out) (sym e)
     (record { fits = omega arith; length = refl; lines = sym (rw (le-leb 0 (length out) (omega arith)) refl); run = refl })
 
 module _ (r : CardRun) (block out : List ℕ) (n size : ℕ) (e : n ≡ r.net.signals) (i : size ≡ bytes_for (10 * n)) where
@@ -122,21 +122,22 @@ module _ (r : CardRun) (block out : List ℕ) (n size : ℕ) (e : n ≡ r.net.si
   same_size = i ∙ ap (λ (k : ℕ). bytes_for (10 * k)) e
 
   pub turn_tight : length out / longest < length block → IsTurn fed out 0 r out
-  turn_tight l = turn_none fed r out (block_tight (size_in r) (call_in r) (length out) (run_in r) block (omega (arith, l)))
+  turn_tight l = turn_none fed (run_in r) out (block_tight (size_in r) (call_in r) (length out) (run_in r) block (omega (arith, l)))
 
   pub turn_over : size ≤ length r.left → IsTurn fed out 0 r out
-  turn_over l = turn_none fed r out (block_over (size_in r) (call_in r) (length out) (run_in r) block (omega (arith, sym same_size, l)))
+  turn_over l = turn_none fed (run_in r) out (block_over (size_in r) (call_in r) (length out) (run_in r) block (omega (arith, sym same_size, l)))
 
 -- a block on what a card was loaded to: on an accepted card's net it is the run's on that net, and of a refused one nothing is taken
-pub turn_on : (j : Judgement) (c : Card) (k : CardRun) (r : Run) (block before : List ℕ) (n : ℕ) (q : CardRun) (after : List ℕ) → j ≡ accepted c → k.net ≡ c → run_in k ≡ r
+pub turn_on : (j : Judgement) (c : Card) (k : CardRun) (r : Run) (block before : List ℕ) (n : ℕ) (q : CardRun) (s : Run) (after : List ℕ) → j ≡ accepted c → k.net ≡ c → run_in k ≡ r → s ≡ run_in q
     → IsTurn (fed_block (size_in k) (call_in k) (length before) (run_in k) block) before n q after
-    → IsTurn (fed_block (row_size_in j) (file_call j) (length before) r block) before n q after
-turn_on j c k r block before n q after e i s t =
-    subst (λ (z : Run). IsTurn (fed_block (row_size_in j) (file_call j) (length before) z block) before n q after) s
-    (subst (λ (z : Judgement). IsTurn (fed_block (row_size_in z) (file_call z) (length before) (run_in k) block) before n q after) (sym (e ∙ ap accepted (sym i))) t)
+    → IsTaken (fed_block (row_size_in j) (file_call j) (length before) r block) before n s after
+turn_on j c k r block before n q s after e i u v t =
+    subst (λ (z : Run). IsTaken (fed_block (row_size_in j) (file_call j) (length before) r block) before n z after) (sym v)
+    (subst (λ (z : Run). IsTaken (fed_block (row_size_in j) (file_call j) (length before) z block) before n (run_in q) after) u
+    (subst (λ (z : Judgement). IsTaken (fed_block (row_size_in z) (file_call z) (length before) (run_in k) block) before n (run_in q) after) (sym (e ∙ ap accepted (sym i))) t))
 
-pub turn_refused : (j : Judgement) (n at : ℕ) (r : CardRun) (block out : List ℕ) → j ≡ refused n at → IsTurn (fed_block (row_size_in j) (file_call j) (length out) (run_in r) block) out 0 r out
-turn_refused j n at r block out e = turn_none _ r out (block_over (row_size_in j) (file_call j) (length out) (run_in r) block (omega (arith, ap row_size_in e)))
+pub turn_refused : (j : Judgement) (n at : ℕ) (r : Run) (block out : List ℕ) → j ≡ refused n at → IsTaken (fed_block (row_size_in j) (file_call j) (length out) r block) out 0 r out
+turn_refused j n at r block out e = turn_none _ r out (block_over (row_size_in j) (file_call j) (length out) r block (omega (arith, ap row_size_in e)))
 
 -- the end of the input
 pub last_none : (call : FileCall) (r : Run) (text : List ℕ) → r.left ≡ [] → text ≡ [] → text ≡ last_line call r

@@ -17,6 +17,7 @@ use Rattle.programs.specs.Programs.{reply_words, card_line, run_program}
 use Rattle.programs.specs.Feeds.{file_call}
 use Rattle.programs.specs.Lines.{longest}
 use Rattle.programs.specs.declared.blocks.CardRun.{CardRun}
+use Rattle.programs.specs.declared.blocks.Progress.{Progress}
 
 -- A run somewhere in its input: the number of the next row, the state in front of it, and those of its bytes that are there.
 pub record Run : Type 0 where
@@ -98,6 +99,10 @@ pub record Fitting (room : ℕ) (blocks : List (List ℕ)) : Type 0 where
 abbrev pub run_in : CardRun → Run
 run_in r = record { number = r.number; state = r.state; left = r.left }
 
+-- and without its net
+abbrev pub progress_in : Progress → Run
+progress_in p = record { number = p.number; state = p.state; left = p.left }
+
 -- the rows of the card that it runs: how many bytes each has, and how they are answered
 abbrev pub size_in : CardRun → ℕ
 size_in r = row_size_in (accepted r.net)
@@ -109,12 +114,15 @@ abbrev pub is_accepted : Judgement → Bool
 is_accepted (accepted c) = true
 is_accepted (refused n at) = false
 
--- what the code hands out for a block: the lines stand at the buffer's front, and what stood behind them still does
-pub record IsTurn (x : List ℕ × Run) (before : List ℕ) (n : ℕ) (r : CardRun) (after : List ℕ) : Type 0 where
+-- what the code hands out for a block, and where it leaves the run: the lines stand at the buffer's front, and what stood behind them still does
+pub record IsTaken (x : List ℕ × Run) (before : List ℕ) (n : ℕ) (r : Run) (after : List ℕ) : Type 0 where
   pub fits : length x.0 ≤ length before
   pub length : n ≡ length x.0
   pub lines : after ≡ put_into x.0 before
-  pub run : run_in r ≡ x.1
+  pub run : r ≡ x.1
+
+abbrev pub IsTurn : List ℕ × Run → (before : List ℕ) → (n : ℕ) → CardRun → (after : List ℕ) → Type 0
+IsTurn x before n r after = IsTaken x before n (run_in r) after
 
 -- A call of `answer_block`: the block, the lent buffer before and after it, how many bytes it answered, and the run that it left.
 pub record BlockCall : Type 0 where

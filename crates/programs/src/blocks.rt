@@ -4,7 +4,7 @@ ghost use Rattle.hierarchy.specs.Judgement.{Judgement};
 ghost use Rattle.runners.specs.Nets.{IsNet};
 ghost use Rattle.programs.specs.Feeds.{file_call};
 ghost use Rattle.programs.specs.Lines.{longest};
-ghost use Rattle.programs.specs.Runs.{answered, feed, last_line, fed_block, row_size_in, run_in, size_in, call_in, IsBegun, IsTurnedBack, IsTurn};
+ghost use Rattle.programs.specs.Runs.{answered, feed, last_line, fed_block, row_size_in, run_in, progress_in, size_in, call_in, IsBegun, IsTurnedBack, IsTaken, IsTurn};
 
 use crate::feed::{file_row, net_file_row};
 use crate::file::row_bytes;
@@ -19,6 +19,9 @@ use runners::nets::Net;
 // The most bytes that a row has.
 const ROW_BYTES: usize = 79;
 
+// Rows are counted from here.
+const FIRST_ROW: u64 = 1;
+
 // How many bytes the program run reads at most at once, and the room that their lines may take: the longest line for each.
 pub const BLOCK_BYTES: usize = 64;
 
@@ -32,6 +35,30 @@ pub struct CardRun {
     number: u64,
     state: State,
     left: Text<ROW_BYTES>,
+}
+
+// A run without its net, for what any card was loaded to: the number of the next row, the state in front of it, and those of its bytes that are
+// there.
+#[derive(Clone, Copy)]
+pub struct Progress {
+    number: u64,
+    state: State,
+    left: Text<ROW_BYTES>,
+}
+
+impl Progress {
+    // In front of the first row, from any state. Two wrong ones that this rules out: one that begins with row 0, and one that begins with a byte of a
+    // row.
+    pub fn new(state: State) -> Progress
+        ensures { progress_in result ≡ record { number = 1; state = state; left = [] } }
+    {
+        let left = Text::new();
+        Progress {
+            number: FIRST_ROW,
+            state,
+            left,
+        }
+    }
 }
 
 // A run in front of its first row, or of a refused card the one line that is written. Two wrong ones that this rules out: one that counts rows
@@ -58,9 +85,33 @@ impl CardRun {
     {
         CardRun {
             net,
-            number: 1,
+            number: FIRST_ROW,
             state,
             left: Text::new(),
+        }
+    }
+
+    // A run that goes on on this net. Two wrong ones that this rules out: one that begins again, and one that loses the bytes of a row that are there.
+    pub fn resumed(net: Net, progress: Progress) -> CardRun
+        ensures net { result.net ≡ net }
+        ensures run { run_in result ≡ progress_in progress }
+    {
+        CardRun {
+            net,
+            number: progress.number,
+            state: progress.state,
+            left: progress.left,
+        }
+    }
+
+    // Where the run stands. Two wrong ones that this rules out: one that counts the next row already, and one that loses the bytes that are there.
+    pub fn progress(&self) -> Progress
+        ensures { progress_in result ≡ run_in self.now }
+    {
+        Progress {
+            number: self.number,
+            state: self.state,
+            left: self.left,
         }
     }
 
@@ -143,34 +194,36 @@ impl CardRun {
     }
 }
 
-// A block on what a card was loaded to; of a refused card nothing is taken. Two wrong ones that this rules out: one that takes its rows on the net
-// that the run has, and one that takes nothing of an accepted card either.
+// A block on what a card was loaded to; of a refused card nothing is taken. Two wrong ones that this rules out: one that tells lines of a refused card,
+// and one that leaves the run in front of the block.
 pub fn net_answer_block(
     net: &Result<Net, CardRefusal>,
-    run: &mut CardRun,
+    progress: &mut Progress,
     block: &[u8],
     out: &mut [u8],
 ) -> usize
-    ensures turn { (j : Judgement) → IsNet j net.now → IsTurn (fed_block (row_size_in j) (file_call j) (length out.old) (run_in run.old) block.now) out.old result run.new out.new }
+    ensures turn { (j : Judgement) → IsNet j net.now → IsTaken (fed_block (row_size_in j) (file_call j) (length out.old) (progress_in progress.old) block.now) out.old result (progress_in progress.new) out.new }
     ensures out_len_unchanged { length out.new ≡ length out.old }
 {
     match net {
         Ok(net) => {
-            *run = run.over(*net);
-            run.answer_block(block, out)
+            let mut run = CardRun::resumed(*net, *progress);
+            let length = run.answer_block(block, out);
+            *progress = run.progress();
+            length
         }
         Err(_refusal) => 0,
     }
 }
 
 // The end of the input on what a card was loaded to; of a refused card a short last row gets its refusal. Two wrong ones that this rules out: one that
-// answers it on the net that the run has, and one that prints a line where no byte is left.
-pub fn net_last_line(net: &Result<Net, CardRefusal>, run: &CardRun) -> Line
-    ensures { (j : Judgement) → IsNet j net.now → result ≡ last_line (file_call j) (run_in run.now) }
+// takes the last row of a refused card, and one that prints a line where no byte is left.
+pub fn net_last_line(net: &Result<Net, CardRefusal>, progress: &Progress) -> Line
+    ensures { (j : Judgement) → IsNet j net.now → result ≡ last_line (file_call j) (progress_in progress.now) }
 {
-    if run.left.is_empty() {
+    if progress.left.is_empty() {
         return Line::new();
     }
-    let answer = net_file_row(net, run.state, run.left.as_slice());
-    reply_line(run.number, answer.reply, &answer.state)
+    let answer = net_file_row(net, progress.state, progress.left.as_slice());
+    reply_line(progress.number, answer.reply, &answer.state)
 }
