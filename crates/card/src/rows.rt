@@ -180,7 +180,7 @@ impl Rows<'_> {
 
     // The numbers of tables in the order of the card, as many as a card can have. Two wrong ones that this rules out: one that writes the limit for
     // the signals, and one that leaves the header out.
-    pub(crate) fn gather(&self, h: Head) -> [u16; TABLE]
+    pub fn gather(&self, h: Head) -> [u16; TABLE]
         requires tables_inside { on_rows TablesInside self.now }
         requires few_subnets { length self.now.subnets.now / subnet_fields < 65536 }
         ensures { Gathered (on_rows (in_order h) self.now) result }

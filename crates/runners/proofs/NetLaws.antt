@@ -8,10 +8,11 @@ use Rattle.std.proofs.lemmas.Bool.{cases_lt}
 use Rattle.std.proofs.lemmas.List.{nil_from_length}
 use Rattle.card.specs.Finite.{some_unless, ◌otherwise◌}
 use Rattle.card.specs.Card.{Card}
-use Rattle.card.specs.Index.{Loaded, starts_of}
+use Rattle.card.specs.Index.{Indexed, Loaded, starts_of}
 use Rattle.card.specs.Parsing.{read_card}
 use Rattle.card.specs.Tables.{IsTable}
-use Rattle.card.specs.View.{card_in}
+use Rattle.card.specs.View.{card_in, IsCounted, Holds}
+use Rattle.card.proofs.IndexLaws.{starts_indexed}
 use Rattle.hierarchy.specs.Conditions.{Meets}
 use Rattle.hierarchy.specs.Numbers.{check_outcome}
 use Rattle.hierarchy.specs.Judgement.{Judgement, accepted, refused, judge, outcome_of, IsChecked, IsAccepted}
@@ -132,6 +133,17 @@ loaded_meets bytes numbers k h = accepted_meets bytes (card_in numbers) h.judged
 -- and its index is whole
 pub loaded_starts : (bytes numbers : List ℕ) (r : Result CardIndex CardRefusal) (k : CardIndex) → IsChecked bytes r → r ≡ Ok k → IsAccepted bytes numbers k → k.starts ≡ starts_of (card_in numbers)
 loaded_starts bytes numbers r k h e a = subst (λ (x : Result CardIndex CardRefusal). IfOk x (λ k. k.starts ≡ starts_of (card_in numbers))) e (h.starts (card_in numbers) a.judged)
+
+-- numbers that an index holds a card with hold it with the whole index, too
+pub whole_holds : (c : Card) (numbers : List ℕ) (i k : CardIndex) → Holds c numbers i → k.counts ≡ i.counts → k.starts ≡ starts_of c → Holds c numbers k
+whole_holds c numbers i k h n s =
+    record {
+      wellformed = h.wellformed;
+      fits = h.fits;
+      entries = h.entries;
+      loaded = record { laid = h.loaded.laid; indexed = subst (Indexed c) (sym s) (starts_indexed c h.wellformed) };
+      counts = subst (IsCounted c) (sym n) h.counts;
+    }
 
 -- what a load leaves is the net of what the card was judged to be
 pub net_refused : (j : Judgement) (e : CardRefusal) → check_outcome (Err e) ≡ outcome_of j → IsNet j (Err e)

@@ -63,5 +63,5 @@ pub fn flat_net(card: &[u8]) -> Result<Net, CardRefusal>
     let mut numbers = [0; TABLE];
     let mut flat = [0; TABLE];
     let loaded = load_flat(card, &mut numbers, &mut flat)?;
-    Ok(Net::new(flat, loaded.flat))
+    Ok(Net::whole(flat, loaded.flat))
 }

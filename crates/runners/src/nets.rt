@@ -51,9 +51,20 @@ impl Model for Net {
 }
 
 impl Net {
-    // The net of a card's numbers and their index. Two wrong ones that this rules out: one that holds first tokens for capacities, and one that holds
-    // no numbers.
-    pub(crate) fn new(numbers: [u16; TABLE], index: CardIndex) -> Net
+    // The net of a card's numbers and an index of theirs, which is made again: what it has where the card has no rows is not known. Two wrong ones that
+    // this rules out: one that makes the index of one subnet, and one that holds no numbers.
+    #[tactic(auto, using(crate::proofs::NetLaws::whole_holds))]
+    pub fn new(numbers: [u16; TABLE], index: CardIndex) -> Net
+        requires holds { Holds (card_in numbers) numbers index }
+        requires meets { Meets (card_in numbers) }
+        ensures { result ≡ card_in numbers }
+    {
+        Net::whole(numbers, card::index::index(&numbers, index.counts()))
+    }
+
+    // The net of a card's numbers and their whole index. Two wrong ones that this rules out: one that holds first tokens for capacities, and one that
+    // holds no numbers.
+    pub(crate) fn whole(numbers: [u16; TABLE], index: CardIndex) -> Net
         requires holds { Holds (card_in numbers) numbers index }
         requires meets { Meets (card_in numbers) }
         requires starts { index.starts ≡ starts_of (card_in numbers) }
@@ -122,7 +133,7 @@ pub fn card_net(card: &[u8]) -> Result<Net, CardRefusal>
 {
     let mut numbers = [0; TABLE];
     let index = load(card, &mut numbers)?;
-    Ok(Net::new(numbers, index))
+    Ok(Net::whole(numbers, index))
 }
 
 // The same calls on what `card_net` or `flat_net` answered, a refusal too. How many signals the card has; none, of a refused one. Two wrong ones
